@@ -1,0 +1,55 @@
+-- The float leaves in the words of document 01, over the kit's account of IEEE 754 (`lib.Ieee`), where a float is `nan`, `inf s` or `fin s m e`:
+-- the number m * 2 ^ e, negative where s is true. One definition serves binary32 and binary64. 2 ^ e is the fraction `up e / down e`. Definitions only.
+use Prim.Native.Nat.{ℕ, _+_, _*_, _/_}
+use mathlib.Core.Bool.{Bool, true, false, cond, _&&_}
+use lib.IntN.{pos}
+use lib.Ieee.{Float, nan, inf, fin, binary32, round, up, down, lt, le, isNan, ofBits}
+
+-- neither a NaN nor an infinity
+abbrev pub finite : Float → Bool
+finite nan = false
+finite (inf s) = false
+finite (fin s m e) = true
+
+-- the number without its sign
+abbrev pub magnitude : Float → Float
+magnitude nan = nan
+magnitude (inf s) = inf false
+magnitude (fin s m e) = fin false m e
+
+-- 65,536, which is 1 * 2 ^ 16: the largest magnitude of a sample in range
+abbrev pub largest : Float
+largest = fin false 1 (pos 16)
+
+-- "A sample is in range if finite and of magnitude at most 65,536." A sample is a word of 32 bits, the pattern of an f32.
+unfoldable pub inRange : ℕ → Bool
+unfolding ofBits le
+inRange w = finite (ofBits binary32 w) && le (magnitude (ofBits binary32 w)) largest
+
+-- "narrow to nearest, ties to even": the number is rounded once, to binary32.
+unfoldable pub narrowed : Float → Float
+unfolding round
+narrowed nan = nan
+narrowed (inf s) = inf s
+narrowed (fin s m e) = round binary32 s (m * up e) (down e)
+
+-- "round to whole, halves away from zero": without its sign, a / b becomes the whole part of a / b + 1 / 2. The sign stays, also of a zero.
+unfoldable pub rounded : Float → Float
+unfolding round
+rounded nan = nan
+rounded (inf s) = inf s
+rounded (fin s m e) = round binary32 s ((2 * (m * up e) + down e) / (2 * down e)) 1
+
+-- "larger and smaller of two as in Rust (a NaN loses to a number; of two equals the first is given)"
+unfoldable pub larger : Float → Float → Float
+unfolding lt isNan
+larger a b = cond (isNan a) b (cond (lt a b) b a)
+
+unfoldable pub smaller : Float → Float → Float
+unfolding lt isNan
+smaller a b = cond (isNan a) b (cond (lt b a) b a)
+
+-- "held to lo..hi", Rust's `clamp`: x, or the end that it lies beyond; a NaN stays one
+unfoldable pub held : Float → Float → Float → Float
+unfolding lt
+held lo hi x = cond (lt x lo) lo (cond (lt hi x) hi x)

@@ -1,0 +1,4 @@
+pub mod Floats
+pub mod Root
+pub mod Steps
+pub mod Rows

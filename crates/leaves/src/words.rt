@@ -1,0 +1,61 @@
+// Words and floats: the float that a bit pattern stands for, the pattern of a float, a float at the
+// wider format, and whether a sample is in range.
+ghost use mathlib.Core.Path.{_≡_};
+ghost use lib.Ieee.{binary32, binary64, ofBits, toBits};
+ghost use Rattle.leaves.specs.Floats.{inRange};
+
+// The f32 of any word; every NaN pattern gives the one NaN. Below the sign a NaN's pattern is above
+// that of the infinity, and no other is.
+pub fn f32_of_word(word: u32) -> f32
+    ensures { λ r. ⌜ r ≡ ofBits binary32 word ⌝ }
+{
+    if 0x7f80_0000 < word % 0x8000_0000 {
+        0.0 / 0.0
+    } else {
+        f32::from_bits(word)
+    }
+}
+
+// The word of any f32; a NaN gives 7FC00000. Only a NaN differs from itself.
+pub fn word_of_f32(x: f32) -> u32
+    ensures { λ r. ⌜ r ≡ toBits binary32 x ⌝ }
+{
+    if x != x { 0x7fc0_0000 } else { f32::to_bits(x) }
+}
+
+// The f64 of any pattern, as `f32_of_word`.
+pub fn f64_of_word(word: u64) -> f64
+    ensures { λ r. ⌜ r ≡ ofBits binary64 word ⌝ }
+{
+    if 0x7ff0_0000_0000_0000 < word % 0x8000_0000_0000_0000 {
+        0.0 / 0.0
+    } else {
+        f64::from_bits(word)
+    }
+}
+
+// The pattern of any f64; a NaN gives 7FF8000000000000.
+pub fn word_of_f64(x: f64) -> u64
+    ensures { λ r. ⌜ r ≡ toBits binary64 x ⌝ }
+{
+    if x != x {
+        0x7ff8_0000_0000_0000
+    } else {
+        f64::to_bits(x)
+    }
+}
+
+// x at the wider format, which holds every f32, so that the number is the same; a NaN stays one.
+pub fn widen(x: f32) -> f64
+    ensures { λ r. ⌜ r ≡ x ⌝ }
+{
+    std::num::f32_to_f64_with_nan(x)
+}
+
+// Whether a sample is in range. A NaN and the infinities fail one of the two comparisons.
+pub fn in_range(word: u32) -> bool
+    ensures { λ r. ⌜ r ≡ inRange word ⌝ }
+{
+    let x = f32_of_word(word);
+    if -65536.0 <= x { x <= 65536.0 } else { false }
+}
