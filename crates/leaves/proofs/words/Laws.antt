@@ -1,16 +1,14 @@
 -- Words and floats: which words are a NaN's, what `x != x` tells, the two comparisons of a sample in range, and a word's way to its float and back.
 -- A law over a format serves both widths. Assumes nothing.
-use mathlib.Core.Path.{_≡_, refl, sym, ap, _∙_, subst}
-use mathlib.Core.Bool.{Bool, true, false, not, _&&_, _||_, cond, true≢false, false≢true}
+use mathlib.Core.Path.{_≡_, refl, sym, ap, _∙_}
+use mathlib.Core.Bool.{Bool, true, false, not, _&&_, and-true, false≢true}
 use Prim.Native.Nat.{ℕ, _+_, _*_, _%_, _^_, _<_, _≤_}
 use native.Mathlib.Omega.{arith}
-use native.Mathlib.Nat.{mul-pos}
-use lib.Dec.{T, eqb, ltb, eqb-refl}
-use lib.IntN.{ℤ, pos}
-use lib.Ieee.{Float, nan, inf, fin, Format, binary32, binary64, up, down, level, ones, hid, top, neg, div, lt, eq, le, ne, isNan, fits, nanBits, ofBits, toBits}
-use lib.Ieee.Bits.{is-true, is-false, nanBits-is, nanBits-above, toBits-ofBits, toBits-lt}
+use lib.Dec.{T, eqb}
+use lib.Ieee.{Float, nan, inf, fin, Format, binary32, binary64, up, down, level, ones, hid, top, neg, div, le, ne, isNan, fits, nanBits, ofBits, toBits}
+use lib.Ieee.Bits.{nanBits-is, nanBits-above, toBits-ofBits, toBits-lt}
 use lib.Ieee.Fits.{down-pos}
-use borrow.Author.Tests.{ltb-true, lt-ltb, le-ltb, eqb-true, eqb-false, eq-eqb, ne-eqb}
+use borrow.Author.Tests.{lt-ltb, le-ltb, eqb-true, eqb-false, eq-eqb, ne-eqb}
 use Rattle.leaves.specs.Floats.{finite, magnitude, largest, inRange}
 
 -- ---- NaN
@@ -53,7 +51,7 @@ zero-by-zero binary64 = refl
 pub nan-of-word : (f : Format) (w : ℕ) → ones f * hid f < w % top f → div f (ofBits f 0) (ofBits f 0) ≡ ofBits f w
 nan-of-word f w h = zero-by-zero f ∙ sym (one-nan (ofBits f w) (sym (nanBits-is f w) ∙ nanBits-above f w ∙ lt-ltb _ _ h))
 
--- A word that is not is no NaN's.
+-- A word that is at most the infinity's below its sign is no NaN's.
 pub no-nan-word : (f : Format) (w : ℕ) → w % top f ≤ ones f * hid f → T (not (nanBits f w))
 no-nan-word f w h = rw (nanBits-above, le-ltb _ _ h) tt
 
@@ -66,10 +64,6 @@ eqb-sym a b = go (eqb a b) refl
     go : (t : Bool) → eqb a b ≡ t → t ≡ eqb b a
     go true e = sym (eq-eqb b a (sym (eqb-true a b e)))
     go false e = sym (ne-eqb b a (λ q. eqb-false a b e (sym q)))
-
-and-true : (t : Bool) → t && true ≡ t
-and-true true = refl
-and-true false = refl
 
 -- At least -65,536 and at most 65,536: the code's two tests say that x is finite and that its magnitude is at most 65,536.
 two-tests : (x : Float) → le (neg largest) x && le x largest ≡ finite x && le (magnitude x) largest
@@ -86,10 +80,11 @@ two-tests (fin false m e) =
     let b = 65536 * down e in
     rw (lt-ltb 0 (b + a) (omega (arith, down-pos e)))
 
--- The same of a sample's float: 65,536 is the float of the word 47800000.
-pub sample-tests : (w : ℕ) (x : Float) → x ≡ ofBits binary32 w → le (neg (ofBits binary32 0x4780_0000)) x && le x (ofBits binary32 0x4780_0000) ≡ inRange w
+-- The same of a sample's float, by what the tests found. 65,536 is the float of the word 47800000.
+pub sample-tests : {p q : Bool} (w : ℕ) (x : Float) → x ≡ ofBits binary32 w →
+    le (neg (ofBits binary32 0x4780_0000)) x ≡ p → le x (ofBits binary32 0x4780_0000) ≡ q → p && q ≡ inRange w
 unfolding inRange
-sample-tests w x p = rw p (two-tests (ofBits binary32 w))
+sample-tests w x e p q = rw (← p, ← q, e) (two-tests (ofBits binary32 w))
 
 -- A finite float is no NaN.
 finite-number : (x : Float) (t : Bool) → finite x && t ≡ true → isNan x ≡ false
