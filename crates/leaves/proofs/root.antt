@@ -1,0 +1,2 @@
+-- What the proofs about the square root share.
+pub mod Squares
