@@ -2,11 +2,11 @@
 -- so whatever has it is `root x` (`agree`). For doubles. Assumes nothing.
 use mathlib.Core.Path.{_≡_, refl, sym, ap, _∙_, subst}
 use Prim.Native.Nat.{ℕ, zero, suc, _+_, _*_, _/_, _%_, _^_, _≤_, _<_}
-use native.Mathlib.Nat.{le-of-eq, lt-of-lt-of-le, div-lt-iff-lt-mul, le-trans, le-of-lt, lt-of-le-of-lt, zero-lt-suc, mul-assoc, mul-right-comm, mul-lt-mul-of-pos-right, lt-of-mul-lt-mul-right, mul-div-cancel}
+use native.Mathlib.Nat.{le-of-eq, lt-of-lt-of-le, zero-lt-suc, mul-assoc, mul-right-comm, mul-lt-mul-of-pos-right, mul-div-cancel, div-lt-iff-lt-mul}
 use native.Mathlib.Omega.{arith}
 use mathlib.Core.Bool.{Bool, true, false, _&&_}
 use lib.IntN.{ℤ}
-use lib.Dec.{T, leb, ltb, eqb, leb→le, ltb→lt, lit<}
+use lib.Dec.{T, leb, ltb, eqb, leb→le, ltb→lt}
 use lib.Pow.{pow-add, pow-pos}
 use lib.Ieee.{Float, nan, inf, fin, binary64, up, down, size, round, fits}
 use lib.Ieee.Digits.{size-le}
@@ -15,11 +15,11 @@ use lib.Ieee.Exact.{HasValue}
 use Rattle.leaves.specs.Root.{Nearest, NearestRoot, SquareRoot, nearestRoot, rootOfUnits, root}
 use Rattle.leaves.proofs.Values.{same-value}
 use Rattle.leaves.proofs.root.Squares.{nearest-only, nearest-root-is, nearest-most}
-use Rattle.leaves.proofs.root.Scales.{same-fraction, rescaled, units-of, four-pos, scale-only, round-scaled, Scaled, scaled}
+use Rattle.leaves.proofs.root.Scales.{same-fraction, rescaled, units-of, scale-only, round-scaled, half, Scaled, scaled}
 
 -- ---- the function has the meaning
 
--- what it is for a positive double to fit: m has 53 digits at most, the least double divides it, and it is below 2 ^ 1024
+-- what it takes for m * 2 ^ e to be a double: m has 53 digits at most, the number is a multiple of the least double, and it is below 2 ^ 1024
 record Double (m : ℕ) (e : ℤ) : Type 0 where
   few : m < 2 ^ 53
   fine : down e ≤ 2 ^ 1074
@@ -35,10 +35,10 @@ double-of s m e t =
     record {
       few = ltb→lt (suc m) (2 ^ 53) (and-r a b (and-l (a && b) c (and-l (a && b && c) d t)));
       fine = leb→le (down e) (2 ^ 1074) (and-r (a && b) c (and-l (a && b && c) d t));
-      finite = ltb→lt (suc m * up e) (2 ^ 1024 * down e) (and-r (a && b && c) d t)
+      finite = ltb→lt (suc m * up e) (2 ^ 1024 * down e) (and-r (a && b && c) d t);
     }
 
--- its number of least doubles, a: m with j zeros appended
+-- it is a of the least doubles: m with zeros appended
 record Units (m : ℕ) (e : ℤ) (a : ℕ) : Type 0 where
   zeros : ℕ
   is : a ≡ m * 2 ^ zeros
@@ -48,7 +48,8 @@ record Units (m : ℕ) (e : ℤ) (a : ℕ) : Type 0 where
 units : (m : ℕ) (e : ℤ) → Double m e → Units m e (m * up e * 2 ^ 1074 / down e)
 units m e d =
     let digits = units-of 1074 m e (d .fine) in
-    let is : m * up e * 2 ^ 1074 / down e ≡ m * 2 ^ digits .0 = ap (λ (z : ℕ). z / down e) (digits .1) ∙ mul-div-cancel (m * 2 ^ digits .0) (down-pos e) in
+    let is : m * up e * 2 ^ 1074 / down e ≡ m * 2 ^ digits .0 =
+    ap (λ (z : ℕ). z / down e) (digits .1) ∙ mul-div-cancel (m * 2 ^ digits .0) (down-pos e) in
     let value : m * up e * 2 ^ 1074 ≡ m * up e * 2 ^ 1074 / down e * down e = digits .1 ∙ ap (λ (z : ℕ). z * down e) (sym is) in
     let most : m * up e * 2 ^ 1074 / down e < 2 ^ 2098 =
     div-lt-iff-lt-mul (down-pos e) .1
@@ -59,9 +60,6 @@ units m e d =
 root-is : (m : ℕ) (e : ℤ) → root (fin false (suc m) e) ≡ rootOfUnits (suc m * up e * 2 ^ 1074 / down e)
 unfolding root
 root-is m e = refl
-
-abbrev half : ℕ → ℕ
-half a = (size a + 1) / 2
 
 root-of-units-is : (a : ℕ) → rootOfUnits a ≡ round binary64 false (nearestRoot (a * 4 ^ 53 / 4 ^ half a) * 2 ^ half a) (2 ^ 590)
 unfolding rootOfUnits
@@ -74,6 +72,7 @@ result a q h few =
     let fine : 53 + (half a + 484) < 2098 = omega arith in
     round-scaled binary64 false q (half a) 590 484 few refl fine
 
+-- The scale of 53 digits and the number nearest to the root there: what the function says of a positive double is what the meaning asks.
 of-units : (m : ℕ) (e : ℤ) (a : ℕ) → 0 < m → m < 2 ^ 53 → Units m e a → NearestRoot (fin false m e) (rootOfUnits a)
 of-units m e a p few u =
     let k = half a in
@@ -82,21 +81,27 @@ of-units m e a p few u =
     let s : Scaled a k n = scaled a m (u .zeros) p few (u .is) in
     let nearest : Nearest n q = nearest-root-is n (s .least) (s .most) in
     let value : m * up e * 4 ^ 590 ≡ n * 4 ^ k * down e =
-    sym (mul-assoc (m * up e) (2 ^ 1074) (4 ^ 53)) ∙ ap (λ (z : ℕ). z * 4 ^ 53) (u .value) ∙ mul-right-comm a (down e) (4 ^ 53) ∙ ap (λ (z : ℕ). z * down e) (sym (s .whole)) in
+    sym (mul-assoc (m * up e) (2 ^ 1074) (4 ^ 53))
+    ∙ ap (λ (z : ℕ). z * 4 ^ 53) (u .value)
+    ∙ mul-right-comm a (down e) (4 ^ 53)
+    ∙ ap (λ (z : ℕ). z * down e) (sym (s .whole)) in
+    let exact : HasValue (rootOfUnits a) false (q * 2 ^ k) (2 ^ 590) =
+    subst (λ (r : Float). HasValue r false (q * 2 ^ k) (2 ^ 590)) (sym (root-of-units-is a)) (result a q (u .most) (nearest-most n q (s .most) nearest)) in
     record {
       n = n;
       q = q;
       u = k;
       v = 590;
       of-x = (refl, value);
-      of-r = subst (λ (r : Float). HasValue r false (q * 2 ^ k) (2 ^ 590)) (sym (root-of-units-is a)) (result a q (u .most) (nearest-most n q (s .most) nearest));
+      of-r = exact;
       digits = (s .least, s .most);
-      nearest = nearest
+      nearest = nearest;
     }
 
 positive : (m : ℕ) (e : ℤ) → Double (suc m) e → NearestRoot (fin false (suc m) e) (root (fin false (suc m) e))
 positive m e d =
-    subst (λ (r : Float). NearestRoot (fin false (suc m) e) r) (sym (root-is m e)) (of-units (suc m) e (suc m * up e * 2 ^ 1074 / down e) (zero-lt-suc m) (d .few) (units (suc m) e d))
+    subst (NearestRoot (fin false (suc m) e)) (sym (root-is m e))
+    (of-units (suc m) e (suc m * up e * 2 ^ 1074 / down e) (zero-lt-suc m) (d .few) (units (suc m) e d))
 
 -- The function has the meaning.
 pub meets : (x : Float) → T (fits binary64 x) → SquareRoot x (root x)
@@ -114,7 +119,7 @@ meets (fin false (suc m) e) t = positive m e (double-of false m e t)
 appended : (b n u v : ℕ) → n * b ^ u * b ^ v ≡ n * b ^ (u + v)
 appended b n u v = mul-assoc n (b ^ u) (b ^ v) ∙ ap (λ (z : ℕ). n * z) (sym (pow-add b u v))
 
--- Two roots of one number: the scale at which it has 105 or 106 digits is the same for both, and so is the number there, and so the number nearest to its root.
+-- Two roots of one number: the scale at which it has 105 or 106 digits is the same for both, so the number there is, and so is the number nearest to its root.
 pub nearest-root-only : (x r r' : Float) → T (fits binary64 r) → T (fits binary64 r') → NearestRoot x r → NearestRoot x r' → r ≡ r'
 nearest-root-only x r r' t t' h h' =
     let cross : h .n * 4 ^ h .u * 4 ^ h' .v ≡ h' .n * 4 ^ h' .u * 4 ^ h .v =
@@ -142,7 +147,8 @@ only (fin false (suc m) e) r r' t t' h h' = nearest-root-only (fin false (suc m)
 
 -- ---- so they agree
 
-root-fits : (x : Float) → T (fits binary64 x) → T (fits binary64 (root x))
+-- the function gives a double
+pub root-fits : (x : Float) → T (fits binary64 x) → T (fits binary64 (root x))
 unfolding root
 root-fits nan t = nan-fits binary64
 root-fits (inf true) t = nan-fits binary64
@@ -152,7 +158,9 @@ root-fits (fin true (suc m) e) t = nan-fits binary64
 root-fits (fin false (suc m) e) t = units-fit (suc m * up e * 2 ^ 1074 / down e)
   where
     units-fit : (a : ℕ) → T (fits binary64 (rootOfUnits a))
-    units-fit a = subst (λ (r : Float). T (fits binary64 r)) (sym (root-of-units-is a)) (round-fits binary64 false (nearestRoot (a * 4 ^ 53 / 4 ^ half a) * 2 ^ half a) (2 ^ 590))
+    units-fit a =
+        subst (λ (r : Float). T (fits binary64 r)) (sym (root-of-units-is a))
+        (round-fits binary64 false (nearestRoot (a * 4 ^ 53 / 4 ^ half a) * 2 ^ half a) (2 ^ 590))
 
 -- A double that has the meaning is what the function gives.
 pub agree : (x r : Float) → T (fits binary64 x) → T (fits binary64 r) → SquareRoot x r → r ≡ root x

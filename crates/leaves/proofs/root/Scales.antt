@@ -1,11 +1,11 @@
--- Numbers as fractions with a power of two or four: one float as several fractions, one number at several scales, and where a scaled number rounds to itself.
--- Assumes nothing.
+-- Numbers scaled by powers of 2 and of 4: the fractions that one float is, a number's one scale of a given length, where a scaled number rounds to itself,
+-- and the scale at which the root of a double has 53 digits. Assumes nothing.
 use mathlib.Core.Path.{_≡_, refl, sym, ap, _∙_, subst}
 use mathlib.Core.Logic.{inl, inr}
 use Prim.Native.Nat.{ℕ, zero, suc, _+_, _-_, _*_, _/_, _^_, _≤_, _<_}
-use native.Mathlib.Nat.{le-refl, le-trans, le-of-eq, le-antisymm, le-of-suc-le-suc, lt-of-lt-of-le, lt-of-le-of-lt, lt-of-not-le, not-le-of-lt, zero-lt-suc, one-le-pow}
-use native.Mathlib.Nat.{add-suc, suc-add, mul-assoc, mul-comm, mul-left-comm, mul-right-comm, mul-one, one-mul, mul-le-mul, mul-le-mul-right, mul-le-mul-left, mul-pos, pow-succ', pow-le-pow-right}
-use native.Mathlib.Nat.{mul-lt-mul-of-pos-right, eq-of-mul-eq-mul-right, le-of-mul-le-mul-right, lt-of-mul-lt-mul-right, mul-div-cancel, sub-add-cancel}
+use native.Mathlib.Nat.{le-trans, le-of-eq, le-antisymm, le-of-suc-le-suc, lt-of-lt-of-le, lt-of-le-of-lt, lt-of-not-le, not-le-of-lt, zero-lt-suc}
+use native.Mathlib.Nat.{mul-assoc, mul-comm, mul-right-comm, mul-one, one-mul, mul-pos, mul-le-mul, mul-le-mul-right, mul-lt-mul-of-pos-right, mul-div-cancel}
+use native.Mathlib.Nat.{eq-of-mul-eq-mul-right, le-of-mul-le-mul-right, lt-of-mul-lt-mul-right, sub-add-cancel, one-le-pow, pow-succ', pow-le-pow-right}
 use native.Mathlib.Omega.{arith}
 use mathlib.Core.Bool.{Bool}
 use lib.IntN.{ℤ, pos, negsuc}
@@ -37,11 +37,11 @@ rescaled (inf t) s a c a' c' p h v = v
 rescaled (fin t m e) s a c a' c' p h v = (
   v .0,
   eq-of-mul-eq-mul-right c p (m * up e * c') (a' * down e)
-  (mul-right-comm (m * up e) c' c
-  ∙ ap (λ (z : ℕ). z * c') (v .1)
-  ∙ mul-right-comm a (down e) c'
-  ∙ ap (λ (z : ℕ). z * down e) h
-  ∙ mul-right-comm a' c (down e)),
+      (mul-right-comm (m * up e) c' c
+      ∙ ap (λ (z : ℕ). z * c') (v .1)
+      ∙ mul-right-comm a (down e) c'
+      ∙ ap (λ (z : ℕ). z * down e) h
+      ∙ mul-right-comm a' c (down e)),
 )
 
 -- m * 2 ^ e in units of 2 ^ -l is a whole number, m with zeros appended, where the unit is small enough
@@ -54,6 +54,7 @@ units-of l m (negsuc k) h =
 
 -- ---- powers of 4
 
+-- 4 ^ k is 2 ^ k twice
 pub four : (k : ℕ) → 4 ^ k ≡ 2 ^ (k + k)
 four zero = refl
 four (suc k) =
@@ -76,7 +77,7 @@ scale-le c n n' i i' l h e = le-of-suc-le-suc (lt-of-not-le (λ (g : suc i' ≤ 
     more g =
         let below : n' * 4 ^ i' < 4 * c * 4 ^ i' = mul-lt-mul-of-pos-right h (four-pos i') in
         let above : c * 4 ^ suc i' ≤ n * 4 ^ i = mul-le-mul l (pow-le-pow-right (zero-lt-suc 3) g) in
-        let same : c * 4 ^ suc i' ≡ 4 * c * 4 ^ i' = ap (λ (z : ℕ). c * z) (pow-succ' 4 i') ∙ sym (mul-assoc c 4 (4 ^ i')) ∙ ap (λ (z : ℕ). z * 4 ^ i') (mul-comm c 4) in
+        let same : c * 4 ^ suc i' ≡ 4 * c * 4 ^ i' = rw (pow-succ', mul-comm 4 c) (sym (mul-assoc c 4 (4 ^ i'))) in
         omega arith
 
 -- so a number has one scale at which it lies from c to 4 * c
@@ -94,7 +95,8 @@ shorter p q h l = elim (lt-or-ge q (2 ^ p)) [
   | inr g ↦ (1, p, pow-lt h, one-mul (2 ^ p) ∙ le-antisymm g l)
 ]
 
--- q * 2 ^ k / 2 ^ g rounds to itself, where q has the digits that a format keeps, and the fraction is a whole number of the format's least values that does not overflow
+-- q * 2 ^ k / 2 ^ g rounds to itself, where q has no more digits than a format keeps,
+-- and the fraction is a whole number of the format's least values that does not overflow
 pub round-scaled : (f : Format) (s : Bool) (q k g h : ℕ) → q ≤ 2 ^ prec f → low f ≡ h + g → prec f + (k + h) < low f + suc (emax f)
     → HasValue (round f s (q * 2 ^ k) (2 ^ g)) s (q * 2 ^ k) (2 ^ g)
 round-scaled f s q k g h few unit fine =
@@ -113,13 +115,13 @@ round-scaled f s q k g h few unit fine =
 
 -- ---- a number brought to the scale at which its root has 53 digits
 
--- a * 4 ^ 53 without 2 * k of its digits, none of which is lost
+-- n is a * 4 ^ 53 without the last 2 * k of its digits, which are zeros, and has 105 or 106 digits
 pub record Scaled (a k n : ℕ) : Type 0 where
   pub whole : n * 4 ^ k ≡ a * 4 ^ 53
   pub least : 4 ^ 52 ≤ n
   pub most : n < 4 ^ 53
 
--- for an a of z digits, of which the last j are zeros and not more than 53 stand before those, k is half of z, rounded up
+-- of an a of z digits, the last j of them zeros and no more than 53 before those, k is half of z, rounded up
 scaled-by : (a m j z k : ℕ) → a ≡ m * 2 ^ j → z ≤ 53 + j → 0 < z → 2 ^ (z - 1) ≤ a → a < 2 ^ z → z ≤ k + k → k + k ≤ z + 1
     → Scaled a k (a * 4 ^ 53 / 4 ^ k)
 scaled-by a m j z k e few some low high at-least at-most = record { whole = whole; least = least; most = most }
@@ -163,13 +165,17 @@ scaled-by a m j z k e few some low high at-least at-most = record { whole = whol
         lt-of-above : (x y : ℕ) → x < y → x * 4 ^ 53 < 4 ^ 53 * y
         lt-of-above x y h = omega arith
 
--- So it is for every number that is 53 digits and then zeros.
-pub scaled : (a m j : ℕ) → 0 < m → m < 2 ^ 53 → a ≡ m * 2 ^ j → Scaled a ((size a + 1) / 2) (a * 4 ^ 53 / 4 ^ ((size a + 1) / 2))
+-- half the digits of a, rounded up
+abbrev pub half : ℕ → ℕ
+half a = (size a + 1) / 2
+
+-- so it is for every number of no more than 53 digits with zeros appended
+pub scaled : (a m j : ℕ) → 0 < m → m < 2 ^ 53 → a ≡ m * 2 ^ j → Scaled a (half a) (a * 4 ^ 53 / 4 ^ half a)
 scaled a m j p few e =
     let z = size a in
     let short : z ≤ 53 + j = size-le a (53 + j) (subst (λ (x : ℕ). x < 2 ^ (53 + j)) (sym e) (shl-lt 53 j few)) in
     let some : 0 < z = size-pos a (subst (λ (x : ℕ). 0 < x) (sym e) (mul-pos p (pow-pos j))) in
-    scaled-by a m j z ((z + 1) / 2) e short some (size-reaches a (z - 1) (omega arith)) (size-lt a) (omega arith) (omega arith)
+    scaled-by a m j z (half a) e short some (size-reaches a (z - 1) (omega arith)) (size-lt a) (omega arith) (omega arith)
   where
     size-pos : (a : ℕ) → 0 < a → 0 < size a
     size-pos a h = lt-of-not-le (λ (g : size a ≤ 0). not-le-of-lt (lt-of-lt-of-le (size-lt a) (pow-mono g)) h)

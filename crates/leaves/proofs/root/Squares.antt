@@ -1,5 +1,5 @@
--- Squares of whole numbers, for the root of `specs/Root.antt`: the turns of the method by hand, the rounding at its end, that one number only is nearest to a root,
--- and that `nearestRoot` gives it. Assumes nothing.
+-- Squares of whole numbers, for the root of `specs/Root.antt`: the turns of the method by hand, the rounding at its end,
+-- that one number only is nearest to a root, and that `nearestRoot` gives it. Assumes nothing.
 use Prim.Native.Nat.{ℕ, zero, suc, _+_, _-_, _*_, _/_, _%_, _^_, _≤_, _<_, zero-le}
 use native.Mathlib.Nat.{le-antisymm, le-trans, lt-of-lt-of-le, lt-of-not-le, not-le-of-lt, zero-lt-suc, add-assoc, pow-succ', two-pow-succ}
 use native.Mathlib.Nat.{add-mul, mul-add, mul-comm, mul-le-mul, mul-left-comm, mul-mul-mul-comm, mul-one, one-mul}
@@ -148,6 +148,7 @@ extended (suc k) s n at = go (leb (t * t) n) (leb→le (t * t) n) (nleb→lt (t 
   where
     t : ℕ
     t = s + 2 ^ k
+
     go : (b : Bool) → (T b → t * t ≤ n) → (T (not b) → n < t * t)
         → ((s n : ℕ) → Within k s n → Within 0 (extend k s n) n)
         → Within 0 (extend k (cond b t s) n) n
@@ -167,6 +168,7 @@ rounded n s p at = go (ltb s (n - s * s)) (ltb→lt s (n - s * s)) (nltb→le s 
   where
     is : n ≡ s * s + (n - s * s)
     is = let low = at .least in omega arith
+
     go : (b : Bool) → (T b → s < n - s * s) → (T (not b) → n - s * s ≤ s) → Nearest n (cond b (s + 1) s)
     go true a b =
         let high : n < (s + 1) * (s + 1) = at .most in
