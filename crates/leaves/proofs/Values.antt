@@ -157,3 +157,31 @@ value-of-sum f s k w lead most h = elim (lt-or-ge w (hid f)) [
       subst (λ (z : ℕ). HasValue (ofBits f (signed f s (k * hid f + w))) s z (2 ^ low f)) (sum-digits f k w g most)
       (value-of-digits f s (k * hid f + w) (le-trans g (le-add-left w (k * hid f))) h)
 ]
+
+-- every pattern is a sign and the rest
+pub sign-and-rest : (f : Format) (b : ℕ) → b < 2 * top f → (s : Bool) × (b ≡ signed f s (b % top f))
+sign-and-rest f b h = elim (lt-or-ge b (top f)) [
+      | inl l ↦ (false, plain f b l)
+      | inr g ↦ (true, marked f b g h)
+    ]
+  where
+    plain : (f : Format) (b : ℕ) → b < top f → b ≡ 0 + b % top f
+    plain binary32 b l = omega arith
+    plain binary64 b l = omega arith
+
+    marked : (f : Format) (b : ℕ) → top f ≤ b → b < 2 * top f → b ≡ top f + b % top f
+    marked binary32 b g h = omega arith
+    marked binary64 b g h = omega arith
+
+-- a pattern from the infinity's on is no number's: the infinity's own, and beyond it a NaN's
+pub no-number : (f : Format) (s : Bool) (p : ℕ) → ones f * hid f ≤ p → p < top f → ofBits f (signed f s p) ≡ cond (eqb (p % hid f) 0) (inf s) nan
+unfolding ofFields
+no-number f s p least most = fields-of f s p most ∙ ap (λ (x : ℕ). ofFields f s x (p % hid f)) (last f p least most) ∙ at-last f (p % hid f)
+  where
+    last : (f : Format) (p : ℕ) → ones f * hid f ≤ p → p < top f → p / hid f ≡ ones f
+    last binary32 p least most = omega arith
+    last binary64 p least most = omega arith
+
+    at-last : (f : Format) (t : ℕ) → ofFields f s (ones f) t ≡ cond (eqb t 0) (inf s) nan
+    at-last binary32 t = refl
+    at-last binary64 t = refl

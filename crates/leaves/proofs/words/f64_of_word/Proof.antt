@@ -1,18 +1,16 @@
+-- `leaves::words::f64_of_word` meets its contract: its test is that for a NaN's word. Assumes nothing.
 use borrow.Author.Needs.{needs}
+use lib.Ieee.{binary64}
+use Rattle.leaves.proofs.words.Laws.{nan-of-word, no-nan-word}
 use Rattle.leaves.proofs.words.f64_of_word.Statement.{statement}
 use Rattle.leaves.proofs.words.f64_of_word.Tie as tie
-use Rattle.leaves.proofs.words.f64_of_word.Reads as reads
-use Rattle.leaves.proofs.words.f64_of_word.Lts as lts
 
--- src/words.rt:37:9
 float-from-bits-result : tie.Need-float-from-bits-result
-float-from-bits-result c = ?
+float-from-bits-result c = no-nan-word binary64 (c .before .args .word) (c .if1 .left)
 
--- src/words.rt:31:1
 returns : tie.Need-returns
-returns c = ?
+returns c = nan-of-word binary64 (c .before .args .word) (c .if1 .taken)
 
--- src/words.rt:31:1
 returns-2 : tie.Need-returns-2
 returns-2 c = search needs
 

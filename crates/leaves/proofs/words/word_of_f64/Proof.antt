@@ -1,18 +1,17 @@
+-- `leaves::words::word_of_f64` meets its contract: only a NaN differs from itself, and its word is 7FF8000000000000. Assumes nothing.
 use borrow.Author.Needs.{needs}
+use lib.Ieee.{binary64, toBits}
+use Rattle.leaves.proofs.words.Laws.{word-of-nan, no-nan}
 use Rattle.leaves.proofs.words.word_of_f64.Statement.{statement}
 use Rattle.leaves.proofs.words.word_of_f64.Tie as tie
-use Rattle.leaves.proofs.words.word_of_f64.Reads as reads
-use Rattle.leaves.proofs.words.word_of_f64.Lts as lts
 
--- src/words.rt:48:9
 float-to-bits-result : tie.Need-float-to-bits-result
-float-to-bits-result c = ?
+float-to-bits-result c = no-nan (c .before .args .x) (c .if1 .left)
 
--- src/words.rt:42:1
 returns : tie.Need-returns
-returns c = ?
+unfolding toBits
+returns c = word-of-nan binary64 (c .before .args .x) (c .if1 .taken)
 
--- src/words.rt:42:1
 returns-2 : tie.Need-returns-2
 returns-2 c = search needs
 

@@ -1,0 +1,102 @@
+-- Magnitude and order: what the code's tests tell of the magnitude of a float, of the larger and the smaller of two, and of a float held to a span.
+-- A law over any float, or over a format, serves both widths. Assumes nothing.
+use mathlib.Core.Path.{_≡_, refl, ap}
+use mathlib.Core.Bool.{Bool, true, false, cond, and-eq-true-iff, true≢false, false≢true}
+use Prim.Native.Nat.{zero, suc, _+_, _*_}
+use native.Mathlib.Omega.{arith}
+use native.Mathlib.Nat.{pow-suc, mul-pos, zero-lt-suc}
+use lib.Dec.{T, eqb→eq}
+use lib.Pow.{pow-pos}
+use lib.IntN.{ℤ, pos, negsuc}
+use lib.Ieee.{Float, nan, inf, fin, Format, binary32, binary64, up, down, neg, lt, eq, ne, isNan, fits, ofBits}
+use lib.Ieee.Fits.{up-pos}
+use borrow.Author.Tests.{ltb-true, ltb-false, eqb-true, eq-eqb}
+use Rattle.leaves.specs.Floats.{magnitude, larger, smaller, held}
+use Rattle.leaves.proofs.words.Laws.{nan-test}
+
+-- ---- magnitude, by the tests against 0.0, the float of the word 0
+
+-- the zero without a sign
+abbrev plain-zero : Float
+plain-zero = fin false 0 (pos 0)
+
+-- In either format the word 0 is that of the zero without a sign.
+zero-word : (f : Format) → ofBits f 0 ≡ plain-zero
+unfolding ofBits
+zero-word binary32 = refl
+zero-word binary64 = refl
+
+-- What is below zero has a sign, which its negation has not.
+below : (x : Float) → lt x plain-zero ≡ true → neg x ≡ magnitude x
+unfolding lt neg
+below nan h = refl
+below (inf true) h = refl
+below (inf false) h = absurd (false≢true h)
+below (fin true m e) h = refl
+below (fin false m e) h = absurd (omega (arith, ltb-true (m * up e * 1) (0 * down e) h))
+
+-- 2 ^ e is 1 only at the exponent 0.
+exponent-zero : (e : ℤ) → up e * down e ≡ 1 → pos 0 ≡ e
+exponent-zero (pos zero) h = refl
+exponent-zero (pos (suc k)) h = absurd (omega (arith, pow-suc 2 k, pow-pos k))
+exponent-zero (negsuc k) h = absurd (omega (arith, pow-suc 2 k, pow-pos k))
+
+-- A format writes each of its two zeros in one way, so without its sign either is the plain zero.
+level-zero : (f : Format) (x : Float) → T (fits f x) → eq x plain-zero ≡ true → plain-zero ≡ magnitude x
+unfolding eq fits
+level-zero f nan k h = absurd (false≢true h)
+level-zero f (inf s) k h = absurd (false≢true h)
+level-zero f (fin s zero e) k h = ap (fin false 0) (exponent-zero e (eqb→eq (up e * down e) 1 k))
+level-zero f (fin s (suc m) e) k h =
+    absurd (omega (arith, mul-pos (zero-lt-suc m) (up-pos e), eqb-true (suc m * up e * 1) (0 * down e) (and-eq-true-iff _ _ .0 h .0)))
+
+-- A number with a sign is below zero or equals it, so one that is neither has none.
+above : (x : Float) → lt x plain-zero ≡ false → eq x plain-zero ≡ false → x ≡ magnitude x
+unfolding lt eq
+above nan h k = refl
+above (inf true) h k = absurd (true≢false h)
+above (inf false) h k = refl
+above (fin true m e) h k =
+    let a = m * up e * 1 in
+    let z : a ≡ 0 = omega (arith, ltb-false 0 (a + 0 * down e) h) in
+    absurd (true≢false (rw (eq-eqb a (0 * down e) (omega arith), eq-eqb a 0 z) at k))
+above (fin false m e) h k = refl
+
+-- The magnitude of a float below zero is its negation.
+pub magnitude-below : (f : Format) (x : Float) → lt x (ofBits f 0) ≡ true → neg x ≡ magnitude x
+magnitude-below f x h = below x (rw zero-word at h)
+
+-- The magnitude of either zero is 0.0.
+pub magnitude-zero : (f : Format) (x : Float) → T (fits f x) → eq x (ofBits f 0) ≡ true → ofBits f 0 ≡ magnitude x
+magnitude-zero f x k h = rw zero-word (level-zero f x k (rw zero-word at h))
+
+-- A float that is neither below zero nor equals it is its own magnitude.
+pub magnitude-above : (f : Format) (x : Float) → lt x (ofBits f 0) ≡ false → eq x (ofBits f 0) ≡ false → x ≡ magnitude x
+magnitude-above f x h k = above x (rw zero-word at h) (rw zero-word at k)
+
+-- ---- the larger, the smaller and the held, by what the code's two tests found: n, l, p and q are what each gave
+
+-- The larger of a and b: b where a is a NaN or a < b, and a otherwise.
+pub larger-tests : {n l : Bool} (a b : Float) → ne a a ≡ n → lt a b ≡ l → cond n b (cond l b a) ≡ larger a b
+unfolding larger
+larger-tests a b p q = rw (nan-test, p, q)
+
+-- The smaller of a and b: b where a is a NaN or b < a, and a otherwise.
+pub smaller-tests : {n l : Bool} (a b : Float) → ne a a ≡ n → lt b a ≡ l → cond n b (cond l b a) ≡ smaller a b
+unfolding smaller
+smaller-tests a b p q = rw (nan-test, p, q)
+
+-- x held to lo .. hi: lo where x < lo, hi where hi < x, and x otherwise.
+pub held-tests : {p q : Bool} (lo hi x : Float) → lt x lo ≡ p → lt hi x ≡ q → cond p lo (cond q hi x) ≡ held lo hi x
+unfolding held
+held-tests lo hi x p q = rw (p, q)
+
+-- The larger of two is no NaN where the second is none.
+pub larger-number : (a b : Float) → isNan b ≡ false → isNan (larger a b) ≡ false
+unfolding larger
+larger-number a b h = go (isNan a) (lt a b) refl
+  where
+    go : (n l : Bool) → isNan a ≡ n → isNan (cond n b (cond l b a)) ≡ false
+    go true l e = h
+    go false true e = h
+    go false false e = e

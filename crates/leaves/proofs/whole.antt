@@ -1,0 +1,2 @@
+-- Rounding to whole: the laws that the proofs of its functions apply.
+pub mod Laws
