@@ -1,85 +1,74 @@
+-- `leaves::root::nearest_root` meets its contract. The invariant of its loop is `Taken` of `../Squares.antt`, which has the arithmetic.
+-- The measure is how many turns are left. Assumes nothing.
+use Prim.Native.Nat.{_-_}
+use native.Mathlib.Omega.{arith}
+use Rattle.leaves.proofs.root.Squares.{Taken, start, taken-small, turn-one, turn-zero, taken-all, nearest-up, nearest-down}
 use Rattle.leaves.proofs.root.nearest_root.Statement.{statement}
 use Rattle.leaves.proofs.root.nearest_root.Tie as tie
-use Rattle.leaves.proofs.root.nearest_root.Reads as reads
-use Rattle.leaves.proofs.root.nearest_root.Lts as lts
 
 abbrev Inv-loop : tie.InvT-loop
-Inv-loop digits left₀ rest₀ root₀ turns₀ left rest root turns = ?
+Inv-loop digits left₀ rest₀ root₀ turns₀ left rest root turns = Taken digits left rest root turns
 
 abbrev μ-loop : tie.MeasureT-loop
-μ-loop digits left₀ rest₀ root₀ turns₀ left rest root turns = ?
+μ-loop digits left₀ rest₀ root₀ turns₀ left rest root turns = 53 - turns
 
--- src/root.rt:24:5
 loop-holds : tie.Need-loop-holds Inv-loop μ-loop
-loop-holds c = ?
+loop-holds c = start (c .args .digits) (c .pre .1)
 
--- src/root.rt:25:9
 add-turns : tie.Need-add-turns Inv-loop μ-loop
-add-turns c = ?
+add-turns c = omega arith
 
--- src/root.rt:26:16
 mul-rest : tie.Need-mul-rest Inv-loop μ-loop
-mul-rest c = ?
+mul-rest c = omega (arith, taken-small (c .before .loop .inv))
 
--- src/root.rt:26:16
 add-rest : tie.Need-add-rest Inv-loop μ-loop
-add-rest c = ?
+add-rest c = omega (arith, taken-small (c .before .loop .inv))
 
--- src/root.rt:27:16
 mul-left : tie.Need-mul-left Inv-loop μ-loop
-mul-left c = ?
+mul-left c = omega arith
 
--- src/root.rt:28:16
 mul-root : tie.Need-mul-root Inv-loop μ-loop
-mul-root c = ?
+mul-root c = omega (arith, taken-small (c .before .loop .inv))
 
--- src/root.rt:29:12
 mul-if1 : tie.Need-mul-if1 Inv-loop μ-loop
-mul-if1 c = ?
+mul-if1 c = omega (arith, taken-small (c .before .loop .inv))
 
--- src/root.rt:30:28
 mul-rest-2 : tie.Need-mul-rest-2 Inv-loop μ-loop
-mul-rest-2 c = ?
+mul-rest-2 c = omega (arith, taken-small (c .before .before .loop .inv))
 
--- src/root.rt:30:28
 add-rest-2 : tie.Need-add-rest-2 Inv-loop μ-loop
-add-rest-2 c = ?
+add-rest-2 c = omega (arith, taken-small (c .before .before .loop .inv))
 
--- src/root.rt:30:20
 sub-rest : tie.Need-sub-rest Inv-loop μ-loop
-sub-rest c = ?
+sub-rest c = omega arith
 
--- src/root.rt:31:20
 add-root : tie.Need-add-root Inv-loop μ-loop
-add-root c = ?
+add-root c = omega (arith, taken-small (c .before .before .loop .inv))
 
--- src/root.rt:24:5
 loop-less : tie.Need-loop-less Inv-loop μ-loop
-loop-less c = ?
+loop-less c = omega arith
 
--- src/root.rt:24:5
 loop-again : tie.Need-loop-again Inv-loop μ-loop
-loop-again c = ?
+loop-again c = turn-one (c .before .loop-test .taken) (c .before .before .loop .inv) (c .if1 .taken)
 
--- src/root.rt:24:5
 loop-less-2 : tie.Need-loop-less-2 Inv-loop μ-loop
-loop-less-2 c = ?
+loop-less-2 c = omega arith
 
--- src/root.rt:24:5
 loop-again-2 : tie.Need-loop-again-2 Inv-loop μ-loop
-loop-again-2 c = ?
+loop-again-2 c = turn-zero (c .before .loop-test .taken) (c .before .before .loop .inv) (c .if1 .left)
 
--- src/root.rt:34:22
 add-result : tie.Need-add-result Inv-loop μ-loop
-add-result c = ?
+add-result c = omega (arith, taken-small (c .before .before .loop .inv))
 
--- src/root.rt:16:1
 returns : tie.Need-returns Inv-loop μ-loop
-returns c = ?
+returns c =
+    let at = c .before .before .loop .inv in
+    nearest-up _ _ _ (taken-all at (omega arith)) (at .whole) (c .if2 .taken)
 
--- src/root.rt:16:1
 returns-2 : tie.Need-returns-2 Inv-loop μ-loop
-returns-2 c = ?
+returns-2 c =
+    let at = c .before .before .loop .inv in
+    nearest-down _ _ _ (taken-all at (omega arith)) (omega arith) (c .if2 .left)
 
 pub nearest-root-spec : {M : Type 1} → statement M
 nearest-root-spec =
