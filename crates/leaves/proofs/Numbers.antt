@@ -11,7 +11,7 @@ use borrow.Author.Tests.{le-leb, lt-leb, eq-eqb, ne-eqb}
 
 -- of two numbers the first is below the second, or it is not
 pub lt-or-ge : (a b : ℕ) → (a < b) ⊎ (b ≤ a)
-lt-or-ge a b = elim (decLe b a) [ | yes h ↦ inr h | no f ↦ inl (lt-of-not-le f) ]
+lt-or-ge a b = elim (decLe b a) [ yes h ↦ inr h | no f ↦ inl (lt-of-not-le f) ]
 
 -- what `compare` answers, by the order of the two numbers
 pub compare-lt : (a b : ℕ) → a < b → compare a b ≡ Ordering·lt

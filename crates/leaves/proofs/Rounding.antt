@@ -87,13 +87,13 @@ units-over f s w k h = rw (le-ltb _ _ h) refl
 -- w digits, k places up, whose pattern is below the infinity's are a number below 2 ^ (emax + 1)
 under : (f : Format) (k w : ℕ) → (k ≡ 0) ⊎ (hid f ≤ w) → w ≤ 2 * hid f → k * hid f + w < ones f * hid f → w * 2 ^ k < 2 ^ (low f + suc (emax f))
 under f k w lead most h = elim (lt-or-ge w (2 * hid f)) [
-      | inl l ↦
-          lt-of-lt-of-le (mul-lt-mul-of-pos-right l (pow-pos k))
-          (le-trans (mul-le-mul-left (2 * hid f) (pow-mono (few f k w lead h))) (le-of-eq (largest f)))
-      | inr g ↦
-          lt-of-le-of-lt (mul-le-mul-right (2 ^ k) most)
-          (lt-of-lt-of-le (mul-lt-mul-of-pos-left (pow-lt (fewer f k w g h)) (double f)) (le-of-eq (largest f)))
-    ]
+  | inl l ↦
+      lt-of-lt-of-le (mul-lt-mul-of-pos-right l (pow-pos k))
+      (le-trans (mul-le-mul-left (2 * hid f) (pow-mono (few f k w lead h))) (le-of-eq (largest f)))
+  | inr g ↦
+      lt-of-le-of-lt (mul-le-mul-right (2 ^ k) most)
+      (lt-of-lt-of-le (mul-lt-mul-of-pos-left (pow-lt (fewer f k w g h)) (double f)) (le-of-eq (largest f)))
+]
   where
     few : (f : Format) (k w : ℕ) → (k ≡ 0) ⊎ (hid f ≤ w) → k * hid f + w < ones f * hid f → k ≤ ones f - 2
     few f k w (inl e) h = rw e zero-le
@@ -115,9 +115,9 @@ under f k w lead most h = elim (lt-or-ge w (2 * hid f)) [
 -- and those whose pattern is the infinity's are 2 ^ (emax + 1) or more
 over : (f : Format) (k w : ℕ) → (k ≡ 0) ⊎ (hid f ≤ w) → w ≤ 2 * hid f → k * hid f + w ≡ ones f * hid f → 2 ^ (low f + suc (emax f)) ≤ w * 2 ^ k
 over f k w lead most e = elim (lt-or-ge w (2 * hid f)) [
-      | inl l ↦ le-trans (le-of-eq (sym (upper f))) (mul-le-mul (leads f k w lead most e) (pow-mono (one-less f k w l e)))
-      | inr g ↦ le-trans (le-of-eq (sym (lower f))) (mul-le-mul g (pow-mono (two-less f k w most e)))
-    ]
+  | inl l ↦ le-trans (le-of-eq (sym (upper f))) (mul-le-mul (leads f k w lead most e) (pow-mono (one-less f k w l e)))
+  | inr g ↦ le-trans (le-of-eq (sym (lower f))) (mul-le-mul g (pow-mono (two-less f k w most e)))
+]
   where
     upper : (f : Format) → hid f * 2 ^ (ones f - 1) ≡ 2 ^ (low f + suc (emax f))
     upper binary32 = refl
@@ -144,12 +144,12 @@ over f k w lead most e = elim (lt-or-ge w (2 * hid f)) [
 pub round-pattern : (f : Format) (s : Bool) (num den k w : ℕ) → round f s num den ≡ units f s w k
     → (k ≡ 0) ⊎ (hid f ≤ w) → w ≤ 2 * hid f → k * hid f + w ≤ ones f * hid f → ofBits f (signed f s (k * hid f + w)) ≡ round f s num den
 round-pattern f s num den k w e lead most h = elim (eq-or-lt-of-le h) [
-      | inl z ↦ ap (λ (p : ℕ). ofBits f (signed f s p)) z ∙ overflows f s ∙ sym (e ∙ units-over f s w k (over f k w lead most z))
-      | inr l ↦
-          same-value f s (w * 2 ^ k) (2 ^ low f) (ofBits f (signed f s (k * hid f + w))) (round f s num den) (pow-pos (low f))
-          (ofBits-fits f (signed f s (k * hid f + w))) (round-fits f s num den) (value-of-sum f s k w lead most l)
-          (rw e (units-val f s w k (under f k w lead most l)))
-    ]
+  | inl z ↦ ap (λ (p : ℕ). ofBits f (signed f s p)) z ∙ overflows f s ∙ sym (e ∙ units-over f s w k (over f k w lead most z))
+  | inr l ↦
+      same-value f s (w * 2 ^ k) (2 ^ low f) (ofBits f (signed f s (k * hid f + w))) (round f s num den) (pow-pos (low f))
+      (ofBits-fits f (signed f s (k * hid f + w))) (round-fits f s num den) (value-of-sum f s k w lead most l)
+      (rw e (units-val f s w k (under f k w lead most l)))
+]
 
 -- ---- the sign goes through `round`
 neg-odd : (d : ℕ) (q k l : ℕ) → neg (odd d false q k l) ≡ odd d true q k l

@@ -161,9 +161,9 @@ value-of-sum f s k w lead most h = elim (lt-or-ge w (hid f)) [
 -- every pattern is a sign and the rest
 pub sign-and-rest : (f : Format) (b : ℕ) → b < 2 * top f → (s : Bool) × (b ≡ signed f s (b % top f))
 sign-and-rest f b h = elim (lt-or-ge b (top f)) [
-      | inl l ↦ (false, plain f b l)
-      | inr g ↦ (true, marked f b g h)
-    ]
+  | inl l ↦ (false, plain f b l)
+  | inr g ↦ (true, marked f b g h)
+]
   where
     plain : (f : Format) (b : ℕ) → b < top f → b ≡ 0 + b % top f
     plain binary32 b l = omega arith

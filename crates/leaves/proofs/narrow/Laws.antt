@@ -93,8 +93,8 @@ at-normal bits w least most e =
     let high : w ≤ 16777216 = rw e (kept-most (digits bits) (omega arith) (omega arith)) in (
       omega arith,
       λ s.
-        round-pattern binary32 s (digits bits * 2 ^ place bits) (2 ^ 1074) (up-by bits) w (rw e (normal-units s bits least)) (inr low) high (omega arith)
-        ∙ sym (finite s bits (omega arith) (omega arith))
+          round-pattern binary32 s (digits bits * 2 ^ place bits) (2 ^ 1074) (up-by bits) w (rw e (normal-units s bits least)) (inr low) high (omega arith)
+          ∙ sym (finite s bits (omega arith) (omega arith)),
     )
 
 -- from 2 ^ 128 on: the digits stand so far up that the number is beyond the largest f32
@@ -106,10 +106,13 @@ overflow s bits least h =
     (mul-le-mul {n₁ = 2 ^ 23} {m₁ = 2 ^ 254} (kept-least (digits bits) (omega arith) (omega arith)) (pow-mono {i = 254} (omega arith)))
 
 pub at-infinity : (bits : ℕ) → bits ≤ 0x7ff0000000000000 → 1151 ≤ bits / 4503599627370496 → Narrows bits 0x7f800000
-at-infinity bits most least = (omega arith, λ s. inf-pattern s ∙ sym (elim (eq-or-lt-of-le most) [
-      | inl e ↦ ap (λ (b : ℕ). narrowed (ofBits binary64 (signed binary64 s b))) e ∙ inf-narrowed s
-      | inr h ↦ overflow s bits least h
-    ]))
+at-infinity bits most least = (
+  omega arith,
+  λ s. inf-pattern s ∙ sym (elim (eq-or-lt-of-le most) [
+    | inl e ↦ ap (λ (b : ℕ). narrowed (ofBits binary64 (signed binary64 s b))) e ∙ inf-narrowed s
+    | inr h ↦ overflow s bits least h
+  ]),
+)
 
 -- ---- a subnormal f32, and zero
 
@@ -131,7 +134,7 @@ at-subnormal bits w least most e =
     let whole : digits bits / 2 ^ d < 2 ^ 24 = shr-lt 24 d (lt-of-lt-of-le {m = 2 ^ 53} (omega arith) (pow-mono {i = 53} (omega arith))) in
     let high : w ≤ 16777216 = rw e (omega (arith, closest-most (digits bits) (2 ^ d))) in (
       omega arith,
-      λ s. few-pattern s (digits bits) (place bits) d w (omega arith) (omega arith) (omega arith) e high ∙ sym (finite s bits (omega arith) (omega arith))
+      λ s. few-pattern s (digits bits) (place bits) d w (omega arith) (omega arith) (omega arith) e high ∙ sym (finite s bits (omega arith) (omega arith)),
     )
 
 -- less than half of the least f32, or just half of it, is nearest to nothing
@@ -145,13 +148,16 @@ tiny : (s : Bool) (q j : ℕ) → q < 2 ^ 53 → j ≤ 871 → ofBits binary32 (
 tiny s q j small h = few-pattern s q j (925 - j) 0 (omega arith) (omega arith) small (nothing q (925 - j) small (omega arith)) (omega arith)
 
 pub at-zero : (bits : ℕ) → bits / 4503599627370496 < 873 → Narrows bits 0
-at-zero bits most = (omega arith, λ s. elim (lt-or-ge bits 4503599627370496) [
-      | inl h ↦
-          tiny s bits 0 (omega arith) (omega arith)
-          ∙ ap (λ (a : ℕ). round binary32 s a (2 ^ 1074)) (mul-one bits)
-          ∙ sym (narrowed-of-value _ s _ _ (pow-pos 1074) (value-of-tail binary64 s bits h))
-      | inr h ↦ tiny s (digits bits) (place bits) (omega arith) (omega arith) ∙ sym (finite s bits h (omega arith))
-    ])
+at-zero bits most = (
+  omega arith,
+  λ s. elim (lt-or-ge bits 4503599627370496) [
+    | inl h ↦
+        tiny s bits 0 (omega arith) (omega arith)
+        ∙ ap (λ (a : ℕ). round binary32 s a (2 ^ 1074)) (mul-one bits)
+        ∙ sym (narrowed-of-value _ s _ _ (pow-pos 1074) (value-of-tail binary64 s bits h))
+    | inr h ↦ tiny s (digits bits) (place bits) (omega arith) (omega arith) ∙ sym (finite s bits h (omega arith))
+  ],
+)
 
 -- ---- the sign goes over
 

@@ -72,13 +72,13 @@ tiny q j h k =
 
 pub at-small : (bits : ℕ) → bits / 8388608 < 126 → Rounds bits 0
 at-small bits h s = elim (lt-or-ge bits 8388608) [
-      | inl l ↦
-          rounded-of-value _ s _ _ (pow-pos 149) (value-of-tail binary32 s bits l)
-          ∙ ap (λ (w : ℕ). round binary32 s w 1) (small bits (2 ^ 149) (lt-of-lt-of-le {m = 2 ^ 24} (omega arith) (lit≤ tt)))
-      | inr g ↦
-          finite s bits g (omega arith)
-          ∙ ap (λ (w : ℕ). round binary32 s w 1) (small (digits bits * 2 ^ place bits) (2 ^ 149) (tiny (digits bits) (place bits) (omega arith) (omega arith)))
-    ]
+  | inl l ↦
+      rounded-of-value _ s _ _ (pow-pos 149) (value-of-tail binary32 s bits l)
+      ∙ ap (λ (w : ℕ). round binary32 s w 1) (small bits (2 ^ 149) (lt-of-lt-of-le {m = 2 ^ 24} (omega arith) (lit≤ tt)))
+  | inr g ↦
+      finite s bits g (omega arith)
+      ∙ ap (λ (w : ℕ). round binary32 s w 1) (small (digits bits * 2 ^ place bits) (2 ^ 149) (tiny (digits bits) (place bits) (omega arith) (omega arith)))
+]
 
 -- d digits stand after the point: the number is digits / 2 ^ d
 pub at-digits : (bits d : ℕ) → 126 ≤ bits / 8388608 → bits / 8388608 + d ≡ 150 → Rounds bits ((2 * digits bits + 2 ^ d) / 2 ^ (d + 1))

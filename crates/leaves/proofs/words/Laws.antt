@@ -42,7 +42,7 @@ pub no-nan : (x : Float) → ne x x ≡ false → T (not (isNan x))
 no-nan x e = rw (nan-test, e) tt
 
 -- 0 / 0 is the NaN.
-zero-by-zero : (f : Format) → div f (ofBits f 0) (ofBits f 0) ≡ nan
+pub zero-by-zero : (f : Format) → div f (ofBits f 0) (ofBits f 0) ≡ nan
 unfolding div ofBits
 zero-by-zero binary32 = refl
 zero-by-zero binary64 = refl
