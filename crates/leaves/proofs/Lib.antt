@@ -1,4 +1,5 @@
--- Laws on numbers and floats that several proofs, here and in the crates above, cite.
+-- Laws on numbers, lists and floats that several proofs, here and in the crates above, cite.
 pub mod Numbers
+pub mod Lists
 pub mod Values
 pub mod Rounding

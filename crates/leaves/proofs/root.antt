@@ -2,4 +2,5 @@
 pub mod Squares
 pub mod Scales
 pub mod Agree
+pub mod Edges
 pub mod Steps
