@@ -1,7 +1,8 @@
--- Laws on lists, of any element, that the crates above cite: a part that was lent to be written and comes back is a run of stores (`sets`),
+-- Laws on lists, of any element, that the crates above cite: a part that was lent to be written and comes back is a run
+-- of stores (`sets`),
 -- and what a run of stores leaves at each place. Assumes nothing.
-use mathlib.Core.Path.{_≡_, refl, sym, ap, _∙_}
-use mathlib.Core.List.{List, [], _∷_, _++_, append-assoc}
+use mathlib.Core.Path.{_≡_, refl, sym, _∙_}
+use mathlib.Core.List.{List, [], _∷_, append-assoc}
 use Prim.Native.Nat.{ℕ, zero, suc, _+_, _-_, _≤_, _<_}
 use native.Mathlib.Omega.{arith}
 use lib.ListN.{length, take, drop, set, getD, length-take, length-drop, length-set}
@@ -30,7 +31,8 @@ read-after xs [] a i d h = refl
 read-after xs (y ∷ ys) a i d h = read-after (set xs a y) ys (suc a) i d (omega arith) ∙ getD-set-other xs a i y d (λ (e : i ≡ a). omega arith)
 
 -- a place among them has what was stored there
-pub read-within : {A : Type 0} (xs ys : List A) (a j : ℕ) (d : A) → a + length ys ≤ length xs → j < length ys → getD (sets xs a ys) (a + j) d ≡ getD ys j d
+pub read-within : {A : Type 0} (xs ys : List A) (a j : ℕ) (d : A) → a + length ys ≤ length xs → j < length ys
+    → getD (sets xs a ys) (a + j) d ≡ getD ys j d
 read-within xs [] a j d h k = absurd (omega arith)
 read-within xs (y ∷ ys) a zero d h k =
     let here : a + 0 ≡ a = omega arith in

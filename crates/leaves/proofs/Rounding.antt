@@ -1,22 +1,25 @@
--- How `round` of lib.Ieee rounds a number that is written with binary digits: which digits it keeps, and the pattern of what it gives.
+-- How `round` of lib.Ieee rounds a number that is written with binary digits: which digits it keeps, and the pattern of
+-- what it gives.
 -- Each law holds for both formats. Assumes nothing.
-use mathlib.Core.Path.{_≡_, refl, sym, ap, _∙_, subst}
+use mathlib.Core.Path.{_≡_, refl, sym, ap, _∙_}
 use mathlib.Core.Logic.{_⊎_, inl, inr}
 use Prim.Native.Nat.{ℕ, zero, suc, _+_, _-_, _*_, _/_, _%_, _^_, _≤_, _<_, zero-le, compare}
-use native.Mathlib.Nat.{eq-or-lt-of-le, mul-le-mul, mul-le-mul-left, mul-lt-mul-of-pos-left, lt-of-not-le, not-le-of-lt, le-of-mul-le-mul-right, mul-left-comm, le-trans, le-of-eq, le-antisymm, lt-of-lt-of-le, lt-of-le-of-lt, mul-assoc, mul-comm, mul-right-comm, mul-le-mul-right, mul-lt-mul-of-pos-right, mul-pos, le-div-iff-mul-le, div-lt-iff-lt-mul}
+use native.Mathlib.Nat.{eq-or-lt-of-le, mul-le-mul, mul-le-mul-left, mul-lt-mul-of-pos-left, lt-of-not-le, not-le-of-lt}
+use native.Mathlib.Nat.{le-of-mul-le-mul-right, mul-left-comm, le-trans, le-of-eq, lt-of-lt-of-le, lt-of-le-of-lt}
+use native.Mathlib.Nat.{mul-assoc, mul-comm, mul-le-mul-right, mul-lt-mul-of-pos-right, mul-pos, le-div-iff-mul-le}
+use native.Mathlib.Nat.{div-lt-iff-lt-mul}
 use native.Mathlib.Omega.{arith}
 use native.Mathlib.Numerals.{add-one}
-use mathlib.Core.Bool.{Bool, true, false, not, cond}
-use lib.Dec.{T, ltb}
+use mathlib.Core.Bool.{Bool, true, false, cond}
+use lib.Dec.{ltb}
 use lib.Pow.{pow-add, pow-pos, pow-mono, pow-lt}
 use borrow.Author.Tests.{le-ltb}
-use lib.Ieee.{Float, nan, inf, fin, Format, binary32, binary64, prec, emax, low, up, down, size, odd, units, round, hid, ones, neg, ofBits}
-use lib.Ieee.Digits.{size-lt, size-le, size-reaches}
+use lib.Ieee.{inf, Format, binary32, binary64, prec, emax, low, size, odd, units, round, hid, ones, neg, ofBits}
+use lib.Ieee.Digits.{size-lt, size-le}
 use lib.Ieee.Fits.{round-is, round-fits, nearest-le, two}
 use lib.Ieee.Bits.{ofBits-fits}
 use lib.Ieee.Nearest.{closest, closest-same, nearest-ge}
-use lib.Ieee.Exact.{HasValue, units-val}
-use lib.Ieee.Scale.{round-same}
+use lib.Ieee.Exact.{units-val}
 use Rattle.leaves.specs.Steps.{signed}
 use Rattle.leaves.proofs.Numbers.{lt-or-ge, compare-lt, compare-eq, compare-gt}
 use Rattle.leaves.proofs.Values.{same-value, value-of-sum}
@@ -27,7 +30,8 @@ use Rattle.leaves.proofs.Values.{same-value, value-of-sum}
 size-gt : (n j : ℕ) → 2 ^ j ≤ n → j < size n
 size-gt n j h = lt-of-not-le (λ (g : size n ≤ j). not-le-of-lt (lt-of-lt-of-le (size-lt n) (pow-mono g)) h)
 
--- q * 2 ^ j / 2 ^ l is rounded in units of the format's least value. Of q, d digits are dropped, and what is left stands k places up:
+-- q * 2 ^ j / 2 ^ l is rounded in units of the format's least value. Of q, d digits are dropped, and what is left
+-- stands k places up:
 -- none, where what is left has no more digits than the format keeps, and else so many that just these are left.
 module _ (f : Format) (s : Bool) (q j l d k : ℕ) (places : j + low f + d ≡ l + k) where
   scaled : q * 2 ^ j * 2 ^ low f * 2 ^ d ≡ q * (2 ^ l * 2 ^ k)
@@ -67,7 +71,8 @@ module _ (f : Format) (s : Bool) (q j l d k : ℕ) (places : j + low f + d ≡ l
   round-digits h lead =
       round-is f s (q * 2 ^ j) (2 ^ l)
       ∙ ap (λ (z : ℕ). units f s (closest (q * 2 ^ j * 2 ^ low f) (2 ^ l * 2 ^ z)) z) (places-up h lead)
-      ∙ ap (λ (z : ℕ). units f s z k) (closest-same (q * 2 ^ j * 2 ^ low f) (2 ^ l * 2 ^ k) q (2 ^ d) (mul-pos (pow-pos l) (pow-pos k)) (pow-pos d) scaled)
+      ∙ ap (λ (z : ℕ). units f s z k)
+      (closest-same (q * 2 ^ j * 2 ^ low f) (2 ^ l * 2 ^ k) q (2 ^ d) (mul-pos (pow-pos l) (pow-pos k)) (pow-pos d) scaled)
 
 -- ---- the pattern of a rounded number
 
@@ -164,7 +169,8 @@ neg-round f num den =
     let w = closest (num * 2 ^ low f) (den * 2 ^ u) in
     ap neg (round-is f false num den) ∙ go w u (ltb (w * 2 ^ u) (2 ^ (low f + suc (emax f)))) ∙ sym (round-is f true num den)
   where
-    go : (w u : ℕ) (b : Bool) → neg (cond b (odd (suc (prec f)) false w u (low f)) (inf false)) ≡ cond b (odd (suc (prec f)) true w u (low f)) (inf true)
+    go : (w u : ℕ) (b : Bool)
+        → neg (cond b (odd (suc (prec f)) false w u (low f)) (inf false)) ≡ cond b (odd (suc (prec f)) true w u (low f)) (inf true)
     go w u true = neg-odd (suc (prec f)) w u (low f)
     go w u false = refl
 

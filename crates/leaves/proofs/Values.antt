@@ -1,14 +1,17 @@
 -- What number a bit pattern stands for, and that a format writes each number in one way only.
--- `HasValue x s a c` says that x is finite, has the sign s, and is a / c in size. Each law holds for both formats. Assumes nothing.
+-- `HasValue x s a c` says that x is finite, has the sign s, and is a / c in size. Each law holds for both formats.
+-- Assumes nothing.
 use mathlib.Core.Path.{_≡_, refl, sym, ap, _∙_, subst}
 use mathlib.Core.Logic.{_⊎_, inl, inr}
-use Prim.Native.Nat.{ℕ, zero, suc, _+_, _-_, _*_, _/_, _%_, _^_, _≤_, _<_}
-use native.Mathlib.Nat.{le-trans, le-add-right, le-add-left, not-le-of-lt, mul-one, mul-right-comm, mul-assoc, pow-succ', zero-add, zero-mul}
+use Prim.Native.Nat.{ℕ, suc, _+_, _-_, _*_, _/_, _%_, _^_, _≤_, _<_}
+use native.Mathlib.Nat.{le-trans, le-add-right, le-add-left, not-le-of-lt, mul-one, mul-right-comm, mul-assoc}
+use native.Mathlib.Nat.{pow-succ', zero-add, zero-mul}
 use native.Mathlib.Omega.{arith}
 use mathlib.Core.Bool.{Bool, true, false, cond}
 use lib.Dec.{T, leb, eqb}
 use borrow.Author.Tests.{le-leb, lt-leb, ne-eqb}
-use lib.Ieee.{Float, nan, inf, fin, Format, binary32, binary64, prec, low, up, down, size, odd, hid, ones, top, ofFields, ofBits, toBits, fits}
+use lib.Ieee.{Float, nan, inf, fin, Format, binary32, binary64, prec, low, up, down, size, odd, hid, ones, top}
+use lib.Ieee.{ofFields, ofBits, toBits, fits}
 use lib.Ieee.Fits.{down-pos}
 use lib.Ieee.Bits.{ofBits-toBits}
 use lib.Ieee.Nearest.{div-same}
@@ -69,7 +72,8 @@ pub value-of-tail : (f : Format) (s : Bool) (p : ℕ) → p < hid f → HasValue
 unfolding ofFields
 value-of-tail f s p h =
     let bound : p < top f = under-top f p h in
-    rw (fields-of f s p bound, none f p h, all f p h) (subst (λ (z : ℕ). HasValue (odd (prec f) s p 0 (low f)) s z (2 ^ low f)) (mul-one p) (odd-sign (prec f) s p 0 (low f)))
+    rw (fields-of f s p bound, none f p h, all f p h)
+    (subst (λ (z : ℕ). HasValue (odd (prec f) s p 0 (low f)) s z (2 ^ low f)) (mul-one p) (odd-sign (prec f) s p 0 (low f)))
   where
     under-top : (f : Format) (p : ℕ) → p < hid f → p < top f
     under-top binary32 p h = omega arith
@@ -115,7 +119,8 @@ value-of-digits f s p h k =
 
 -- ---- the pattern of a number
 
--- the digits of k * hid + w and how far up they stand, where w has the leading digit, and where it is one more than a format's digits can be
+-- the digits of k * hid + w and how far up they stand, where w has the leading digit, and where it is one more than a
+-- format's digits can be
 sum-digits : (f : Format) (k w : ℕ) → hid f ≤ w → w ≤ 2 * hid f → (hid f + (k * hid f + w) % hid f) * 2 ^ ((k * hid f + w) / hid f - 1) ≡ w * 2 ^ k
 sum-digits f k w h most = elim (lt-or-ge w (2 * hid f)) [
   | inl l ↦
@@ -146,7 +151,8 @@ sum-digits f k w h most = elim (lt-or-ge w (2 * hid f)) [
     doubled binary32 k w h l = omega arith
     doubled binary64 k w h l = omega arith
 
--- w of the format's digits, k places up, stand for the pattern k * hid + w: the leading digit adds one to the field, and so does a carry out of the digits.
+-- w of the format's digits, k places up, stand for the pattern k * hid + w: the leading digit adds one to the field,
+-- and so does a carry out of the digits.
 pub value-of-sum : (f : Format) (s : Bool) (k w : ℕ) → (k ≡ 0) ⊎ (hid f ≤ w) → w ≤ 2 * hid f → k * hid f + w < ones f * hid f
     → HasValue (ofBits f (signed f s (k * hid f + w))) s (w * 2 ^ k) (2 ^ low f)
 value-of-sum f s k w lead most h = elim (lt-or-ge w (hid f)) [

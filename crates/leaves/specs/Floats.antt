@@ -1,5 +1,7 @@
--- The float leaves in the words of document 01, over the kit's account of IEEE 754 (`lib.Ieee`), where a float is `nan`, `inf s` or `fin s m e`:
--- the number m * 2 ^ e, negative where s is true. One definition serves binary32 and binary64. 2 ^ e is the fraction `up e / down e`. Definitions only.
+-- The float leaves, in the words of document 01 where a comment quotes it, over the kit's account of IEEE 754 (`lib.Ieee`).
+-- There a float is `nan`, `inf s` or `fin s m e`: the number m * 2 ^ e, negative where s is true. 2 ^ e is the fraction
+-- `up e / down e`, and `round f s a b` is the float of the format f nearest to a / b, with the sign s, a tie going to the
+-- even one. One definition serves both formats. Widening has none: the number stays what it is. Definitions only.
 use Prim.Native.Nat.{ℕ, _+_, _*_, _/_}
 use mathlib.Core.Bool.{Bool, true, false, cond, _&&_}
 use lib.IntN.{pos}
@@ -11,13 +13,13 @@ finite nan = false
 finite (inf s) = false
 finite (fin s m e) = true
 
--- the number without its sign
+-- "magnitude": the number without its sign
 abbrev pub magnitude : Float → Float
 magnitude nan = nan
 magnitude (inf s) = inf false
 magnitude (fin s m e) = fin false m e
 
--- 65,536, which is 1 * 2 ^ 16: the largest magnitude of a sample in range
+-- 65,536, as 1 * 2 ^ 16
 abbrev pub largest : Float
 largest = fin false 1 (pos 16)
 
@@ -33,7 +35,8 @@ narrowed nan = nan
 narrowed (inf s) = inf s
 narrowed (fin s m e) = round binary32 s (m * up e) (down e)
 
--- "round to whole, halves away from zero": without its sign, a / b becomes the whole part of a / b + 1 / 2. The sign stays, also of a zero.
+-- "round to whole, halves away from zero": without its sign, a / b becomes the whole part of a / b + 1 / 2, which is
+-- (2 * a + b) / (2 * b). The sign stays, also of a zero.
 unfoldable pub rounded : Float → Float
 unfolding round
 rounded nan = nan
@@ -49,7 +52,7 @@ unfoldable pub smaller : Float → Float → Float
 unfolding lt isNan
 smaller a b = cond (isNan a) b (cond (lt b a) b a)
 
--- "held to lo..hi", Rust's `clamp`: x, or the end that it lies beyond; a NaN stays one
+-- "held to" low .. high, as Rust's `clamp`: x, or the end that it lies beyond. A NaN lies beyond neither.
 unfoldable pub held : Float → Float → Float → Float
 unfolding lt
-held lo hi x = cond (lt x lo) lo (cond (lt hi x) hi x)
+held low high x = cond (lt x low) low (cond (lt high x) high x)

@@ -1,26 +1,39 @@
--- The rows of "Sums done by hand" that concern the leaves, and the roots at the edges of a binade: what the rules give beside what it should be, as bit patterns.
--- The table of all rows takes `leafRows` and `leafShould` in as its first part.
+-- The rows of "Sums done by hand" that concern the leaves, and the roots at the edges of a binade: what the rules give
+-- beside what it should be, as bit patterns. The table of all rows takes `leafRows` and `leafShould` in as its first part.
 use Prim.Native.Nat.{ℕ, _-_, _^_}
 use mathlib.Core.Path.{_≡_, refl}
 use mathlib.Core.Bool.{true, false}
-use mathlib.Core.List.{List, [], _∷_}
-use lib.IntN.{pos, negsuc}
-use lib.Ieee.{fin, binary32, binary64, toBits}
+use mathlib.Core.List.{List, [], _∷_, map}
+use lib.IntN.{pos}
+use lib.Ieee.{Float, fin, minus, binary32, binary64, toBits}
 use Rattle.leaves.specs.Floats.{narrowed, rounded}
 use Rattle.leaves.specs.Root.{root}
 
--- `negsuc k` is the exponent -(k + 1)
+-- the patterns of what a rule gives for each number
+unfoldable pub roots : List Float → List ℕ
+unfolding root toBits
+roots = map (λ x. toBits binary64 (root x))
+
+unfoldable pub wholes : List Float → List ℕ
+unfolding rounded toBits
+wholes = map (λ x. toBits binary32 (rounded x))
+
+unfoldable pub narrows : List Float → List ℕ
+unfolding narrowed toBits
+narrows = map (λ x. toBits binary32 (narrowed x))
+
+-- `fin s m (minus 0 k)` is m / 2 ^ k, negative where s is true
 unfoldable pub leafRows : List (List ℕ)
-unfolding root rounded narrowed toBits
+unfolding roots wholes narrows
 leafRows =
-    -- the roots of 2.25 and of 2 ^ -1074
-    (toBits binary64 (root (fin false 9 (negsuc 1))) ∷ toBits binary64 (root (fin false 1 (negsuc 1073))) ∷ [])
-    -- 2.5, -2.5 and -0.25 to whole
-    ∷ (toBits binary32 (rounded (fin false 5 (negsuc 0))) ∷ toBits binary32 (rounded (fin true 5 (negsuc 0))) ∷ toBits binary32 (rounded (fin true 1 (negsuc 1))) ∷ [])
-    -- 1 + 2 ^ -24 and 1 + 3 * 2 ^ -24 narrowed
-    ∷ (toBits binary32 (narrowed (fin false 16777217 (negsuc 23))) ∷ toBits binary32 (narrowed (fin false 16777219 (negsuc 23))) ∷ [])
-    -- the roots of 1 - 2 ^ -53, of 4 - 2 ^ -51 and of the largest double
-    ∷ (toBits binary64 (root (fin false (2 ^ 53 - 1) (negsuc 52))) ∷ toBits binary64 (root (fin false (2 ^ 53 - 1) (negsuc 50))) ∷ toBits binary64 (root (fin false (2 ^ 53 - 1) (pos 971))) ∷ [])
+    -- 2.25 and 2 ^ -1074
+    roots (fin false 9 (minus 0 2) ∷ fin false 1 (minus 0 1074) ∷ [])
+    -- 2.5, -2.5 and -0.25
+    ∷ wholes (fin false 5 (minus 0 1) ∷ fin true 5 (minus 0 1) ∷ fin true 1 (minus 0 2) ∷ [])
+    -- 1 + 2 ^ -24 and 1 + 3 * 2 ^ -24
+    ∷ narrows (fin false 16777217 (minus 0 24) ∷ fin false 16777219 (minus 0 24) ∷ [])
+    -- 1 - 2 ^ -53, 4 - 2 ^ -51 and the largest double
+    ∷ roots (fin false (2 ^ 53 - 1) (minus 0 53) ∷ fin false (2 ^ 53 - 1) (minus 0 51) ∷ fin false (2 ^ 53 - 1) (pos 971) ∷ [])
     ∷ []
 
 unfoldable pub leafShould : List (List ℕ)

@@ -1,8 +1,9 @@
--- What an f64 without its sign narrows to, by the field of its exponent: a law for each line of the table above `narrow_pattern`. Assumes nothing.
-use mathlib.Core.Path.{_≡_, refl, sym, ap, _∙_, subst}
-use mathlib.Core.Logic.{_⊎_, inl, inr}
-use Prim.Native.Nat.{ℕ, zero, suc, _+_, _-_, _*_, _/_, _%_, _^_, _≤_, _<_}
-use native.Mathlib.Nat.{le-refl, le-trans, le-of-eq, lt-of-lt-of-le, lt-of-le-of-lt, eq-or-lt-of-le, mul-one, mul-le-mul, mod-le, div-eq-of-lt, zero-mul, zero-add, add-zero}
+-- What an f64 without its sign narrows to, by the field of its exponent: a law for each line of the table above
+-- `narrow_pattern`. Assumes nothing.
+use mathlib.Core.Path.{_≡_, refl, sym, ap, _∙_}
+use mathlib.Core.Logic.{inl, inr}
+use Prim.Native.Nat.{ℕ, _+_, _-_, _*_, _/_, _%_, _^_, _≤_, _<_}
+use native.Mathlib.Nat.{lt-of-lt-of-le, eq-or-lt-of-le, mul-one, mul-le-mul, mod-le, div-eq-of-lt, zero-add}
 use native.Mathlib.Omega.{arith}
 use mathlib.Core.Bool.{Bool, true, false}
 use lib.Pow.{pow-pos, pow-mono, shr-lt}
@@ -18,7 +19,8 @@ use Rattle.leaves.specs.Floats.{narrowed}
 use Rattle.leaves.specs.Steps.{signed}
 use Rattle.leaves.proofs.Numbers.{lt-or-ge}
 use Rattle.leaves.proofs.Values.{no-number, value-of-tail, value-of-digits}
-use Rattle.leaves.proofs.Rounding.{round-digits, round-pattern, units-over, closest-down, closest-least, closest-most}
+use Rattle.leaves.proofs.Rounding.{round-digits, round-pattern, units-over, closest-down, closest-least}
+use Rattle.leaves.proofs.Rounding.{closest-most}
 
 -- r is the f32 pattern that bits narrow to, with either sign
 abbrev pub Narrows : ℕ → ℕ → Type 0
@@ -93,12 +95,14 @@ at-normal bits w least most e =
     let high : w ≤ 16777216 = rw e (kept-most (digits bits) (omega arith) (omega arith)) in (
       omega arith,
       λ s.
-          round-pattern binary32 s (digits bits * 2 ^ place bits) (2 ^ 1074) (up-by bits) w (rw e (normal-units s bits least)) (inr low) high (omega arith)
+          round-pattern binary32 s (digits bits * 2 ^ place bits) (2 ^ 1074) (up-by bits) w (rw e (normal-units s bits least))
+          (inr low) high (omega arith)
           ∙ sym (finite s bits (omega arith) (omega arith)),
     )
 
 -- from 2 ^ 128 on: the digits stand so far up that the number is beyond the largest f32
-overflow : (s : Bool) (bits : ℕ) → 1151 ≤ bits / 4503599627370496 → bits < 0x7ff0000000000000 → narrowed (ofBits binary64 (signed binary64 s bits)) ≡ inf s
+overflow : (s : Bool) (bits : ℕ) → 1151 ≤ bits / 4503599627370496 → bits < 0x7ff0000000000000
+    → narrowed (ofBits binary64 (signed binary64 s bits)) ≡ inf s
 overflow s bits least h =
     finite s bits (omega arith) h
     ∙ normal-units s bits (omega arith)
@@ -117,8 +121,10 @@ at-infinity bits most least = (
 -- ---- a subnormal f32, and zero
 
 -- q * 2 ^ j / 2 ^ 1074 below the normal range: q less the digits that stand below the least f32
-few-units : (s : Bool) (q j d : ℕ) → j + d ≡ 925 → 29 ≤ d → q < 2 ^ 53 → round binary32 s (q * 2 ^ j) (2 ^ 1074) ≡ units binary32 s (closest q (2 ^ d)) 0
-few-units s q j d e h small = round-digits binary32 s q j 1074 d 0 (omega arith) (lt-of-lt-of-le small (pow-mono {i = 53} (omega arith))) (inl refl)
+few-units : (s : Bool) (q j d : ℕ) → j + d ≡ 925 → 29 ≤ d → q < 2 ^ 53
+    → round binary32 s (q * 2 ^ j) (2 ^ 1074) ≡ units binary32 s (closest q (2 ^ d)) 0
+few-units s q j d e h small =
+    round-digits binary32 s q j 1074 d 0 (omega arith) (lt-of-lt-of-le small (pow-mono {i = 53} (omega arith))) (inl refl)
 
 few-pattern : (s : Bool) (q j d w : ℕ) → j + d ≡ 925 → 29 ≤ d → q < 2 ^ 53 → w ≡ closest q (2 ^ d) → w ≤ 16777216
     → ofBits binary32 (signed binary32 s w) ≡ round binary32 s (q * 2 ^ j) (2 ^ 1074)
@@ -134,7 +140,9 @@ at-subnormal bits w least most e =
     let whole : digits bits / 2 ^ d < 2 ^ 24 = shr-lt 24 d (lt-of-lt-of-le {m = 2 ^ 53} (omega arith) (pow-mono {i = 53} (omega arith))) in
     let high : w ≤ 16777216 = rw e (omega (arith, closest-most (digits bits) (2 ^ d))) in (
       omega arith,
-      λ s. few-pattern s (digits bits) (place bits) d w (omega arith) (omega arith) (omega arith) e high ∙ sym (finite s bits (omega arith) (omega arith)),
+      λ s.
+          few-pattern s (digits bits) (place bits) d w (omega arith) (omega arith) (omega arith) e high
+          ∙ sym (finite s bits (omega arith) (omega arith)),
     )
 
 -- less than half of the least f32, or just half of it, is nearest to nothing
@@ -166,7 +174,12 @@ module _ (x : Float) (holds : T (fits binary64 x)) (bits : ℕ) (of-x : bits ≡
   back = ap (ofBits binary64) of-x ∙ ofBits-toBits binary64 x holds
 
   pub with-no-sign : Narrows bits r → y ≡ ofBits binary32 r → y ≡ narrowed x
-  with-no-sign n is = is ∙ ap (ofBits binary32) (sym (zero-add r)) ∙ n .1 false ∙ ap (λ (b : ℕ). narrowed (ofBits binary64 b)) (zero-add bits) ∙ ap narrowed back
+  with-no-sign n is =
+      is
+      ∙ ap (ofBits binary32) (sym (zero-add r))
+      ∙ n .1 false
+      ∙ ap (λ (b : ℕ). narrowed (ofBits binary64 b)) (zero-add bits)
+      ∙ ap narrowed back
 
   pub with-sign : 0x8000000000000000 ≤ bits → Narrows (bits - 0x8000000000000000) r → y ≡ ofBits binary32 (0x80000000 + r) → y ≡ narrowed x
   with-sign h n is =

@@ -1,8 +1,10 @@
--- The meaning of the square root and the function that the rules compute with say the same: `root x` has the meaning (`meets`), nothing else has it (`only`),
+-- The meaning of the square root and the function that the rules compute with say the same: `root x` has the meaning
+-- (`meets`), nothing else has it (`only`),
 -- so whatever has it is `root x` (`agree`). For doubles. Assumes nothing.
 use mathlib.Core.Path.{_≡_, refl, sym, ap, _∙_, subst}
 use Prim.Native.Nat.{ℕ, zero, suc, _+_, _*_, _/_, _%_, _^_, _≤_, _<_}
-use native.Mathlib.Nat.{le-of-eq, lt-of-lt-of-le, zero-lt-suc, mul-assoc, mul-right-comm, mul-lt-mul-of-pos-right, mul-div-cancel, div-lt-iff-lt-mul}
+use native.Mathlib.Nat.{le-of-eq, lt-of-lt-of-le, zero-lt-suc, mul-assoc, mul-right-comm, mul-lt-mul-of-pos-right}
+use native.Mathlib.Nat.{mul-div-cancel, div-lt-iff-lt-mul}
 use native.Mathlib.Omega.{arith}
 use mathlib.Core.Bool.{Bool, true, false, _&&_}
 use lib.IntN.{ℤ}
@@ -15,11 +17,13 @@ use lib.Ieee.Exact.{HasValue}
 use Rattle.leaves.specs.Root.{Nearest, NearestRoot, SquareRoot, nearestRoot, rootOfUnits, root}
 use Rattle.leaves.proofs.Values.{same-value}
 use Rattle.leaves.proofs.root.Squares.{nearest-only, nearest-root-is, nearest-most}
-use Rattle.leaves.proofs.root.Scales.{same-fraction, rescaled, units-of, scale-only, round-scaled, half, Scaled, scaled}
+use Rattle.leaves.proofs.root.Scales.{same-fraction, rescaled, units-of, scale-only, round-scaled, half, Scaled}
+use Rattle.leaves.proofs.root.Scales.{scaled}
 
 -- ---- the function has the meaning
 
--- what it takes for m * 2 ^ e to be a double: m has 53 digits at most, the number is a multiple of the least double, and it is below 2 ^ 1024
+-- what it takes for m * 2 ^ e to be a double: m has 53 digits at most, the number is a multiple of the least double,
+-- and it is below 2 ^ 1024
 record Double (m : ℕ) (e : ℤ) : Type 0 where
   few : m < 2 ^ 53
   fine : down e ≤ 2 ^ 1074
@@ -72,7 +76,8 @@ result a q h few =
     let fine : 53 + (half a + 484) < 2098 = omega arith in
     round-scaled binary64 false q (half a) 590 484 few refl fine
 
--- The scale of 53 digits and the number nearest to the root there: what the function says of a positive double is what the meaning asks.
+-- The scale of 53 digits and the number nearest to the root there: what the function says of a positive double is what
+-- the meaning asks.
 of-units : (m : ℕ) (e : ℤ) (a : ℕ) → 0 < m → m < 2 ^ 53 → Units m e a → NearestRoot (fin false m e) (rootOfUnits a)
 of-units m e a p few u =
     let k = half a in
@@ -119,7 +124,8 @@ meets (fin false (suc m) e) t = positive m e (double-of false m e t)
 appended : (b n u v : ℕ) → n * b ^ u * b ^ v ≡ n * b ^ (u + v)
 appended b n u v = mul-assoc n (b ^ u) (b ^ v) ∙ ap (λ (z : ℕ). n * z) (sym (pow-add b u v))
 
--- Two roots of one number: the scale at which it has 105 or 106 digits is the same for both, so the number there is, and so is the number nearest to its root.
+-- Two roots of one number: the scale at which it has 105 or 106 digits is the same for both, so the number there is,
+-- and so is the number nearest to its root.
 pub nearest-root-only : (x r r' : Float) → T (fits binary64 r) → T (fits binary64 r') → NearestRoot x r → NearestRoot x r' → r ≡ r'
 nearest-root-only x r r' t t' h h' =
     let cross : h .n * 4 ^ h .u * 4 ^ h' .v ≡ h' .n * 4 ^ h' .u * 4 ^ h .v =

@@ -1,11 +1,15 @@
--- Numbers scaled by powers of 2 and of 4: the fractions that one float is, a number's one scale of a given length, where a scaled number rounds to itself,
+-- Numbers scaled by powers of 2 and of 4: the fractions that one float is, a number's one scale of a given length,
+-- where a scaled number rounds to itself,
 -- and the scale at which the root of a double has 53 digits. Assumes nothing.
 use mathlib.Core.Path.{_≡_, refl, sym, ap, _∙_, subst}
 use mathlib.Core.Logic.{inl, inr}
 use Prim.Native.Nat.{ℕ, zero, suc, _+_, _-_, _*_, _/_, _^_, _≤_, _<_}
-use native.Mathlib.Nat.{le-trans, le-of-eq, le-antisymm, le-of-suc-le-suc, lt-of-lt-of-le, lt-of-le-of-lt, lt-of-not-le, not-le-of-lt, zero-lt-suc}
-use native.Mathlib.Nat.{mul-assoc, mul-comm, mul-right-comm, mul-one, one-mul, mul-pos, mul-le-mul, mul-le-mul-right, mul-lt-mul-of-pos-right, mul-div-cancel}
-use native.Mathlib.Nat.{eq-of-mul-eq-mul-right, le-of-mul-le-mul-right, lt-of-mul-lt-mul-right, sub-add-cancel, one-le-pow, pow-succ', pow-le-pow-right}
+use native.Mathlib.Nat.{le-trans, le-of-eq, le-antisymm, le-of-suc-le-suc, lt-of-lt-of-le, lt-of-le-of-lt, lt-of-not-le}
+use native.Mathlib.Nat.{not-le-of-lt, zero-lt-suc}
+use native.Mathlib.Nat.{mul-assoc, mul-comm, mul-right-comm, mul-one, one-mul, mul-pos, mul-le-mul, mul-le-mul-right}
+use native.Mathlib.Nat.{mul-lt-mul-of-pos-right, mul-div-cancel}
+use native.Mathlib.Nat.{eq-of-mul-eq-mul-right, le-of-mul-le-mul-right, lt-of-mul-lt-mul-right, sub-add-cancel}
+use native.Mathlib.Nat.{one-le-pow, pow-succ', pow-le-pow-right}
 use native.Mathlib.Omega.{arith}
 use mathlib.Core.Bool.{Bool}
 use lib.IntN.{ℤ, pos, negsuc}

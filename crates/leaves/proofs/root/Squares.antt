@@ -1,7 +1,8 @@
 -- Squares of whole numbers, for the root of `specs/Root.antt`: the turns of the method by hand, the rounding at its end,
 -- that one number only is nearest to a root, and that `nearestRoot` gives it. Assumes nothing.
 use Prim.Native.Nat.{ℕ, zero, suc, _+_, _-_, _*_, _/_, _%_, _^_, _≤_, _<_, zero-le}
-use native.Mathlib.Nat.{le-antisymm, le-trans, lt-of-lt-of-le, lt-of-not-le, not-le-of-lt, zero-lt-suc, add-assoc, pow-succ', two-pow-succ}
+use native.Mathlib.Nat.{le-antisymm, le-trans, lt-of-lt-of-le, lt-of-not-le, not-le-of-lt, zero-lt-suc, add-assoc}
+use native.Mathlib.Nat.{pow-succ', two-pow-succ}
 use native.Mathlib.Nat.{add-mul, mul-add, mul-comm, mul-le-mul, mul-left-comm, mul-mul-mul-comm, mul-one, one-mul}
 use native.Mathlib.Numerals.{add-one}
 use native.Mathlib.Omega.{arith}
@@ -36,7 +37,8 @@ square-of-doubled a = ap (λ (x : ℕ). x * x) (mul-comm a 2) ∙ square-of-doub
 
 -- ---- the method by hand
 
--- After some turns: the digits taken are root * root + rest, and root is their whole root. What is left stands below them, the next two digits on top.
+-- After some turns: the digits taken are root * root + rest, and root is their whole root. What is left stands below
+-- them, the next two digits on top.
 pub record Taken (digits left rest root turns : ℕ) : Type 0 where
   pub few : turns ≤ 53
   pub short : left < 2 ^ 54
@@ -96,7 +98,8 @@ nearest-next n q low high =
     let next = square-of-next q in
     record { above = rw under (omega arith); below = omega arith }
 
--- n is root * root + rest, and root its whole root. Where rest is above root, the root is above root + 1/2, since n is whole.
+-- n is root * root + rest, and root its whole root. Where rest is above root, the root is above root + 1/2, since n is
+-- whole.
 pub nearest-up : (n rest root : ℕ) → n ≡ root * root + rest → rest ≤ 2 * root → root < rest → Nearest n (root + 1)
 nearest-up n rest root e w l = nearest-next n root (omega arith) (omega arith)
 

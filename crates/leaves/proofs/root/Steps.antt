@@ -1,9 +1,11 @@
--- The way from a double to the form that `nearest_root` takes, and back: its 53 digits and their scale, the pattern of the root, and the doubles that have no such root.
+-- The way from a double to the form that `nearest_root` takes, and back: its 53 digits and their scale, the pattern of
+-- the root, and the doubles that have no such root.
 -- Assumes nothing.
 use mathlib.Core.Path.{_≡_, refl, sym, ap, _∙_, subst}
 use mathlib.Core.Logic.{inl, inr}
 use Prim.Native.Nat.{ℕ, zero, suc, _+_, _-_, _*_, _/_, _%_, _^_, _≤_, _<_}
-use native.Mathlib.Nat.{le-trans, lt-of-lt-of-le, lt-of-not-le, not-le-of-lt, mul-le-mul-right, mod-eq-of-lt, pos-of-ne-zero, mul-pos, zero-lt-suc, mul-assoc, mul-comm, mul-left-comm, mul-one, mul-le-mul-left, zero-add}
+use native.Mathlib.Nat.{le-trans, lt-of-lt-of-le, lt-of-not-le, not-le-of-lt, mul-le-mul-right, mod-eq-of-lt}
+use native.Mathlib.Nat.{pos-of-ne-zero, mul-pos, zero-lt-suc, mul-assoc, mul-comm, mul-one, mul-le-mul-left, zero-add}
 use native.Mathlib.Omega.{arith}
 use mathlib.Core.Bool.{Bool, true, false, cond, and-eq-true-iff, true≢false, false≢true}
 use lib.IntN.{ℤ, pos}
@@ -42,7 +44,10 @@ even-most digits scale h =
 parity : (k : ℕ) → 2 ^ k ≡ (1 + k % 2) * 4 ^ (k / 2)
 parity k =
     let halves : k ≡ k % 2 + (k / 2 + k / 2) = omega arith in
-    ap (λ (z : ℕ). 2 ^ z) halves ∙ pow-add 2 (k % 2) (k / 2 + k / 2) ∙ ap (λ (z : ℕ). 2 ^ (k % 2) * z) (sym (four (k / 2))) ∙ ap (λ (z : ℕ). z * 4 ^ (k / 2)) (bit (k % 2) (omega arith))
+    ap (λ (z : ℕ). 2 ^ z) halves
+    ∙ pow-add 2 (k % 2) (k / 2 + k / 2)
+    ∙ ap (λ (z : ℕ). 2 ^ (k % 2) * z) (sym (four (k / 2)))
+    ∙ ap (λ (z : ℕ). z * 4 ^ (k / 2)) (bit (k % 2) (omega arith))
   where
     bit : (b : ℕ) → b < 2 → 2 ^ b ≡ 1 + b
     bit zero h = refl
@@ -52,51 +57,59 @@ parity k =
 regroup : (d b p s t : ℕ) → d * (b * p) * (s * t) ≡ d * b * s * p * t
 regroup d b p s t = simp (mul-assoc, mul-comm)
 
-module _ (digits scale : ℕ) (least : 2 ^ 52 ≤ digits) (most : digits < 2 ^ 53) (within : scale ≤ 2097) (q : ℕ) (near : Nearest (even digits scale * 2 ^ 52) q) where
-  n-least : 4 ^ 52 ≤ even digits scale * 2 ^ 52
-  n-least = omega (arith, even-least digits scale least)
+module _
+    (digits scale : ℕ)
+    (least : 2 ^ 52 ≤ digits)
+    (most : digits < 2 ^ 53)
+    (within : scale ≤ 2097)
+    (q : ℕ)
+    (near : Nearest (even digits scale * 2 ^ 52) q)
+  where
+    n-least : 4 ^ 52 ≤ even digits scale * 2 ^ 52
+    n-least = omega (arith, even-least digits scale least)
 
-  n-most : even digits scale * 2 ^ 52 < 4 ^ 53
-  n-most = omega (arith, even-most digits scale most)
+    n-most : even digits scale * 2 ^ 52 < 4 ^ 53
+    n-most = omega (arith, even-most digits scale most)
 
-  q-least : 2 ^ 52 ≤ q
-  q-least = nearest-least (even digits scale * 2 ^ 52) q n-least near
+    q-least : 2 ^ 52 ≤ q
+    q-least = nearest-least (even digits scale * 2 ^ 52) q n-least near
 
-  pub q-most : q ≤ 2 ^ 53
-  q-most = nearest-most (even digits scale * 2 ^ 52) q n-most near
+    pub q-most : q ≤ 2 ^ 53
+    q-most = nearest-most (even digits scale * 2 ^ 52) q n-most near
 
-  -- x is n * 4 ^ u / 4 ^ 589, for n the even digits with 52 zeros appended and u half of the scale
-  of-double : (x : Float) → HasValue x false (digits * 2 ^ scale) (2 ^ 1126) → HasValue x false (even digits scale * 2 ^ 52 * 4 ^ (scale / 2)) (4 ^ 589)
-  of-double x v =
-      rescaled x false (digits * 2 ^ scale) (2 ^ 1126) (even digits scale * 2 ^ 52 * 4 ^ (scale / 2)) (4 ^ 589) (pow-pos 1126)
-      (ap (λ (z : ℕ). digits * z * 4 ^ 589) (parity scale) ∙ regroup digits (1 + scale % 2) (4 ^ (scale / 2)) (2 ^ 52) (2 ^ 1126)) v
+    -- x is n * 4 ^ u / 4 ^ 589, for n the even digits with 52 zeros appended and u half of the scale
+    of-double : (x : Float) → HasValue x false (digits * 2 ^ scale) (2 ^ 1126)
+        → HasValue x false (even digits scale * 2 ^ 52 * 4 ^ (scale / 2)) (4 ^ 589)
+    of-double x v =
+        rescaled x false (digits * 2 ^ scale) (2 ^ 1126) (even digits scale * 2 ^ 52 * 4 ^ (scale / 2)) (4 ^ 589) (pow-pos 1126)
+        (ap (λ (z : ℕ). digits * z * 4 ^ 589) (parity scale) ∙ regroup digits (1 + scale % 2) (4 ^ (scale / 2)) (2 ^ 52) (2 ^ 1126)) v
 
-  -- the pattern that is put together has the value q * 2 ^ u / 2 ^ 589
-  of-root : HasValue (ofBits binary64 ((scale / 2 + 485) * 4503599627370496 + q)) false (q * 2 ^ (scale / 2)) (2 ^ 589)
-  of-root =
-      let k = scale / 2 + 485 in
-      let sum = k * 4503599627370496 + q in
-      let value : HasValue (ofBits binary64 sum) false (q * 2 ^ k) (2 ^ 1074) =
-      subst (λ (b : ℕ). HasValue (ofBits binary64 b) false (q * 2 ^ k) (2 ^ 1074)) (zero-add sum)
-      (value-of-sum binary64 false k q (inr q-least) q-most (omega (arith, q-most))) in
-      rescaled (ofBits binary64 sum) false (q * 2 ^ k) (2 ^ 1074) (q * 2 ^ (scale / 2)) (2 ^ 589) (pow-pos 1074)
-      (ap (λ (z : ℕ). q * z * 2 ^ 589) (pow-add 2 (scale / 2) 485) ∙ regrouped q (2 ^ (scale / 2)) (2 ^ 485) (2 ^ 589)) value
-    where
-      regrouped : (a b c d : ℕ) → a * (b * c) * d ≡ a * b * (c * d)
-      regrouped a b c d = simp mul-assoc
+    -- the pattern that is put together has the value q * 2 ^ u / 2 ^ 589
+    of-root : HasValue (ofBits binary64 ((scale / 2 + 485) * 4503599627370496 + q)) false (q * 2 ^ (scale / 2)) (2 ^ 589)
+    of-root =
+        let k = scale / 2 + 485 in
+        let sum = k * 4503599627370496 + q in
+        let value : HasValue (ofBits binary64 sum) false (q * 2 ^ k) (2 ^ 1074) =
+        subst (λ (b : ℕ). HasValue (ofBits binary64 b) false (q * 2 ^ k) (2 ^ 1074)) (zero-add sum)
+        (value-of-sum binary64 false k q (inr q-least) q-most (omega (arith, q-most))) in
+        rescaled (ofBits binary64 sum) false (q * 2 ^ k) (2 ^ 1074) (q * 2 ^ (scale / 2)) (2 ^ 589) (pow-pos 1074)
+        (ap (λ (z : ℕ). q * z * 2 ^ 589) (pow-add 2 (scale / 2) 485) ∙ regrouped q (2 ^ (scale / 2)) (2 ^ 485) (2 ^ 589)) value
+      where
+        regrouped : (a b c d : ℕ) → a * (b * c) * d ≡ a * b * (c * d)
+        regrouped a b c d = simp mul-assoc
 
-  pub scaled-root-is : (r : Float) → r ≡ ofBits binary64 ((scale / 2 + 485) * 4503599627370496 + q)
-      → (x : Float) → HasValue x false (digits * 2 ^ scale) (2 ^ 1126) → NearestRoot x r
-  scaled-root-is r is x v = record {
-    n = even digits scale * 2 ^ 52;
-    q = q;
-    u = scale / 2;
-    v = 589;
-    of-x = of-double x v;
-    of-r = subst (λ (y : Float). HasValue y false (q * 2 ^ (scale / 2)) (2 ^ 589)) (sym is) of-root;
-    digits = (n-least, n-most);
-    nearest = near;
-  }
+    pub scaled-root-is : (r : Float) → r ≡ ofBits binary64 ((scale / 2 + 485) * 4503599627370496 + q)
+        → (x : Float) → HasValue x false (digits * 2 ^ scale) (2 ^ 1126) → NearestRoot x r
+    scaled-root-is r is x v = record {
+      n = even digits scale * 2 ^ 52;
+      q = q;
+      u = scale / 2;
+      v = 589;
+      of-x = of-double x v;
+      of-r = subst (λ (y : Float). HasValue y false (q * 2 ^ (scale / 2)) (2 ^ 589)) (sym is) of-root;
+      digits = (n-least, n-most);
+      nearest = near;
+    }
 
 -- ---- from a pattern to 53 digits and a scale
 
@@ -107,7 +120,8 @@ normal-value bits least most =
     let digits = 4503599627370496 + bits % 4503599627370496 in
     let j = bits / 4503599627370496 - 1 in
     let value : HasValue (ofBits binary64 bits) false (digits * 2 ^ j) (2 ^ 1074) =
-    subst (λ (b : ℕ). HasValue (ofBits binary64 b) false (digits * 2 ^ j) (2 ^ 1074)) (zero-add bits) (value-of-digits binary64 false bits least most) in
+    subst (λ (b : ℕ). HasValue (ofBits binary64 b) false (digits * 2 ^ j) (2 ^ 1074)) (zero-add bits)
+    (value-of-digits binary64 false bits least most) in
     let places : bits / 4503599627370496 + 51 ≡ j + 52 = omega arith in
     rescaled (ofBits binary64 bits) false (digits * 2 ^ j) (2 ^ 1074) (digits * 2 ^ (bits / 4503599627370496 + 51)) (2 ^ 1126) (pow-pos 1074)
     (moved digits (2 ^ j) (2 ^ 52) (2 ^ 1074) ∙ ap (λ (z : ℕ). digits * z * 2 ^ 1074) (sym (ap (λ (z : ℕ). 2 ^ z) places ∙ pow-add 2 j 52))) value
@@ -115,7 +129,8 @@ normal-value bits least most =
     moved : (d p s t : ℕ) → d * p * (s * t) ≡ d * (p * s) * t
     moved d p s t = simp mul-assoc
 
--- Of a subnormal double's digits a, below 2 ^ 52, 64 less the leading zeros are there: moved up by 11 fewer places than those zeros they are 53.
+-- Of a subnormal double's digits a, below 2 ^ 52, 64 less the leading zeros are there: moved up by 11 fewer places than
+-- those zeros they are 53.
 pub record Raised (a : ℕ) : Type 0 where
   pub eleven : 11 ≤ leadingZeros 64 a
   pub few : leadingZeros 64 a - 11 ≤ 52
@@ -130,7 +145,8 @@ raised a some small =
     let shift = leadingZeros 64 a - 11 in
     let place : j < 52 = lt-of-not-le (λ (g : 52 ≤ j). not-le-of-lt small (le-trans (pow-mono g) (top .2))) in
     let sum : j + shift ≡ 52 = omega (arith, top .1) in
-    let least : 2 ^ 52 ≤ a * 2 ^ shift = subst (λ (z : ℕ). z ≤ a * 2 ^ shift) (sym (pow-add 2 j shift) ∙ ap (λ (z : ℕ). 2 ^ z) sum) (mul-le-mul-right (2 ^ shift) (top .2)) in
+    let power : 2 ^ j * 2 ^ shift ≡ 2 ^ 52 = sym (pow-add 2 j shift) ∙ ap (λ (z : ℕ). 2 ^ z) sum in
+    let least : 2 ^ 52 ≤ a * 2 ^ shift = subst (λ (z : ℕ). z ≤ a * 2 ^ shift) power (mul-le-mul-right (2 ^ shift) (top .2)) in
     let next : suc j + shift ≡ 53 = omega arith in
     let most : a * 2 ^ shift < 2 ^ 53 = subst (λ (z : ℕ). a * 2 ^ shift < 2 ^ z) next (shl-lt (suc j) shift (top .3)) in
     let whole : (a * 2 ^ shift) % 2 ^ 64 ≡ a * 2 ^ shift = mod-eq-of-lt (lt-of-lt-of-le most (omega arith)) in
@@ -154,8 +170,10 @@ subnormal-value bits none r =
     subst (λ (b : ℕ). HasValue (ofBits binary64 b) false a (2 ^ 1074)) all (value-of-tail binary64 false a (omega arith)) in
     let places : shift + (52 - shift) ≡ 52 = omega (arith, r .few) in
     let power : 2 ^ shift * 2 ^ (52 - shift) ≡ 2 ^ 52 = sym (pow-add 2 shift (52 - shift)) ∙ ap (λ (z : ℕ). 2 ^ z) places in
+    let raised-is : (a * 2 ^ shift) % 2 ^ 64 * 2 ^ (52 - shift) ≡ a * 2 ^ 52 =
+    ap (λ (z : ℕ). z * 2 ^ (52 - shift)) (r .whole) ∙ mul-assoc a (2 ^ shift) (2 ^ (52 - shift)) ∙ ap (λ (z : ℕ). a * z) power in
     rescaled (ofBits binary64 bits) false a (2 ^ 1074) ((a * 2 ^ shift) % 2 ^ 64 * 2 ^ (52 - shift)) (2 ^ 1126) (pow-pos 1074)
-    (sym (mul-assoc a (2 ^ 52) (2 ^ 1074)) ∙ ap (λ (z : ℕ). z * 2 ^ 1074) (sym (ap (λ (z : ℕ). z * 2 ^ (52 - shift)) (r .whole) ∙ mul-assoc a (2 ^ shift) (2 ^ (52 - shift)) ∙ ap (λ (z : ℕ). a * z) power))) value
+    (sym (mul-assoc a (2 ^ 52) (2 ^ 1074)) ∙ ap (λ (z : ℕ). z * 2 ^ 1074) (sym raised-is)) value
 
 -- ---- the doubles that have no such root, and the rest
 
@@ -201,14 +219,15 @@ zeros-equal true e = rw (eq-eqb (0 * up e * 1) (0 * down e) (omega arith), eq-eq
 zeros-equal false e = rw (eq-eqb (0 * up e * 1) (0 * down e) (omega arith))
 
 -- what is left is finite and positive
-pub positive : (x : Float) → ne x x ≡ false → lt x (fin false 0 (pos 0)) ≡ false → eq x (fin false 0 (pos 0)) ≡ false → (toBits binary64 x ≡ 0x7ff0000000000000 → ⊥)
-    → (m : ℕ) × (e : ℤ) × (x ≡ fin false (suc m) e)
+pub positive : (x : Float) → ne x x ≡ false → lt x (fin false 0 (pos 0)) ≡ false → eq x (fin false 0 (pos 0)) ≡ false
+    → (toBits binary64 x ≡ 0x7ff0000000000000 → ⊥) → (m : ℕ) × (e : ℤ) × (x ≡ fin false (suc m) e)
 unfolding ne lt eq toBits
 positive nan n l z i = absurd (true≢false n)
 positive (inf true) n l z i = absurd (true≢false l)
 positive (inf false) n l z i = absurd (i refl)
 positive (fin true zero e) n l z i = absurd (true≢false (sym (zeros-equal true e) ∙ z))
-positive (fin true (suc m) e) n l z i = absurd (omega (arith, mul-pos (zero-lt-suc m) (up-pos e), ltb-false 0 (suc m * up e * 1 + 0 * down e) l))
+positive (fin true (suc m) e) n l z i =
+    absurd (omega (arith, mul-pos (zero-lt-suc m) (up-pos e), ltb-false 0 (suc m * up e * 1 + 0 * down e) l))
 positive (fin false zero e) n l z i = absurd (true≢false (sym (zeros-equal false e) ∙ z))
 positive (fin false (suc m) e) n l z i = (m, e, refl)
 
@@ -257,7 +276,8 @@ pub record Positive (x : Float) (bits : ℕ) : Type 0 where
   pub rooted : (r : Float) → T (fits binary64 r) → NearestRoot (ofBits binary64 bits) r → Rooted x r
 
 pub positive-bits : (x : Float) (bits : ℕ) → T (fits binary64 x) → bits ≡ toBits binary64 x
-    → ne x x ≡ false → lt x (fin false 0 (pos 0)) ≡ false → eq x (fin false 0 (pos 0)) ≡ false → (bits ≡ 0x7ff0000000000000 → ⊥) → Positive x bits
+    → ne x x ≡ false → lt x (fin false 0 (pos 0)) ≡ false → eq x (fin false 0 (pos 0)) ≡ false
+    → (bits ≡ 0x7ff0000000000000 → ⊥) → Positive x bits
 positive-bits x bits holds of-x n l z i =
     let number = positive x n l z (λ (h : toBits binary64 x ≡ 0x7ff0000000000000). i (of-x ∙ h)) in
     let m = number .0 in
@@ -268,6 +288,7 @@ positive-bits x bits holds of-x n l z i =
       bounds = (some-bits m e bits is, finite-bits m e bits is (subst (λ (b : ℕ). b < 2 ^ 64) (sym of-x) (toBits-lt binary64 x holds)));
       rooted =
           λ r fits-r near.
-          let meaning : SquareRoot x r = subst (λ (y : Float). SquareRoot y r) (sym (number .2)) (subst (λ (y : Float). NearestRoot y r) is near) in
+          let meaning : SquareRoot x r =
+          subst (λ (y : Float). SquareRoot y r) (sym (number .2)) (subst (λ (y : Float). NearestRoot y r) is near) in
           record { rule = agree x r holds fits-r meaning; meaning = meaning };
     }

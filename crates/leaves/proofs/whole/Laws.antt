@@ -1,8 +1,9 @@
 -- What an f32 rounds to, halves away from zero: by the field of its exponent, and the sign. Assumes nothing.
 use mathlib.Core.Path.{_≡_, refl, sym, ap, _∙_, subst}
-use mathlib.Core.Logic.{_⊎_, inl, inr}
-use Prim.Native.Nat.{ℕ, zero, suc, _+_, _-_, _*_, _/_, _%_, _^_, _≤_, _<_}
-use native.Mathlib.Nat.{le-trans, le-of-eq, lt-of-lt-of-le, lt-of-le-of-lt, mul-pos, mul-one, mul-comm, mul-assoc, mul-left-comm, mul-add, add-mul, add-comm, add-left-comm, add-assoc, mul-lt-mul-of-pos-right, mul-lt-mul-of-pos-left, mul-le-mul-left, div-eq-of-lt, zero-add, pow-succ', mul-right-comm}
+use mathlib.Core.Logic.{inl, inr}
+use Prim.Native.Nat.{ℕ, _+_, _-_, _*_, _/_, _%_, _^_, _≤_, _<_}
+use native.Mathlib.Nat.{lt-of-lt-of-le, mul-one, mul-comm, mul-assoc, mul-left-comm, add-mul, mul-lt-mul-of-pos-right}
+use native.Mathlib.Nat.{mul-lt-mul-of-pos-left, mul-le-mul-left, div-eq-of-lt, zero-add, pow-succ'}
 use native.Mathlib.Omega.{arith}
 use native.Mathlib.Numerals.{add-one}
 use mathlib.Core.Bool.{Bool, true, false, cond}
@@ -40,7 +41,7 @@ half-up-same a c b d C D e =
     (let x : 2 * a * (2 * d) ≡ 4 * (a * d) = rw (mul-assoc, mul-left-comm a 2 d) (omega arith) in
     let y : 2 * b * (2 * c) ≡ 4 * (b * c) = rw (mul-assoc, mul-left-comm b 2 c) (omega arith) in
     let z : c * (2 * d) ≡ d * (2 * c) = simp (mul-comm, mul-left-comm) in
-    rw (add-mul, add-mul) (omega arith))
+    rw (add-mul (2 * a) c (2 * d), add-mul (2 * b) d (2 * c)) (omega arith))
 
 pub rounded-of-value : (x : Float) (s : Bool) (a c : ℕ) → 0 < c → HasValue x s a c → rounded x ≡ round binary32 s (half-up a c) 1
 unfolding rounded
@@ -68,7 +69,9 @@ small a c h = div-eq-of-lt (omega arith)
 
 tiny : (q j : ℕ) → q < 2 ^ 24 → j ≤ 124 → 2 * (q * 2 ^ j) < 2 ^ 149
 tiny q j h k =
-    mul-lt-mul-of-pos-left {n = 2 ^ 148} (lt-of-lt-of-le (mul-lt-mul-of-pos-right h (pow-pos j)) (mul-le-mul-left (2 ^ 24) (pow-mono {j = 124} k))) (lit< tt)
+    let less : q * 2 ^ j < 2 ^ 24 * 2 ^ 124 =
+    lt-of-lt-of-le (mul-lt-mul-of-pos-right h (pow-pos j)) (mul-le-mul-left (2 ^ 24) (pow-mono {j = 124} k)) in
+    mul-lt-mul-of-pos-left {n = 2 ^ 148} less (lit< tt)
 
 pub at-small : (bits : ℕ) → bits / 8388608 < 126 → Rounds bits 0
 at-small bits h s = elim (lt-or-ge bits 8388608) [
@@ -77,7 +80,8 @@ at-small bits h s = elim (lt-or-ge bits 8388608) [
       ∙ ap (λ (w : ℕ). round binary32 s w 1) (small bits (2 ^ 149) (lt-of-lt-of-le {m = 2 ^ 24} (omega arith) (lit≤ tt)))
   | inr g ↦
       finite s bits g (omega arith)
-      ∙ ap (λ (w : ℕ). round binary32 s w 1) (small (digits bits * 2 ^ place bits) (2 ^ 149) (tiny (digits bits) (place bits) (omega arith) (omega arith)))
+      ∙ ap (λ (w : ℕ). round binary32 s w 1)
+      (small (digits bits * 2 ^ place bits) (2 ^ 149) (tiny (digits bits) (place bits) (omega arith) (omega arith)))
 ]
 
 -- d digits stand after the point: the number is digits / 2 ^ d
@@ -108,16 +112,21 @@ whole-stays : (w c : ℕ) → 0 < c → half-up (w * c) c ≡ w
 whole-stays w c h = half-up-same (w * c) c w 1 h (omega arith) (mul-one (w * c)) ∙ (let odd : (2 * w + 1) / 2 ≡ w = omega arith in odd)
 
 -- q * 2 ^ j / 2 ^ 149 is whole from j = 149 on, and rounds to itself
-whole-number : (s : Bool) (x : Float) (q j : ℕ) → T (fits binary32 x) → HasValue x s (q * 2 ^ j) (2 ^ 149) → q < 2 ^ 24 → 149 ≤ j → j < 254 → rounded x ≡ x
+whole-number : (s : Bool) (x : Float) (q j : ℕ) → T (fits binary32 x) → HasValue x s (q * 2 ^ j) (2 ^ 149)
+    → q < 2 ^ 24 → 149 ≤ j → j < 254 → rounded x ≡ x
 whole-number s x q j holds v h k l =
     let w = q * 2 ^ (j - 149) in
-    let split : w * 2 ^ 149 ≡ q * 2 ^ j = mul-assoc q (2 ^ (j - 149)) (2 ^ 149) ∙ ap (λ (z : ℕ). q * z) (sym (pow-add 2 (j - 149) 149) ∙ ap (λ (z : ℕ). 2 ^ z) (omega arith)) in
-    let below : q * 2 ^ j < 2 ^ 277 = lt-of-lt-of-le (mul-lt-mul-of-pos-right h (pow-pos j)) (mul-le-mul-left (2 ^ 24) (pow-mono {j = 253} (omega arith))) in
+    let places : j - 149 + 149 ≡ j = omega arith in
+    let power : 2 ^ (j - 149) * 2 ^ 149 ≡ 2 ^ j = sym (pow-add 2 (j - 149) 149) ∙ ap (λ (z : ℕ). 2 ^ z) places in
+    let split : w * 2 ^ 149 ≡ q * 2 ^ j = mul-assoc q (2 ^ (j - 149)) (2 ^ 149) ∙ ap (λ (z : ℕ). q * z) power in
+    let below : q * 2 ^ j < 2 ^ 277 =
+    lt-of-lt-of-le (mul-lt-mul-of-pos-right h (pow-pos j)) (mul-le-mul-left (2 ^ 24) (pow-mono {j = 253} (omega arith))) in
     rounded-of-value x s (q * 2 ^ j) (2 ^ 149) (pow-pos 149) v
     ∙ ap (λ (a : ℕ). round binary32 s (half-up a (2 ^ 149)) 1) (sym split)
     ∙ ap (λ (z : ℕ). round binary32 s z 1) (whole-stays w (2 ^ 149) (pow-pos 149))
     ∙ round-same binary32 s w 1 (q * 2 ^ j) (2 ^ 149) (omega arith) (pow-pos 149) (split ∙ sym (mul-one (q * 2 ^ j)))
-    ∙ same-value binary32 s (q * 2 ^ j) (2 ^ 149) (round binary32 s (q * 2 ^ j) (2 ^ 149)) x (pow-pos 149) (round-fits binary32 s (q * 2 ^ j) (2 ^ 149)) holds
+    ∙ same-value binary32 s (q * 2 ^ j) (2 ^ 149) (round binary32 s (q * 2 ^ j) (2 ^ 149)) x (pow-pos 149)
+    (round-fits binary32 s (q * 2 ^ j) (2 ^ 149)) holds
     (round-exact binary32 s (q * 2 ^ j) (2 ^ 149) q j (pow-pos 149) h below refl) v
 
 -- an infinity and a NaN stay
@@ -136,7 +145,8 @@ at-large x word holds of-x least =
     sym (elim (lt-or-ge p 0x7f800000) [
       | inl l ↦
           whole-number s x (digits p) (place p) holds
-          (subst (λ (y : Float). HasValue y s (digits p * 2 ^ place p) (2 ^ 149)) is (value-of-digits binary32 s p (omega arith) l)) (omega arith) (omega arith) (omega arith)
+          (subst (λ (y : Float). HasValue y s (digits p * 2 ^ place p) (2 ^ 149)) is (value-of-digits binary32 s p (omega arith) l))
+          (omega arith) (omega arith) (omega arith)
       | inr g ↦ no-fraction (eqb (p % 8388608) 0) s x (sym is ∙ no-number binary32 s p g (omega arith))
     ])
 

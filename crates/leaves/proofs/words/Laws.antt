@@ -1,11 +1,13 @@
--- Words and floats: which words are a NaN's, what `x != x` tells, the two comparisons of a sample in range, and a word's way to its float and back.
+-- Words and floats: which words are a NaN's, what `x != x` tells, the two comparisons of a sample in range, and a
+-- word's way to its float and back.
 -- A law over a format serves both widths. Assumes nothing.
 use mathlib.Core.Path.{_≡_, refl, sym, ap, _∙_}
 use mathlib.Core.Bool.{Bool, true, false, not, _&&_, and-true, false≢true}
 use Prim.Native.Nat.{ℕ, _+_, _*_, _%_, _^_, _<_, _≤_}
 use native.Mathlib.Omega.{arith}
 use lib.Dec.{T, eqb}
-use lib.Ieee.{Float, nan, inf, fin, Format, binary32, binary64, up, down, level, ones, hid, top, neg, div, le, ne, isNan, fits, nanBits, ofBits, toBits}
+use lib.Ieee.{Float, nan, inf, fin, Format, binary32, binary64, up, down, level, ones, hid, top, neg, div, le, ne}
+use lib.Ieee.{isNan, fits, nanBits, ofBits, toBits}
 use lib.Ieee.Bits.{nanBits-is, nanBits-above, toBits-ofBits, toBits-lt}
 use lib.Ieee.Fits.{down-pos}
 use borrow.Author.Tests.{lt-ltb, le-ltb, eqb-true, eqb-false, eq-eqb, ne-eqb}

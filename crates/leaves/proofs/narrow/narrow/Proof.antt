@@ -1,4 +1,5 @@
--- `narrow` meets its contract: the pattern without its sign is `narrow_pattern`'s, and the sign goes over as it is. Assumes nothing.
+-- `narrow` meets its contract: the pattern without its sign is `narrow_pattern`'s, and the sign goes over as it is.
+-- Assumes nothing.
 use mathlib.Core.Path.{sym, subst}
 use lib.Dec.{T}
 use lib.Ieee.{binary64, fits}
@@ -38,13 +39,14 @@ held c = subst T (sym (c .good .0 .1)) tt
 returns : tie.Need-returns
 returns c =
     let start = c .before .before .before .before in
-    with-no-sign _ (held start) _ (c .before .before .before .word-of-f64 .ensures) _ _ (c .before .narrow-pattern .ensures) (c .f32-of-word .ensures)
+    with-no-sign _ (held start) _ (c .before .before .before .word-of-f64 .ensures) _ _ (c .before .narrow-pattern .ensures)
+    (c .f32-of-word .ensures)
 
 returns-2 : tie.Need-returns-2
 returns-2 c =
     let start = c .before .before .before .before in
-    with-sign _ (held start) _ (c .before .before .before .word-of-f64 .ensures) _ _ (c .before .before .if1 .left) (c .before .narrow-pattern2 .ensures)
-    (c .f32-of-word2 .ensures)
+    with-sign _ (held start) _ (c .before .before .before .word-of-f64 .ensures) _ _ (c .before .before .if1 .left)
+    (c .before .narrow-pattern2 .ensures) (c .f32-of-word2 .ensures)
 
 pub narrow-spec : {M : Type 1} → statement M
 narrow-spec =

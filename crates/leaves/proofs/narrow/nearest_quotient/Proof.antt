@@ -1,9 +1,10 @@
--- `nearest_quotient` meets its contract: what is cut off, doubled, is held against 2 ^ drop, which is what picks between a whole number and the next. Assumes nothing.
-use mathlib.Core.Path.{_≡_, refl, sym, ap, _∙_, subst}
-use Prim.Native.Nat.{ℕ, suc, _+_, _*_, _/_, _%_, _^_, _≤_, _<_}
+-- `nearest_quotient` meets its contract: what is cut off, doubled, is held against 2 ^ drop, which is what picks
+-- between a whole number and the next. Assumes nothing.
+use mathlib.Core.Path.{_≡_, sym}
+use Prim.Native.Nat.{ℕ, _+_, _*_, _/_, _%_, _^_, _≤_, _<_}
 use native.Mathlib.Nat.{le-trans, le-antisymm, lt-of-lt-of-le, lt-of-le-of-lt, mod-lt, div-le-self}
 use native.Mathlib.Omega.{arith}
-use lib.Pow.{pow-pos, pow-mono, pow-lt}
+use lib.Pow.{pow-pos, pow-mono}
 use lib.Ieee.Nearest.{closest}
 use borrow.Author.Needs.{needs}
 use Rattle.leaves.proofs.Numbers.{one-up}

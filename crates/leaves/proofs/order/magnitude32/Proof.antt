@@ -1,4 +1,5 @@
--- `leaves::order::magnitude32` meets its contract. Of a zero it is used that a format has two of them, and that an `f32` is in its format. Assumes nothing.
+-- `leaves::order::magnitude32` meets its contract. Of a zero it is used that a format has two of them, and that an
+-- `f32` is in its format. Assumes nothing.
 use mathlib.Core.Path.{sym, subst}
 use lib.Dec.{T}
 use lib.Ieee.{binary32, fits}

@@ -1,5 +1,6 @@
--- `positive_root` meets its contract: the digits that it hands on are 53, and with their scale they are the number of the pattern (`Steps.antt` beside it). Assumes nothing.
-use Prim.Native.Nat.{ℕ, _/_, _%_, _<_, _≤_}
+-- `positive_root` meets its contract: the digits that it hands on are 53, and with their scale they are the number of
+-- the pattern (`Steps.antt` beside it). Assumes nothing.
+use Prim.Native.Nat.{ℕ, _/_, _%_, _≤_}
 use mathlib.Core.Path.{_≡_}
 use native.Mathlib.Omega.{arith}
 use Rattle.leaves.proofs.root.Steps.{Raised, raised, subnormal-value, normal-value}

@@ -1,4 +1,5 @@
--- `scaled_root` meets its contract: `nearest_root` gives the digits of the root, and `Steps.antt` beside it says what pattern they make. Assumes nothing.
+-- `scaled_root` meets its contract: `nearest_root` gives the digits of the root, and `Steps.antt` beside it says what
+-- pattern they make. Assumes nothing.
 use native.Mathlib.Omega.{arith}
 use Rattle.leaves.proofs.root.Steps.{even-least, even-most, q-most, scaled-root-is}
 use borrow.Author.Needs.{needs}
@@ -23,7 +24,8 @@ mul-f64-of-word c = search needs
 add-f64-of-word-2 : tie.Need-add-f64-of-word-2
 add-f64-of-word-2 c =
     let pre = c .before .pre in
-    omega (arith, q-most (c .before .args .digits) (c .before .args .scale) (pre .0) (pre .1 .0) (pre .1 .1) (c .nearest-root .result) (c .nearest-root .ensures))
+    let args = c .before .args in
+    omega (arith, q-most (args .digits) (args .scale) (pre .0) (pre .1 .0) (pre .1 .1) (c .nearest-root .result) (c .nearest-root .ensures))
 
 f64-of-word-requires : tie.Need-f64-of-word-requires
 f64-of-word-requires c κs = search needs

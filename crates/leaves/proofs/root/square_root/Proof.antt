@@ -1,5 +1,6 @@
--- `square_root` meets its contract: the doubles that have no root to work out are told apart by their tests, and the rest go to `positive_root`. Assumes nothing.
-use mathlib.Core.Path.{_≡_, sym, ap, _∙_, subst}
+-- `square_root` meets its contract: the doubles that have no root to work out are told apart by their tests, and the
+-- rest go to `positive_root`. Assumes nothing.
+use mathlib.Core.Path.{sym, _∙_, subst}
 use lib.Dec.{T}
 use lib.Ieee.{binary64, fits, ofBits}
 use Rattle.leaves.proofs.words.Laws.{zero-by-zero}
@@ -17,7 +18,8 @@ left : (c : tie.Else4) → Positive (c .before .before .before .before .before .
 unfolding ofBits
 left c =
     let tests = c .before .before in
-    positive-bits _ _ (held (tests .before .before .before)) (c .before .word-of-f64 .ensures) (tests .before .before .if1 .left) (tests .before .if2 .left) (tests .if3 .left) (c .if4 .left)
+    positive-bits _ _ (held (tests .before .before .before)) (c .before .word-of-f64 .ensures) (tests .before .before .if1 .left)
+    (tests .before .if2 .left) (tests .if3 .left) (c .if4 .left)
 
 returns : tie.Need-returns
 returns c = by-rule _ _ (held (c .before)) (zero-by-zero binary64 ∙ of-nan _ (c .if1 .taken))

@@ -1,4 +1,5 @@
--- `round_to_whole` meets its contract: from 2 ^ 23 on a float is its own answer, and below that the whole number is `nearest_whole`'s and the sign goes over. Assumes nothing.
+-- `round_to_whole` meets its contract: from 2 ^ 23 on a float is its own answer, and below that the whole number is
+-- `nearest_whole`'s and the sign goes over. Assumes nothing.
 use mathlib.Core.Path.{sym, subst}
 use lib.Dec.{T}
 use lib.Ieee.{binary32, fits}

@@ -1,4 +1,5 @@
--- `leaves::words::word_of_f32` meets its contract: only a NaN differs from itself, and its word is 7FC00000. Assumes nothing.
+-- `leaves::words::word_of_f32` meets its contract: only a NaN differs from itself, and its word is 7FC00000. Assumes
+-- nothing.
 use borrow.Author.Needs.{needs}
 use lib.Ieee.{binary32, toBits}
 use Rattle.leaves.proofs.words.Laws.{word-of-nan, no-nan}
