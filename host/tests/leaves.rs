@@ -1,0 +1,77 @@
+//! The float leaves against Rust's own, bit for bit, over ten million values each. Every NaN counts
+//! as the same; all else has to agree in every bit, the sign of a zero among them.
+//!
+//! The values are drawn in turns, and each turn has values of every class by construction. What a
+//! value is, is told from its pattern, so a class that a turn should have met and did not is found.
+//! `CATHAR_SEED` sets the seed and `CATHAR_VALUES` the least number of values.
+mod leaves {
+    mod cut;
+    pub mod narrow;
+    pub mod root;
+    pub mod whole;
+}
+
+use cathar_host::cathar;
+use cathar_host::draw::{self, Draw};
+use cathar_host::float::{word32, word64, F32, F64};
+use cathar_host::tally::Tally;
+use leaves::{narrow, root, whole};
+
+/// One turn of drawing: hands each pattern on.
+type Turn = fn(&mut Draw, &mut dyn FnMut(u64));
+
+/// What our side and then the other side make of a pattern.
+type Sides = fn(u64) -> (u64, u64);
+
+fn compare(mut tally: Tally, turn: Turn, sides: Sides) {
+    let seed = draw::seed();
+    let mut draw = Draw::new(seed);
+    while tally.values() < draw::values() {
+        turn(&mut draw, &mut |bits| {
+            let (ours, theirs) = sides(bits);
+            tally.take(bits, ours, theirs);
+        });
+    }
+    tally.close(seed);
+}
+
+#[test]
+fn square_root() {
+    let tally = Tally::new("cathar_sqrt against f64::sqrt", F64, root::CLASSES);
+    compare(tally, root::turn, |bits| {
+        let x = f64::from_bits(bits);
+        (word64(cathar::sqrt(x)), word64(x.sqrt()))
+    });
+}
+
+#[test]
+fn narrowing() {
+    let tally = Tally::new("cathar_narrow against `as f32`", F64, narrow::CLASSES);
+    compare(tally, narrow::turn, |bits| {
+        let x = f64::from_bits(bits);
+        (word32(cathar::narrow(x)), word32(x as f32))
+    });
+}
+
+#[test]
+fn rounding_to_whole() {
+    let tally = Tally::new("cathar_round against f32::round", F32, whole::CLASSES);
+    compare(tally, whole::turn, |bits| {
+        let x = f32::from_bits(bits as u32);
+        (word32(cathar::round(x)), word32(x.round()))
+    });
+}
+
+/// All 2 ^ 32 of them, with nothing left to chance. It takes minutes under an emulator, so it runs when
+/// asked for: `host/test -- --ignored`.
+#[test]
+#[ignore]
+fn rounding_every_float_to_whole() {
+    let mut differences = 0;
+    for bits in 0..=u32::MAX {
+        let x = f32::from_bits(bits);
+        differences += u64::from(word32(cathar::round(x)) != word32(x.round()));
+    }
+    println!("cathar_round against f32::round, all {} patterns, {differences} differences", 1u64 << 32);
+    assert_eq!(differences, 0);
+}

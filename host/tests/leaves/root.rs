@@ -1,0 +1,182 @@
+//! Doubles to take the square root of.
+use cathar_host::draw::Draw;
+use cathar_host::float::F64;
+use cathar_host::tally::Class;
+
+const INFINITY: u64 = 0x7ff0_0000_0000_0000;
+
+/// A root is near a tie where, scaled to a whole number n, its number is so close to s * s + s, for
+/// the whole root s: the tie is at s + 1/2, whose square is s * s + s + 1/4.
+const NEAR: i128 = 4096;
+
+pub const CLASSES: &[Class] = &[
+    Class { name: "below zero", holds: |f, b| f.is_negative(b) && !f.is_zero(b) && !f.is_nan(b) },
+    Class { name: "the least double", holds: |_, b| b == 1 },
+    Class { name: "the largest double", holds: |_, b| b == INFINITY - 1 },
+    Class { name: "1 - 2^-53", holds: |_, b| b == 0x3fef_ffff_ffff_ffff },
+    Class { name: "4 - 2^-51", holds: |_, b| b == 0x400f_ffff_ffff_ffff },
+    Class { name: "squares: the root is exact", holds: |_, b| is_square(b) },
+    Class { name: "one step below a square", holds: |_, b| is_square(b.wrapping_add(1)) },
+    Class { name: "one step above a square", holds: |_, b| is_square(b.wrapping_sub(1)) },
+    Class { name: "root just below a tie", holds: |_, b| is_near_tie(b, false) },
+    Class { name: "root just above a tie", holds: |_, b| is_near_tie(b, true) },
+];
+
+/// One turn: every sign and field with several tails, subnormals of every size, squares and their
+/// neighbours, roots near ties, and any pattern.
+pub fn turn(draw: &mut Draw, put: &mut dyn FnMut(u64)) {
+    for top in 0..F64.tops() {
+        for tail in tails(draw) {
+            put(F64.pattern(top, tail));
+        }
+    }
+    for size in 1..=52 {
+        subnormals(draw, size, put);
+    }
+    for _ in 0..20_000 {
+        short_square(draw, put);
+        long_square(draw, put);
+        square_of_half(draw, put);
+        near_tie(draw, put);
+        put(draw.word());
+    }
+}
+
+/// Both ends of a binade with their neighbours, its middle, and tails whose digits are any, only the
+/// last few, only the first few.
+fn tails(draw: &mut Draw) -> [u64; 8] {
+    let last = F64.last_tail();
+    let few = 1 + draw.below(51) as u32;
+    let low = draw.digits(few);
+    let high = draw.digits(few) << (52 - few);
+    [0, 1, last, last - 1, last / 2 + 1, draw.digits(52), low, high]
+}
+
+/// Subnormal doubles of so many digits: the first, the last, and any others.
+fn subnormals(draw: &mut Draw, size: u32, put: &mut dyn FnMut(u64)) {
+    let first = 1 << (size - 1);
+    put(first);
+    put(2 * first - 1);
+    for _ in 0..100 {
+        put(first | draw.digits(size));
+    }
+}
+
+/// The square of a number of at most 26 digits, which a double holds, and its neighbours.
+fn short_square(draw: &mut Draw, put: &mut dyn FnMut(u64)) {
+    let size = 1 + draw.below(26) as u32;
+    let root = draw.digits(size) | 1;
+    with_neighbours(square(draw, root), put);
+}
+
+/// The square of a number of 53 digits, cut off to a double, and its neighbours.
+fn long_square(draw: &mut Draw, put: &mut dyn FnMut(u64)) {
+    let root = (1 << 52) | draw.digits(52);
+    with_neighbours(square(draw, root), put);
+}
+
+/// The same for 53 digits and a half: here the root is near a tie.
+fn square_of_half(draw: &mut Draw, put: &mut dyn FnMut(u64)) {
+    let twice = (1 << 53) | draw.digits(53) | 1;
+    with_neighbours(square(draw, twice), put);
+}
+
+fn with_neighbours(bits: u64, put: &mut dyn FnMut(u64)) {
+    put(bits - 1);
+    put(bits);
+    put(bits + 1);
+}
+
+/// The double whose digits are the first 53 of root * root, at any scale that is a power of 4 away.
+fn square(draw: &mut Draw, root: u64) -> u64 {
+    let square = u128::from(root) * u128::from(root);
+    let size = 128 - square.leading_zeros();
+    let digits = if size < 53 { square << (53 - size) } else { square >> (size - 53) };
+    scaled(draw, digits as u64, size % 2 == 0)
+}
+
+/// The pattern of digits * 2 ^ scale, for 53 digits and any scale that is odd or even, as asked. The
+/// scale is the field less 1075.
+fn scaled(draw: &mut Draw, digits: u64, odd: bool) -> u64 {
+    let field = 2 * draw.below(1023) + if odd { 2 } else { 1 };
+    F64.pattern(field, F64.tail(digits))
+}
+
+/// A double whose root is near a tie. With n = s * s + s + off and h = 2 * s + 1, h * h is
+/// 4 * n + 1 - 4 * off. The double has n's first 53 digits and the others are 0, so that 4 * n is a
+/// multiple of a power of 2, by which h * h leaves 1 - 4 * off. Such an h is found digit by digit.
+fn near_tie(draw: &mut Draw, put: &mut dyn FnMut(u64)) {
+    let off = 2 * draw.below(NEAR as u64) as i64 - NEAR as i64;
+    let odd = draw.below(2) == 1;
+    let power = if odd { 55 } else { 54 };
+    let found = root_modulo(1i64.wrapping_sub(4 * off) as u64, power);
+    for h in [found, found.wrapping_neg()] {
+        for up in [0, 1 << (power - 1)] {
+            let h = h.wrapping_add(up) % (1 << power);
+            if let Some(digits) = digits_by_tie(h, off, power) {
+                put(scaled(draw, digits, odd));
+            }
+        }
+    }
+}
+
+/// The odd h with h * h equal to a modulo 2 ^ power, where a is 1 modulo 8: each turn makes it right
+/// at one digit more.
+fn root_modulo(a: u64, power: u32) -> u64 {
+    let mut h: u64 = 1;
+    for at in 3..power {
+        let wrong = h.wrapping_mul(h).wrapping_sub(a) >> at & 1;
+        h = h.wrapping_add(wrong << (at - 1));
+    }
+    h
+}
+
+/// The first 53 digits of n, as in `near_tie`, where h has 54 digits and n as many as the scale asks.
+fn digits_by_tie(h: u64, off: i64, power: u32) -> Option<u64> {
+    if h >> 53 != 1 {
+        return None;
+    }
+    let n = (i128::from(h) * i128::from(h) - 1) / 4 + i128::from(off);
+    let digits = n >> (power - 2);
+    assert_eq!(digits << (power - 2), n, "n has more than 53 digits");
+    if digits >> 52 == 1 {
+        Some(digits as u64)
+    } else {
+        None
+    }
+}
+
+/// Whether the root is exact.
+fn is_square(bits: u64) -> bool {
+    matches!(excess(bits), Some((_, 0)))
+}
+
+/// Whether the root is near a tie, and above it or not.
+fn is_near_tie(bits: u64, above: bool) -> bool {
+    match excess(bits) {
+        Some((q, over)) => (over < 0) == above && q - over.abs() <= NEAR,
+        None => false,
+    }
+}
+
+/// For a finite positive double, scaled by a power of 4 to a whole number n whose root has 53 digits:
+/// q, the whole number nearest to that root, by Rust, and n - q * q.
+fn excess(bits: u64) -> Option<(i128, i128)> {
+    if bits == 0 || INFINITY <= bits {
+        return None;
+    }
+    let (digits, odd) = scaled_digits(bits);
+    let n = i128::from(digits) << if odd { 53 } else { 52 };
+    let root = f64::from_bits(bits).sqrt().to_bits();
+    let q = i128::from(F64.digits(root));
+    Some((q, n - q * q))
+}
+
+/// The 53 digits of a finite positive double, and whether its scale is odd.
+fn scaled_digits(bits: u64) -> (u64, bool) {
+    if F64.field(bits) > 0 {
+        return (F64.digits(bits), F64.field(bits) % 2 == 0);
+    }
+    let shift = bits.leading_zeros() - 11;
+    (bits << shift, shift % 2 == 1)
+}
