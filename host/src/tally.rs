@@ -23,6 +23,11 @@ const COMMON: [Class; 9] = [
     Class { name: "last of a binade", holds: |f, b| f.is_normal(b) && f.tail(b) == f.last_tail() },
 ];
 
+/// The kinds that every comparison meets, and then these.
+pub fn with_common(classes: &[Class]) -> Vec<Class> {
+    COMMON.iter().chain(classes).copied().collect()
+}
+
 /// How many differences are written out.
 const SHOWN: usize = 8;
 
@@ -39,11 +44,10 @@ pub struct Tally {
 impl Tally {
     /// Nothing counted yet. The classes are the common ones and then these.
     pub fn new(title: &'static str, format: Format, classes: &[Class]) -> Tally {
-        let all = COMMON.iter().chain(classes);
         Tally {
             title,
             format,
-            classes: all.map(|class| (*class, 0)).collect(),
+            classes: with_common(classes).into_iter().map(|class| (class, 0)).collect(),
             tops: vec![0; format.tops() as usize],
             values: 0,
             differences: 0,
