@@ -6,8 +6,30 @@ ghost use lib.Ieee.{binary32, binary64, ofBits};
 ghost use lib.Ieee.Nearest.{closest};
 ghost use Rattle.leaves.specs.Floats.{narrowed};
 ghost use Rattle.leaves.specs.Steps.{signed};
+use super::words::FIELD64;
+use super::words::INFINITY64;
+use super::words::SIGN64;
 use super::words::f32_of_word;
 use super::words::word_of_f64;
+
+// What the exponent's field of an f64 says of the f32 that is nearest.
+// From 2 ^ 128 on it is the infinity.
+const TOO_LARGE: u64 = 1151;
+// From 2 ^ -126 on it is normal, and keeps 24 of the 53 digits.
+const NORMAL: u64 = 897;
+
+const DROPPED: u64 = 29;
+// From 2 ^ -150 on, half of the least f32, it may be more than zero.
+const LEAST: u64 = 873;
+
+// Patterns of an f32, as numbers of 64 bits: the sign's weight, the field's, the infinity, the NaN.
+const SIGN: u64 = 0x8000_0000;
+
+const FIELD: u64 = 0x80_0000;
+
+const INFINITY: u64 = 0x7f80_0000;
+
+const NAN: u64 = 0x7fc0_0000;
 
 // digits / 2 ^ drop to the nearest whole number, a tie to the even one: what is cut off is held
 // against one half.
@@ -27,29 +49,27 @@ fn nearest_quotient(digits: u64, drop: u64) -> u64
     }
 }
 
-// The f32 pattern nearest to an f64 pattern, both without their sign. The exponent's field says
-// which of the 53 digits an f32 keeps:
-// - from 1151 on the number is 2 ^ 128 or more, and becomes the infinity;
-// - from 897 on the f32 is normal, and 29 digits are dropped;
-// - from 873 on it is subnormal, and one digit more is dropped with each step down;
-// - below that the number is at most half of the least f32, and becomes zero.
-// The digits that are kept are added to the exponent's field less one, since the leading one adds
-// one to it. A carry out of the digits so raises the field, at the last step to the infinity's.
+// The f32 pattern nearest to an f64 pattern, both without their sign. Of a normal f32 just so many
+// digits are dropped, and of a subnormal one more with each step down; below those the number is at
+// most half of the least f32, and becomes zero. The digits that are kept are added to the exponent's
+// field less one, since the leading digit adds one to it. A carry out of the digits so raises the
+// field, at the last step to the infinity's.
 fn narrow_pattern(bits: u64) -> u64
     requires { ⌜ bits < 2 ^ 63 ⌝ }
-    ensures { λ r. ⌜ (r < 2 ^ 31) × ((s : Bool) → ofBits binary32 (signed binary32 s r) ≡ narrowed (ofBits binary64 (signed binary64 s bits))) ⌝ }
+    ensures { λ r. ⌜ (r < 2 ^ 31) × ((s : Bool) →
+        ofBits binary32 (signed binary32 s r) ≡ narrowed (ofBits binary64 (signed binary64 s bits))) ⌝ }
 {
-    if 0x7ff0_0000_0000_0000 < bits {
-        return 0x7fc0_0000;
+    if INFINITY64 < bits {
+        return NAN;
     }
-    let field = bits / 0x10_0000_0000_0000;
-    let digits = 0x10_0000_0000_0000 + bits % 0x10_0000_0000_0000;
-    if 1151 <= field {
-        0x7f80_0000
-    } else if 897 <= field {
-        (field - 897) * 0x80_0000 + nearest_quotient(digits, 29)
-    } else if 873 <= field {
-        nearest_quotient(digits, 926 - field)
+    let field = bits / FIELD64;
+    let digits = FIELD64 + bits % FIELD64;
+    if TOO_LARGE <= field {
+        INFINITY
+    } else if NORMAL <= field {
+        (field - NORMAL) * FIELD + nearest_quotient(digits, DROPPED)
+    } else if LEAST <= field {
+        nearest_quotient(digits, NORMAL + DROPPED - field)
     } else {
         0
     }
@@ -60,9 +80,9 @@ pub fn narrow(x: f64) -> f32
     ensures { λ r. ⌜ r ≡ narrowed x ⌝ }
 {
     let bits = word_of_f64(x);
-    if bits < 0x8000_0000_0000_0000 {
+    if bits < SIGN64 {
         f32_of_word(narrow_pattern(bits) as u32)
     } else {
-        f32_of_word((0x8000_0000 + narrow_pattern(bits - 0x8000_0000_0000_0000)) as u32)
+        f32_of_word((SIGN + narrow_pattern(bits - SIGN64)) as u32)
     }
 }

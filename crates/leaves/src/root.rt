@@ -7,8 +7,16 @@ ghost use Prim.Native.Nat.{_+_, _*_, _^_, _<_, _≤_};
 ghost use lib.Ieee.{Float, binary64, ofBits};
 ghost use lib.Ieee.Exact.{HasValue};
 ghost use Rattle.leaves.specs.Root.{Nearest, NearestRoot, Rooted};
+use super::words::FIELD64;
+use super::words::INFINITY64;
 use super::words::f64_of_word;
 use super::words::word_of_f64;
+
+// How many binary digits a double has, and so its root.
+const DIGITS: u64 = 53;
+
+// What 54 digits are divided by to give the first two of them, 2 ^ 52.
+const NEXT_TWO: u64 = 0x10_0000_0000_0000;
 
 // The whole number nearest to the root of digits * 2 ^ 52, which has 105 or 106 binary digits, so
 // that the root has 53. By hand, as in long division: each turn takes the next two digits, and the
@@ -22,10 +30,10 @@ fn nearest_root(digits: u64) -> u64
     let mut rest: u64 = 0;
     let mut root: u64 = 0;
     let mut turns: u64 = 0;
-    while turns < 53 {
+    while turns < DIGITS {
         turns += 1;
-        rest = rest * 4 + left / 0x10_0000_0000_0000;
-        left = left % 0x10_0000_0000_0000 * 4;
+        rest = rest * 4 + left / NEXT_TWO;
+        left = left % NEXT_TWO * 4;
         root = root * 2;
         if root * 2 < rest {
             rest = rest - (root * 2 + 1);
@@ -43,22 +51,24 @@ fn scaled_root(digits: u64, scale: u64) -> f64
     ensures { λ r. ⌜ ((x : Float) → HasValue x false (digits * 2 ^ scale) (2 ^ 1126) → NearestRoot x r) ⌝ }
 {
     let q = nearest_root(digits * (1 + scale % 2));
-    f64_of_word((scale / 2 + 485) * 0x10_0000_0000_0000 + q)
+    f64_of_word((scale / 2 + 485) * FIELD64 + q)
 }
 
-// The root of the finite positive double with this pattern. The digits of a subnormal one are moved
-// up until they are 53.
+// The root of the finite positive double with this pattern, by its 53 digits and their scale. With the
+// leading digit in the pattern the number is digits * 2 ^ (field - 1) of the least double, 2 ^ -1074,
+// and 52 more make 2 ^ -1126. Where it is not, in a subnormal double, the tail is moved up until its
+// digits are 53: 11 fewer places than there are zeros above it in 64 bits.
 fn positive_root(bits: u64) -> f64
     requires { ⌜ (1 ≤ bits) × (bits < 0x7ff0_0000_0000_0000) ⌝ }
     ensures { λ r. ⌜ NearestRoot (ofBits binary64 bits) r ⌝ }
 {
-    let field = bits / 0x10_0000_0000_0000;
-    let tail = bits % 0x10_0000_0000_0000;
+    let field = bits / FIELD64;
+    let tail = bits % FIELD64;
     if field == 0 {
         let shift = (u64::leading_zeros(tail) - 11) as u64;
         scaled_root(tail << shift, 52 - shift)
     } else {
-        scaled_root(0x10_0000_0000_0000 + tail, field + 51)
+        scaled_root(FIELD64 + tail, field + 51)
     }
 }
 
@@ -77,7 +87,7 @@ pub fn square_root(x: f64) -> f64
         return x;
     }
     let bits = word_of_f64(x);
-    if bits == 0x7ff0_0000_0000_0000 {
+    if bits == INFINITY64 {
         return x;
     }
     positive_root(bits)

@@ -22,6 +22,9 @@ add-result c =
     let small = at-normal _ _ (c .before .if3 .taken) (c .before .before .if2 .left) (c .nearest-quotient .ensures) .0 in
     omega (arith, small)
 
+add-nearest-quotient : tie.Need-add-nearest-quotient
+add-nearest-quotient c = search needs
+
 sub-nearest-quotient : tie.Need-sub-nearest-quotient
 sub-nearest-quotient c = search needs
 
@@ -49,6 +52,7 @@ narrow-pattern-spec =
     mul-result
     nearest-quotient-requires
     add-result
+    add-nearest-quotient
     sub-nearest-quotient
     nearest-quotient-requires-2
     returns-2

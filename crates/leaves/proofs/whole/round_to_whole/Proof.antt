@@ -15,6 +15,9 @@ word-of-f32-requires c κs = search needs
 held : (c : tie.Start) → T (fits binary32 (c .args .x))
 held c = subst T (sym (c .good .0 .1)) tt
 
+mul-if1 : tie.Need-mul-if1
+mul-if1 c = search needs
+
 returns : tie.Need-returns
 returns c = at-large _ _ (held (c .before .before)) (c .before .word-of-f32 .ensures) (c .if1 .taken)
 
@@ -46,6 +49,7 @@ round-to-whole-spec =
     tie.close
     (tie.spec
     word-of-f32-requires
+    mul-if1
     returns
     nearest-whole-requires
     nearest-u32-to-f32-requires
