@@ -46,26 +46,23 @@ same-value f s a c x y h fx fy vx vy =
 -- the sign, the exponent's field and the digits below it, of a pattern that is put together from a sign and the rest
 pub fields-of : (f : Format) (s : Bool) (p : ℕ) → p < top f → ofBits f (signed f s p) ≡ ofFields f s (p / hid f) (p % hid f)
 unfolding ofBits
-fields-of binary32 true p h =
-    let sign : leb 2147483648 (2147483648 + p) ≡ true = le-leb _ _ (le-add-right 2147483648 p) in
-    let field : (2147483648 + p) % 2147483648 / 8388608 ≡ p / 8388608 = omega arith in
-    let tail : (2147483648 + p) % 8388608 ≡ p % 8388608 = omega arith in
-    rw (sign, field, tail) refl
-fields-of binary32 false p h =
-    let none : 0 + p ≡ p = omega arith in
-    let sign : leb 2147483648 p ≡ false = lt-leb _ _ h in
-    let field : p % 2147483648 / 8388608 ≡ p / 8388608 = omega arith in
-    rw (none, sign, field) refl
-fields-of binary64 true p h =
-    let sign : leb 9223372036854775808 (9223372036854775808 + p) ≡ true = le-leb _ _ (le-add-right 9223372036854775808 p) in
-    let field : (9223372036854775808 + p) % 9223372036854775808 / 4503599627370496 ≡ p / 4503599627370496 = omega arith in
-    let tail : (9223372036854775808 + p) % 4503599627370496 ≡ p % 4503599627370496 = omega arith in
-    rw (sign, field, tail) refl
-fields-of binary64 false p h =
-    let none : 0 + p ≡ p = omega arith in
-    let sign : leb 9223372036854775808 p ≡ false = lt-leb _ _ h in
-    let field : p % 9223372036854775808 / 4503599627370496 ≡ p / 4503599627370496 = omega arith in
-    rw (none, sign, field) refl
+fields-of f s p h = rw (sign f s p h, rest f s p h, tail f s p) refl
+  where
+    sign : (f : Format) (s : Bool) (p : ℕ) → p < top f → leb (top f) (signed f s p) ≡ s
+    sign f true p h = le-leb (top f) (top f + p) (le-add-right (top f) p)
+    sign f false p h = lt-leb (top f) (0 + p) (rw zero-add h)
+
+    rest : (f : Format) (s : Bool) (p : ℕ) → p < top f → signed f s p % top f ≡ p
+    rest binary32 true p h = omega arith
+    rest binary32 false p h = omega arith
+    rest binary64 true p h = omega arith
+    rest binary64 false p h = omega arith
+
+    tail : (f : Format) (s : Bool) (p : ℕ) → signed f s p % hid f ≡ p % hid f
+    tail binary32 true p = omega arith
+    tail binary32 false p = omega arith
+    tail binary64 true p = omega arith
+    tail binary64 false p = omega arith
 
 -- A field of 0: the digits alone, in units of the format's least value.
 pub value-of-tail : (f : Format) (s : Bool) (p : ℕ) → p < hid f → HasValue (ofBits f (signed f s p)) s p (2 ^ low f)

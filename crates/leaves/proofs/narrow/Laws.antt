@@ -43,7 +43,7 @@ nan-pattern false = refl
 
 is-nan : (s : Bool) (bits : ℕ) → bits < 2 ^ 63 → 0x7ff0000000000000 < bits → ofBits binary64 (signed binary64 s bits) ≡ nan
 is-nan s bits top above =
-    let tail = ne-eqb (bits % 4503599627370496) 0 (λ (e : bits % 4503599627370496 ≡ 0). omega arith) in
+    let tail = ne-eqb (bits % 2 ^ 52) 0 (λ (e : bits % 2 ^ 52 ≡ 0). omega arith) in
     no-number binary64 s bits (omega arith) top ∙ rw tail refl
 
 pub at-nan : (bits : ℕ) → bits < 2 ^ 63 → 0x7ff0000000000000 < bits → Narrows bits 0x7fc00000
@@ -63,36 +63,36 @@ inf-narrowed false = refl
 
 -- its 53 digits, and how many places they stand up
 abbrev digits : ℕ → ℕ
-digits bits = 4503599627370496 + bits % 4503599627370496
+digits bits = 2 ^ 52 + bits % 2 ^ 52
 
 abbrev place : ℕ → ℕ
-place bits = bits / 4503599627370496 - 1
+place bits = bits / 2 ^ 52 - 1
 
-finite : (s : Bool) (bits : ℕ) → 0x0010000000000000 ≤ bits → bits < 0x7ff0000000000000
+finite : (s : Bool) (bits : ℕ) → 2 ^ 52 ≤ bits → bits < 0x7ff0000000000000
     → narrowed (ofBits binary64 (signed binary64 s bits)) ≡ round binary32 s (digits bits * 2 ^ place bits) (2 ^ 1074)
 finite s bits h k = narrowed-of-value _ s _ _ (pow-pos 1074) (value-of-digits binary64 s bits h k)
 
 -- Of the 53 digits a normal f32 keeps 24, or the next number up.
-module _ (q : ℕ) (least : 4503599627370496 ≤ q) (most : q < 9007199254740992) where
-  kept-least : 8388608 ≤ closest q (2 ^ 29)
+module _ (q : ℕ) (least : 2 ^ 52 ≤ q) (most : q < 2 ^ 53) where
+  kept-least : 2 ^ 23 ≤ closest q (2 ^ 29)
   kept-least = omega (arith, closest-least q (2 ^ 29))
 
-  kept-most : closest q (2 ^ 29) ≤ 16777216
+  kept-most : closest q (2 ^ 29) ≤ 2 ^ 24
   kept-most = omega (arith, closest-most q (2 ^ 29))
 
 -- how many places the kept digits of a normal f32 stand up
 abbrev up-by : ℕ → ℕ
-up-by bits = bits / 4503599627370496 - 897
+up-by bits = bits / 2 ^ 52 - 897
 
-normal-units : (s : Bool) (bits : ℕ) → 897 ≤ bits / 4503599627370496
+normal-units : (s : Bool) (bits : ℕ) → 897 ≤ bits / 2 ^ 52
     → round binary32 s (digits bits * 2 ^ place bits) (2 ^ 1074) ≡ units binary32 s (closest (digits bits) (2 ^ 29)) (up-by bits)
 normal-units s bits h = round-digits binary32 s (digits bits) (place bits) 1074 29 (up-by bits) (omega arith) (omega arith) (inr (omega arith))
 
-pub at-normal : (bits w : ℕ) → 897 ≤ bits / 4503599627370496 → bits / 4503599627370496 < 1151 → w ≡ closest (digits bits) (2 ^ 29)
-    → Narrows bits (up-by bits * 8388608 + w)
+pub at-normal : (bits w : ℕ) → 897 ≤ bits / 2 ^ 52 → bits / 2 ^ 52 < 1151 → w ≡ closest (digits bits) (2 ^ 29)
+    → Narrows bits (up-by bits * 2 ^ 23 + w)
 at-normal bits w least most e =
-    let low : 8388608 ≤ w = rw e (kept-least (digits bits) (omega arith) (omega arith)) in
-    let high : w ≤ 16777216 = rw e (kept-most (digits bits) (omega arith) (omega arith)) in (
+    let low : 2 ^ 23 ≤ w = rw e (kept-least (digits bits) (omega arith) (omega arith)) in
+    let high : w ≤ 2 ^ 24 = rw e (kept-most (digits bits) (omega arith) (omega arith)) in (
       omega arith,
       λ s.
           round-pattern binary32 s (digits bits * 2 ^ place bits) (2 ^ 1074) (up-by bits) w (rw e (normal-units s bits least))
@@ -101,7 +101,7 @@ at-normal bits w least most e =
     )
 
 -- from 2 ^ 128 on: the digits stand so far up that the number is beyond the largest f32
-overflow : (s : Bool) (bits : ℕ) → 1151 ≤ bits / 4503599627370496 → bits < 0x7ff0000000000000
+overflow : (s : Bool) (bits : ℕ) → 1151 ≤ bits / 2 ^ 52 → bits < 0x7ff0000000000000
     → narrowed (ofBits binary64 (signed binary64 s bits)) ≡ inf s
 overflow s bits least h =
     finite s bits (omega arith) h
@@ -109,7 +109,7 @@ overflow s bits least h =
     ∙ units-over binary32 s (closest (digits bits) (2 ^ 29)) (up-by bits)
     (mul-le-mul {n₁ = 2 ^ 23} {m₁ = 2 ^ 254} (kept-least (digits bits) (omega arith) (omega arith)) (pow-mono {i = 254} (omega arith)))
 
-pub at-infinity : (bits : ℕ) → bits ≤ 0x7ff0000000000000 → 1151 ≤ bits / 4503599627370496 → Narrows bits 0x7f800000
+pub at-infinity : (bits : ℕ) → bits ≤ 0x7ff0000000000000 → 1151 ≤ bits / 2 ^ 52 → Narrows bits 0x7f800000
 at-infinity bits most least = (
   omega arith,
   λ s. inf-pattern s ∙ sym (elim (eq-or-lt-of-le most) [
@@ -126,19 +126,19 @@ few-units : (s : Bool) (q j d : ℕ) → j + d ≡ 925 → 29 ≤ d → q < 2 ^ 
 few-units s q j d e h small =
     round-digits binary32 s q j 1074 d 0 (omega arith) (lt-of-lt-of-le small (pow-mono {i = 53} (omega arith))) (inl refl)
 
-few-pattern : (s : Bool) (q j d w : ℕ) → j + d ≡ 925 → 29 ≤ d → q < 2 ^ 53 → w ≡ closest q (2 ^ d) → w ≤ 16777216
+few-pattern : (s : Bool) (q j d w : ℕ) → j + d ≡ 925 → 29 ≤ d → q < 2 ^ 53 → w ≡ closest q (2 ^ d) → w ≤ 2 ^ 24
     → ofBits binary32 (signed binary32 s w) ≡ round binary32 s (q * 2 ^ j) (2 ^ 1074)
 few-pattern s q j d w e h small is most =
-    let sum : 0 * 8388608 + w ≡ w = omega arith in
+    let sum : 0 * 2 ^ 23 + w ≡ w = omega arith in
     ap (λ (p : ℕ). ofBits binary32 (signed binary32 s p)) (sym sum)
     ∙ round-pattern binary32 s (q * 2 ^ j) (2 ^ 1074) 0 w (rw is (few-units s q j d e h small)) (inl refl) most (omega arith)
 
-pub at-subnormal : (bits w : ℕ) → 873 ≤ bits / 4503599627370496 → bits / 4503599627370496 < 897
-    → w ≡ closest (digits bits) (2 ^ (926 - bits / 4503599627370496)) → Narrows bits w
+pub at-subnormal : (bits w : ℕ) → 873 ≤ bits / 2 ^ 52 → bits / 2 ^ 52 < 897
+    → w ≡ closest (digits bits) (2 ^ (926 - bits / 2 ^ 52)) → Narrows bits w
 at-subnormal bits w least most e =
-    let d = 926 - bits / 4503599627370496 in
+    let d = 926 - bits / 2 ^ 52 in
     let whole : digits bits / 2 ^ d < 2 ^ 24 = shr-lt 24 d (lt-of-lt-of-le {m = 2 ^ 53} (omega arith) (pow-mono {i = 53} (omega arith))) in
-    let high : w ≤ 16777216 = rw e (omega (arith, closest-most (digits bits) (2 ^ d))) in (
+    let high : w ≤ 2 ^ 24 = rw e (omega (arith, closest-most (digits bits) (2 ^ d))) in (
       omega arith,
       λ s.
           few-pattern s (digits bits) (place bits) d w (omega arith) (omega arith) (omega arith) e high
@@ -155,10 +155,10 @@ nothing q d small h =
 tiny : (s : Bool) (q j : ℕ) → q < 2 ^ 53 → j ≤ 871 → ofBits binary32 (signed binary32 s 0) ≡ round binary32 s (q * 2 ^ j) (2 ^ 1074)
 tiny s q j small h = few-pattern s q j (925 - j) 0 (omega arith) (omega arith) small (nothing q (925 - j) small (omega arith)) (omega arith)
 
-pub at-zero : (bits : ℕ) → bits / 4503599627370496 < 873 → Narrows bits 0
+pub at-zero : (bits : ℕ) → bits / 2 ^ 52 < 873 → Narrows bits 0
 at-zero bits most = (
   omega arith,
-  λ s. elim (lt-or-ge bits 4503599627370496) [
+  λ s. elim (lt-or-ge bits (2 ^ 52)) [
     | inl h ↦
         tiny s bits 0 (omega arith) (omega arith)
         ∙ ap (λ (a : ℕ). round binary32 s a (2 ^ 1074)) (mul-one bits)
@@ -181,7 +181,7 @@ module _ (x : Float) (holds : T (fits binary64 x)) (bits : ℕ) (of-x : bits ≡
       ∙ ap (λ (b : ℕ). narrowed (ofBits binary64 b)) (zero-add bits)
       ∙ ap narrowed back
 
-  pub with-sign : 0x8000000000000000 ≤ bits → Narrows (bits - 0x8000000000000000) r → y ≡ ofBits binary32 (0x80000000 + r) → y ≡ narrowed x
+  pub with-sign : 2 ^ 63 ≤ bits → Narrows (bits - 2 ^ 63) r → y ≡ ofBits binary32 (2 ^ 31 + r) → y ≡ narrowed x
   with-sign h n is =
-      let whole : 0x8000000000000000 + (bits - 0x8000000000000000) ≡ bits = omega arith in
+      let whole : 2 ^ 63 + (bits - 2 ^ 63) ≡ bits = omega arith in
       is ∙ n .1 true ∙ ap (λ (b : ℕ). narrowed (ofBits binary64 b)) whole ∙ ap narrowed back

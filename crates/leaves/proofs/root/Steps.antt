@@ -85,10 +85,10 @@ module _
         (ap (λ (z : ℕ). digits * z * 4 ^ 589) (parity scale) ∙ regroup digits (1 + scale % 2) (4 ^ (scale / 2)) (2 ^ 52) (2 ^ 1126)) v
 
     -- the pattern that is put together has the value q * 2 ^ u / 2 ^ 589
-    of-root : HasValue (ofBits binary64 ((scale / 2 + 485) * 4503599627370496 + q)) false (q * 2 ^ (scale / 2)) (2 ^ 589)
+    of-root : HasValue (ofBits binary64 ((scale / 2 + 485) * 2 ^ 52 + q)) false (q * 2 ^ (scale / 2)) (2 ^ 589)
     of-root =
         let k = scale / 2 + 485 in
-        let sum = k * 4503599627370496 + q in
+        let sum = k * 2 ^ 52 + q in
         let value : HasValue (ofBits binary64 sum) false (q * 2 ^ k) (2 ^ 1074) =
         subst (λ (b : ℕ). HasValue (ofBits binary64 b) false (q * 2 ^ k) (2 ^ 1074)) (zero-add sum)
         (value-of-sum binary64 false k q (inr q-least) q-most (omega (arith, q-most))) in
@@ -98,7 +98,7 @@ module _
         regrouped : (a b c d : ℕ) → a * (b * c) * d ≡ a * b * (c * d)
         regrouped a b c d = simp mul-assoc
 
-    pub scaled-root-is : (r : Float) → r ≡ ofBits binary64 ((scale / 2 + 485) * 4503599627370496 + q)
+    pub scaled-root-is : (r : Float) → r ≡ ofBits binary64 ((scale / 2 + 485) * 2 ^ 52 + q)
         → (x : Float) → HasValue x false (digits * 2 ^ scale) (2 ^ 1126) → NearestRoot x r
     scaled-root-is r is x v = record {
       n = even digits scale * 2 ^ 52;
@@ -114,16 +114,16 @@ module _
 -- ---- from a pattern to 53 digits and a scale
 
 -- with a leading digit in the pattern
-pub normal-value : (bits : ℕ) → 4503599627370496 ≤ bits → bits < 0x7ff0000000000000
-    → HasValue (ofBits binary64 bits) false ((4503599627370496 + bits % 4503599627370496) * 2 ^ (bits / 4503599627370496 + 51)) (2 ^ 1126)
+pub normal-value : (bits : ℕ) → 2 ^ 52 ≤ bits → bits < 0x7ff0000000000000
+    → HasValue (ofBits binary64 bits) false ((2 ^ 52 + bits % 2 ^ 52) * 2 ^ (bits / 2 ^ 52 + 51)) (2 ^ 1126)
 normal-value bits least most =
-    let digits = 4503599627370496 + bits % 4503599627370496 in
-    let j = bits / 4503599627370496 - 1 in
+    let digits = 2 ^ 52 + bits % 2 ^ 52 in
+    let j = bits / 2 ^ 52 - 1 in
     let value : HasValue (ofBits binary64 bits) false (digits * 2 ^ j) (2 ^ 1074) =
     subst (λ (b : ℕ). HasValue (ofBits binary64 b) false (digits * 2 ^ j) (2 ^ 1074)) (zero-add bits)
     (value-of-digits binary64 false bits least most) in
-    let places : bits / 4503599627370496 + 51 ≡ j + 52 = omega arith in
-    rescaled (ofBits binary64 bits) false (digits * 2 ^ j) (2 ^ 1074) (digits * 2 ^ (bits / 4503599627370496 + 51)) (2 ^ 1126) (pow-pos 1074)
+    let places : bits / 2 ^ 52 + 51 ≡ j + 52 = omega arith in
+    rescaled (ofBits binary64 bits) false (digits * 2 ^ j) (2 ^ 1074) (digits * 2 ^ (bits / 2 ^ 52 + 51)) (2 ^ 1126) (pow-pos 1074)
     (moved digits (2 ^ j) (2 ^ 52) (2 ^ 1074) ∙ ap (λ (z : ℕ). digits * z * 2 ^ 1074) (sym (ap (λ (z : ℕ). 2 ^ z) places ∙ pow-add 2 j 52))) value
   where
     moved : (d p s t : ℕ) → d * p * (s * t) ≡ d * (p * s) * t
@@ -158,12 +158,12 @@ raised a some small =
       whole = whole;
     }
 
-pub subnormal-value : (bits : ℕ) → bits / 4503599627370496 ≡ 0 → (r : Raised (bits % 4503599627370496))
+pub subnormal-value : (bits : ℕ) → bits / 2 ^ 52 ≡ 0 → (r : Raised (bits % 2 ^ 52))
     → HasValue (ofBits binary64 bits) false
-    ((bits % 4503599627370496 * 2 ^ (leadingZeros 64 (bits % 4503599627370496) - 11)) % 2 ^ 64 * 2 ^ (52 - (leadingZeros 64 (bits % 4503599627370496) - 11)))
+    ((bits % 2 ^ 52 * 2 ^ (leadingZeros 64 (bits % 2 ^ 52) - 11)) % 2 ^ 64 * 2 ^ (52 - (leadingZeros 64 (bits % 2 ^ 52) - 11)))
     (2 ^ 1126)
 subnormal-value bits none r =
-    let a = bits % 4503599627370496 in
+    let a = bits % 2 ^ 52 in
     let shift = leadingZeros 64 a - 11 in
     let all : 0 + a ≡ bits = omega arith in
     let value : HasValue (ofBits binary64 bits) false a (2 ^ 1074) =
@@ -242,10 +242,10 @@ module _ (m : ℕ) (e : ℤ) (bits : ℕ) (is : ofBits binary64 bits ≡ fin fal
 
   -- the sign of a pattern below the infinity's is the number's
   no-sign : (s : Bool) (p : ℕ) → bits ≡ signed binary64 s p → p < 0x7ff0000000000000 → false ≡ s
-  no-sign s p split h = elim (lt-or-ge p 4503599627370496) [
+  no-sign s p split h = elim (lt-or-ge p (2 ^ 52)) [
     | inl l ↦ subst (λ (x : Float). HasValue x s p (2 ^ 1074)) same (value-of-tail binary64 s p l) .0
     | inr g ↦
-        subst (λ (x : Float). HasValue x s ((4503599627370496 + p % 4503599627370496) * 2 ^ (p / 4503599627370496 - 1)) (2 ^ 1074)) same
+        subst (λ (x : Float). HasValue x s ((2 ^ 52 + p % 2 ^ 52) * 2 ^ (p / 2 ^ 52 - 1)) (2 ^ 1074)) same
         (value-of-digits binary64 s p g h) .0
   ]
     where
@@ -261,13 +261,13 @@ module _ (m : ℕ) (e : ℤ) (bits : ℕ) (is : ofBits binary64 bits ≡ fin fal
   finite-bits within =
       let split = sign-and-rest binary64 bits within in
       let s = split .0 in
-      let p = bits % 9223372036854775808 in
+      let p = bits % 2 ^ 63 in
       elim (lt-or-ge p 0x7ff0000000000000) [
         | inl l ↦
             let plain : bits ≡ 0 + p = split .1 ∙ ap (λ (t : Bool). signed binary64 t p) (sym (no-sign s p (split .1) l)) in
             omega arith
         | inr g ↦
-            absurd (no-more s (eqb (p % 4503599627370496) 0) (sym is ∙ ap (ofBits binary64) (split .1) ∙ no-number binary64 s p g (omega arith)))
+            absurd (no-more s (eqb (p % 2 ^ 52) 0) (sym is ∙ ap (ofBits binary64) (split .1) ∙ no-number binary64 s p g (omega arith)))
       ]
 
 -- So such a double is what `positive_root` takes, and its answer is the root.

@@ -54,12 +54,12 @@ rounded-of-value (fin t m e) s a c h v =
 -- ---- below 2 ^ 23
 
 abbrev digits : ℕ → ℕ
-digits bits = 8388608 + bits % 8388608
+digits bits = 2 ^ 23 + bits % 2 ^ 23
 
 abbrev place : ℕ → ℕ
-place bits = bits / 8388608 - 1
+place bits = bits / 2 ^ 23 - 1
 
-finite : (s : Bool) (bits : ℕ) → 8388608 ≤ bits → bits < 0x7f800000
+finite : (s : Bool) (bits : ℕ) → 2 ^ 23 ≤ bits → bits < 0x7f800000
     → rounded (ofBits binary32 (signed binary32 s bits)) ≡ round binary32 s (half-up (digits bits * 2 ^ place bits) (2 ^ 149)) 1
 finite s bits h k = rounded-of-value _ s _ _ (pow-pos 149) (value-of-digits binary32 s bits h k)
 
@@ -73,8 +73,8 @@ tiny q j h k =
     lt-of-lt-of-le (mul-lt-mul-of-pos-right h (pow-pos j)) (mul-le-mul-left (2 ^ 24) (pow-mono {j = 124} k)) in
     mul-lt-mul-of-pos-left {n = 2 ^ 148} less (lit< tt)
 
-pub at-small : (bits : ℕ) → bits / 8388608 < 126 → Rounds bits 0
-at-small bits h s = elim (lt-or-ge bits 8388608) [
+pub at-small : (bits : ℕ) → bits / 2 ^ 23 < 126 → Rounds bits 0
+at-small bits h s = elim (lt-or-ge bits (2 ^ 23)) [
   | inl l ↦
       rounded-of-value _ s _ _ (pow-pos 149) (value-of-tail binary32 s bits l)
       ∙ ap (λ (w : ℕ). round binary32 s w 1) (small bits (2 ^ 149) (lt-of-lt-of-le {m = 2 ^ 24} (omega arith) (lit≤ tt)))
@@ -85,7 +85,7 @@ at-small bits h s = elim (lt-or-ge bits 8388608) [
 ]
 
 -- d digits stand after the point: the number is digits / 2 ^ d
-pub at-digits : (bits d : ℕ) → 126 ≤ bits / 8388608 → bits / 8388608 + d ≡ 150 → Rounds bits ((2 * digits bits + 2 ^ d) / 2 ^ (d + 1))
+pub at-digits : (bits d : ℕ) → 126 ≤ bits / 2 ^ 23 → bits / 2 ^ 23 + d ≡ 150 → Rounds bits ((2 * digits bits + 2 ^ d) / 2 ^ (d + 1))
 at-digits bits d h e s =
     let places : place bits + d ≡ 149 = omega arith in
     let power : 2 ^ place bits * 2 ^ d ≡ 2 ^ 149 = sym (pow-add 2 (place bits) d) ∙ ap (λ (z : ℕ). 2 ^ z) places in
@@ -96,14 +96,14 @@ at-digits bits d h e s =
     ∙ ap (λ (z : ℕ). (2 * digits bits + 2 ^ d) / z) (sym (ap (λ (z : ℕ). 2 ^ z) (add-one d) ∙ pow-succ' 2 d)))
 
 -- the same with 2 ^ d as the code makes it, by a shift
-pub at-shifted : (bits : ℕ) → 126 ≤ bits / 8388608 → bits / 8388608 < 150
-    → Rounds bits ((2 * digits bits + (1 * 2 ^ (150 - bits / 8388608)) % 2 ^ 32) / 2 ^ (150 - bits / 8388608 + 1))
+pub at-shifted : (bits : ℕ) → 126 ≤ bits / 2 ^ 23 → bits / 2 ^ 23 < 150
+    → Rounds bits ((2 * digits bits + (1 * 2 ^ (150 - bits / 2 ^ 23)) % 2 ^ 32) / 2 ^ (150 - bits / 2 ^ 23 + 1))
 at-shifted bits h k s =
-    let d = 150 - bits / 8388608 in
+    let d = 150 - bits / 2 ^ 23 in
     rw (one-up d 32 (omega arith)) (at-digits bits d h (omega arith) s)
 
-pub shifted-fits : (bits : ℕ) → 126 ≤ bits / 8388608 → (1 * 2 ^ (150 - bits / 8388608)) % 2 ^ 32 ≤ 2 ^ 24
-shifted-fits bits h = rw (one-up (150 - bits / 8388608) 32 (omega arith)) (pow-mono {j = 24} (omega arith))
+pub shifted-fits : (bits : ℕ) → 126 ≤ bits / 2 ^ 23 → (1 * 2 ^ (150 - bits / 2 ^ 23)) % 2 ^ 32 ≤ 2 ^ 24
+shifted-fits bits h = rw (one-up (150 - bits / 2 ^ 23) 32 (omega arith)) (pow-mono {j = 24} (omega arith))
 
 -- ---- from 2 ^ 23 on
 
@@ -136,10 +136,10 @@ no-fraction true s x e = rw e refl
 no-fraction false s x e = rw e refl
 
 -- The sign, and what stands below it, of an f32 from 2 ^ 23 on: an infinity, a NaN, or a whole number.
-pub at-large : (x : Float) (word : ℕ) → T (fits binary32 x) → word ≡ toBits binary32 x → 0x4b000000 ≤ word % 2147483648 → x ≡ rounded x
+pub at-large : (x : Float) (word : ℕ) → T (fits binary32 x) → word ≡ toBits binary32 x → 0x4b000000 ≤ word % 2 ^ 31 → x ≡ rounded x
 at-large x word holds of-x least =
-    let p = word % 2147483648 in
-    let split = sign-and-rest binary32 word (subst (λ (b : ℕ). b < 4294967296) (sym of-x) (toBits-lt binary32 x holds)) in
+    let p = word % 2 ^ 31 in
+    let split = sign-and-rest binary32 word (subst (λ (b : ℕ). b < 2 ^ 32) (sym of-x) (toBits-lt binary32 x holds)) in
     let s = split .0 in
     let is : ofBits binary32 (signed binary32 s p) ≡ x = ap (ofBits binary32) (sym (split .1) ∙ of-x) ∙ ofBits-toBits binary32 x holds in
     sym (elim (lt-or-ge p 0x7f800000) [
@@ -147,7 +147,7 @@ at-large x word holds of-x least =
           whole-number s x (digits p) (place p) holds
           (subst (λ (y : Float). HasValue y s (digits p * 2 ^ place p) (2 ^ 149)) is (value-of-digits binary32 s p (omega arith) l))
           (omega arith) (omega arith) (omega arith)
-      | inr g ↦ no-fraction (eqb (p % 8388608) 0) s x (sym is ∙ no-number binary32 s p g (omega arith))
+      | inr g ↦ no-fraction (eqb (p % 2 ^ 23) 0) s x (sym is ∙ no-number binary32 s p g (omega arith))
     ])
 
 -- ---- the sign goes over
@@ -160,8 +160,8 @@ module _ (x : Float) (holds : T (fits binary32 x)) (word : ℕ) (of-x : word ≡
   unfolding ofInt
   with-no-sign r is = is ∙ sym (r false) ∙ ap (λ (b : ℕ). rounded (ofBits binary32 b)) (zero-add word) ∙ ap rounded back
 
-  pub with-sign : 0x80000000 ≤ word → Rounds (word - 0x80000000) w → y ≡ ofInt binary32 (pos w) → neg y ≡ rounded x
+  pub with-sign : 2 ^ 31 ≤ word → Rounds (word - 2 ^ 31) w → y ≡ ofInt binary32 (pos w) → neg y ≡ rounded x
   unfolding ofInt
   with-sign h r is =
-      let whole : 0x80000000 + (word - 0x80000000) ≡ word = omega arith in
+      let whole : 2 ^ 31 + (word - 2 ^ 31) ≡ word = omega arith in
       ap neg is ∙ neg-round binary32 w 1 ∙ sym (r true) ∙ ap (λ (b : ℕ). rounded (ofBits binary32 b)) whole ∙ ap rounded back

@@ -1,6 +1,6 @@
 -- `positive_root` meets its contract: the digits that it hands on are 53, and with their scale they are the number of
 -- the pattern (`Steps.antt` beside it). Assumes nothing.
-use Prim.Native.Nat.{ℕ, _/_, _%_, _≤_}
+use Prim.Native.Nat.{ℕ, _/_, _%_, _^_, _≤_}
 use mathlib.Core.Path.{_≡_}
 use native.Mathlib.Omega.{arith}
 use Rattle.leaves.proofs.root.Steps.{Raised, raised, subnormal-value, normal-value}
@@ -9,10 +9,10 @@ use Rattle.leaves.proofs.root.positive_root.Statement.{statement}
 use Rattle.leaves.proofs.root.positive_root.Tie as tie
 
 -- the digits of a subnormal double, moved up
-up : (bits : ℕ) → 1 ≤ bits → bits / 4503599627370496 ≡ 0 → Raised (bits % 4503599627370496)
-up bits h e = raised (bits % 4503599627370496) (omega arith) (omega arith)
+up : (bits : ℕ) → 1 ≤ bits → bits / 2 ^ 52 ≡ 0 → Raised (bits % 2 ^ 52)
+up bits h e = raised (bits % 2 ^ 52) (omega arith) (omega arith)
 
-moved : (c : tie.Then1) → Raised (c .before .args .bits % 4503599627370496)
+moved : (c : tie.Then1) → Raised (c .before .args .bits % 2 ^ 52)
 moved c = up _ (c .before .pre .0) (c .if1 .taken)
 
 sub-shift : tie.Need-sub-shift
