@@ -62,8 +62,8 @@ fn rounding_to_whole() {
     });
 }
 
-/// All 2 ^ 32 of them, with nothing left to chance. It takes minutes under an emulator, so it runs when
-/// asked for: `host/test -- --ignored`.
+/// All 2 ^ 32 of them, with nothing left to chance. It takes a quarter of an hour under an emulator, so it
+/// runs when asked for: `host/test -- --ignored`.
 #[test]
 #[ignore]
 fn rounding_every_float_to_whole() {

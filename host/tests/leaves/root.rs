@@ -5,9 +5,10 @@ use cathar_host::tally::Class;
 
 const INFINITY: u64 = 0x7ff0_0000_0000_0000;
 
-/// A root is near a tie where, scaled to a whole number n, its number is so close to s * s + s, for
-/// the whole root s: the tie is at s + 1/2, whose square is s * s + s + 1/4.
-const NEAR: i128 = 4096;
+/// A root is near a tie where its number, scaled to a whole number n whose root has 53 digits, is so close
+/// to s * s + s for the whole root s: the tie is at s + 1/2, whose square is s * s + s + 1/4. Of numbers
+/// drawn at random about one in 2 ^ 40 is so near.
+const NEAR: i64 = 4096;
 
 pub const CLASSES: &[Class] = &[
     Class { name: "below zero", holds: |f, b| f.is_negative(b) && !f.is_zero(b) && !f.is_nan(b) },
@@ -33,11 +34,13 @@ pub fn turn(draw: &mut Draw, put: &mut dyn FnMut(u64)) {
     for size in 1..=52 {
         subnormals(draw, size, put);
     }
+    for off in (-NEAR..=NEAR).step_by(2) {
+        near_tie(draw, off, false, put);
+        near_tie(draw, off, true, put);
+    }
     for _ in 0..20_000 {
         short_square(draw, put);
         long_square(draw, put);
-        square_of_half(draw, put);
-        near_tie(draw, put);
         put(draw.word());
     }
 }
@@ -69,16 +72,11 @@ fn short_square(draw: &mut Draw, put: &mut dyn FnMut(u64)) {
     with_neighbours(square(draw, root), put);
 }
 
-/// The square of a number of 53 digits, cut off to a double, and its neighbours.
+/// The square of a number of 53 digits, cut off to a double, and its neighbours. (Nearly every double is
+/// within a step of such a square, so this is no class.)
 fn long_square(draw: &mut Draw, put: &mut dyn FnMut(u64)) {
     let root = (1 << 52) | draw.digits(52);
     with_neighbours(square(draw, root), put);
-}
-
-/// The same for 53 digits and a half: here the root is near a tie.
-fn square_of_half(draw: &mut Draw, put: &mut dyn FnMut(u64)) {
-    let twice = (1 << 53) | draw.digits(53) | 1;
-    with_neighbours(square(draw, twice), put);
 }
 
 fn with_neighbours(bits: u64, put: &mut dyn FnMut(u64)) {
@@ -102,17 +100,16 @@ fn scaled(draw: &mut Draw, digits: u64, odd: bool) -> u64 {
     F64.pattern(field, F64.tail(digits))
 }
 
-/// A double whose root is near a tie. With n = s * s + s + off and h = 2 * s + 1, h * h is
-/// 4 * n + 1 - 4 * off. The double has n's first 53 digits and the others are 0, so that 4 * n is a
-/// multiple of a power of 2, by which h * h leaves 1 - 4 * off. Such an h is found digit by digit.
-fn near_tie(draw: &mut Draw, put: &mut dyn FnMut(u64)) {
-    let off = 2 * draw.below(NEAR as u64) as i64 - NEAR as i64;
-    let odd = draw.below(2) == 1;
+/// Doubles whose root is near a tie, at an even or an odd scale. With n = s * s + s + off, where off is
+/// even, and h = 2 * s + 1, h * h is 4 * n + 1 - 4 * off. Of n's digits a double holds 53, so that the
+/// others are 0, and 4 * n is a multiple of a power of 2. By that power h * h leaves what 1 - 4 * off
+/// does. With one such h, the negative is one too, and so are both with half of the power added.
+fn near_tie(draw: &mut Draw, off: i64, odd: bool, put: &mut dyn FnMut(u64)) {
     let power = if odd { 55 } else { 54 };
-    let found = root_modulo(1i64.wrapping_sub(4 * off) as u64, power);
+    let found = root_modulo((1 - 4 * off) as u64, power);
     for h in [found, found.wrapping_neg()] {
-        for up in [0, 1 << (power - 1)] {
-            let h = h.wrapping_add(up) % (1 << power);
+        for half in [0, 1 << (power - 1)] {
+            let h = h.wrapping_add(half) % (1 << power);
             if let Some(digits) = digits_by_tie(h, off, power) {
                 put(scaled(draw, digits, odd));
             }
@@ -120,8 +117,8 @@ fn near_tie(draw: &mut Draw, put: &mut dyn FnMut(u64)) {
     }
 }
 
-/// The odd h with h * h equal to a modulo 2 ^ power, where a is 1 modulo 8: each turn makes it right
-/// at one digit more.
+/// An odd h for which h * h and a, which is 1 modulo 8, leave the same by 2 ^ power. Each turn makes one
+/// digit more agree.
 fn root_modulo(a: u64, power: u32) -> u64 {
     let mut h: u64 = 1;
     for at in 3..power {
@@ -131,7 +128,7 @@ fn root_modulo(a: u64, power: u32) -> u64 {
     h
 }
 
-/// The first 53 digits of n, as in `near_tie`, where h has 54 digits and n as many as the scale asks.
+/// The 53 digits of n, as in `near_tie`, where h has 54 and n as many as the scale asks.
 fn digits_by_tie(h: u64, off: i64, power: u32) -> Option<u64> {
     if h >> 53 != 1 {
         return None;
@@ -154,7 +151,7 @@ fn is_square(bits: u64) -> bool {
 /// Whether the root is near a tie, and above it or not.
 fn is_near_tie(bits: u64, above: bool) -> bool {
     match excess(bits) {
-        Some((q, over)) => (over < 0) == above && q - over.abs() <= NEAR,
+        Some((q, over)) => (over < 0) == above && q - over.abs() <= i128::from(NEAR),
         None => false,
     }
 }
