@@ -1,16 +1,29 @@
 // Replays a list of answers and compares. The list is text on standard input, a line of 36 bytes for
 // each answer: the letter of a leaf, the pattern that goes in and the pattern that must come out, each
-// as 16 hexadecimal digits in lower case, with a space before each.
-//   r  the square root of an f64
-//   n  an f64 narrowed to an f32
-//   w  an f32 rounded to whole
+// as 16 hexadecimal digits in lower case, with a space before each. What goes in is an f64 or, in the
+// lower half, an f32, unless the letter's line below says otherwise.
+//   r  the square root of an f64               l  the larger of two f32, the first in the upper half
+//   n  an f64 narrowed to an f32               g  the larger of the same two, widened
+//   w  an f32 rounded to whole                 s  the smaller of two f32
+//   i  whether a sample is in range, 1 or 0    c  an f32 in the upper half held to two others, of each
+//   x  an f32 widened                             of which the lower half has the upper 16 bits
+//   m  the magnitude of an f32
+//   d  the magnitude of an f64
 ghost use Prim.Native.Nat.{_+_, _≤_};
 ghost use lib.ListN.{length};
 use leaves::narrow::narrow;
+use leaves::order::clamp32;
+use leaves::order::larger32;
+use leaves::order::larger64;
+use leaves::order::magnitude32;
+use leaves::order::magnitude64;
+use leaves::order::smaller32;
 use leaves::root::square_root;
 use leaves::whole::round_to_whole;
 use leaves::words::f32_of_word;
 use leaves::words::f64_of_word;
+use leaves::words::in_range;
+use leaves::words::widen;
 use leaves::words::word_of_f32;
 use leaves::words::word_of_f64;
 
@@ -42,15 +55,62 @@ fn number(list: &[u8], at: usize) -> u64
     n
 }
 
+// The lower and the upper 32 bits.
+fn lower(given: u64) -> u32 {
+    (given % 0x1_0000_0000) as u32
+}
+
+fn upper(given: u64) -> u32 {
+    (given / 0x1_0000_0000) as u32
+}
+
+// Of the lower 32 bits, the upper 16 and the lower 16, each as the upper half of a word.
+fn first_end(given: u64) -> u32 {
+    (given % 0x1_0000_0000 / 0x1_0000 * 0x1_0000) as u32
+}
+
+fn second_end(given: u64) -> u32 {
+    (given % 0x1_0000 * 0x1_0000) as u32
+}
+
+// What a leaf gives as an f64.
+fn answer64(letter: u8, given: u64) -> f64 {
+    let x = f64_of_word(given);
+    let a = f32_of_word(upper(given));
+    let b = f32_of_word(lower(given));
+    match letter {
+        b'r' => square_root(x),
+        b'd' => magnitude64(x),
+        b'x' => widen(b),
+        _ => larger64(widen(a), widen(b)),
+    }
+}
+
+// What a leaf gives as an f32.
+fn answer32(letter: u8, given: u64) -> f32 {
+    let a = f32_of_word(upper(given));
+    let b = f32_of_word(lower(given));
+    match letter {
+        b'n' => narrow(f64_of_word(given)),
+        b'w' => round_to_whole(b),
+        b'm' => magnitude32(b),
+        b'l' => larger32(a, b),
+        b's' => smaller32(a, b),
+        _ => clamp32(
+            a,
+            f32_of_word(first_end(given)),
+            f32_of_word(second_end(given)),
+        ),
+    }
+}
+
 // The pattern that a leaf gives for a pattern.
 fn answer(letter: u8, given: u64) -> u64 {
-    if letter == b'r' {
-        return word_of_f64(square_root(f64_of_word(given)));
+    match letter {
+        b'i' => in_range(lower(given)) as u64,
+        b'r' | b'd' | b'x' | b'g' => word_of_f64(answer64(letter, given)),
+        _ => word_of_f32(answer32(letter, given)) as u64,
     }
-    if letter == b'n' {
-        return word_of_f32(narrow(f64_of_word(given))) as u64;
-    }
-    word_of_f32(round_to_whole(f32_of_word((given % 0x1_0000_0000) as u32))) as u64
 }
 
 // Whether the line that begins at `at` has the answer that its leaf gives.
@@ -102,6 +162,14 @@ fn main() {
     print_line(b"lines ", list.len() / LINE);
     print_line(b"root ", agreeing(list, b'r'));
     print_line(b"narrow ", agreeing(list, b'n'));
-    print_line(b"whole ", agreeing(list, b'w'));
+    print_line(b"round to whole ", agreeing(list, b'w'));
+    print_line(b"in range ", agreeing(list, b'i'));
+    print_line(b"widen ", agreeing(list, b'x'));
+    print_line(b"magnitude32 ", agreeing(list, b'm'));
+    print_line(b"magnitude64 ", agreeing(list, b'd'));
+    print_line(b"larger32 ", agreeing(list, b'l'));
+    print_line(b"larger64 ", agreeing(list, b'g'));
+    print_line(b"smaller32 ", agreeing(list, b's'));
+    print_line(b"clamp32 ", agreeing(list, b'c'));
     print_line(b"first line that differs ", first_that_differs(list));
 }
