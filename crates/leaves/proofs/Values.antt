@@ -7,17 +7,39 @@ use Prim.Native.Nat.{ℕ, suc, _+_, _-_, _*_, _/_, _%_, _^_, _≤_, _<_}
 use native.Mathlib.Nat.{le-trans, le-add-right, le-add-left, not-le-of-lt, mul-one, mul-right-comm, mul-assoc}
 use native.Mathlib.Nat.{pow-succ', zero-add, zero-mul}
 use native.Mathlib.Omega.{arith}
-use mathlib.Core.Bool.{Bool, true, false, cond}
-use lib.Dec.{T, leb, eqb}
+use mathlib.Core.Bool.{Bool, true, false, cond, _&&_}
+use lib.IntN.{ℤ}
+use lib.Dec.{T, leb, ltb, eqb, leb→le, ltb→lt}
 use borrow.Author.Tests.{le-leb, lt-leb, ne-eqb}
-use lib.Ieee.{Float, nan, inf, fin, Format, binary32, binary64, prec, low, up, down, size, odd, hid, ones, top}
+use lib.Ieee.{Float, nan, inf, fin, Format, binary32, binary64, prec, emax, low, up, down, size, odd, hid, ones, top}
 use lib.Ieee.{ofFields, ofBits, toBits, fits}
-use lib.Ieee.Fits.{down-pos}
+use lib.Ieee.Fits.{and-l, and-r, down-pos}
 use lib.Ieee.Bits.{ofBits-toBits}
 use lib.Ieee.Nearest.{div-same}
 use lib.Ieee.Exact.{HasValue, odd-sign}
 use Rattle.leaves.specs.Steps.{signed}
 use Rattle.leaves.proofs.Numbers.{lt-or-ge}
+
+-- ---- which numbers a format holds
+
+-- m * 2 ^ e has no more digits than the format keeps, is a multiple of its least value, and is below 2 ^ (emax + 1)
+pub record Number (f : Format) (m : ℕ) (e : ℤ) : Type 0 where
+  pub few : m < 2 ^ prec f
+  pub fine : down e ≤ 2 ^ low f
+  pub finite : m * up e < 2 ^ suc (emax f) * down e
+
+pub number-of : (f : Format) (s : Bool) (m : ℕ) (e : ℤ) → T (fits f (fin s (suc m) e)) → Number f (suc m) e
+unfolding fits
+number-of f s m e t =
+    let a : Bool = eqb (suc m % 2) 1 in
+    let b : Bool = ltb (suc m) (2 ^ prec f) in
+    let c : Bool = leb (down e) (2 ^ low f) in
+    let d : Bool = ltb (suc m * up e) (2 ^ suc (emax f) * down e) in
+    record {
+      few = ltb→lt (suc m) (2 ^ prec f) (and-r a b (and-l (a && b) c (and-l (a && b && c) d t)));
+      fine = leb→le (down e) (2 ^ low f) (and-r (a && b) c (and-l (a && b && c) d t));
+      finite = ltb→lt (suc m * up e) (2 ^ suc (emax f) * down e) (and-r (a && b && c) d t);
+    }
 
 -- ---- one way to write a number
 

@@ -36,7 +36,8 @@ narrowed (inf s) = inf s
 narrowed (fin s m e) = round binary32 s (m * up e) (down e)
 
 -- "round to whole, halves away from zero": without its sign, a / b becomes the whole part of a / b + 1 / 2, which is
--- (2 * a + b) / (2 * b). The sign stays, also of a zero.
+-- (2 * a + b) / (2 * b). The sign stays, also of a zero. `round` changes nothing there, since an f32 holds that number
+-- (`rounded-whole` of proofs/whole/Laws.antt).
 unfoldable pub rounded : Float → Float
 unfolding round
 rounded nan = nan

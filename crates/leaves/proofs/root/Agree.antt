@@ -2,45 +2,25 @@
 -- (`meets`), nothing else has it (`only`),
 -- so whatever has it is `root x` (`agree`). For doubles. Assumes nothing.
 use mathlib.Core.Path.{_≡_, refl, sym, ap, _∙_, subst}
-use Prim.Native.Nat.{ℕ, zero, suc, _+_, _*_, _/_, _%_, _^_, _≤_, _<_}
+use Prim.Native.Nat.{ℕ, zero, suc, _+_, _*_, _/_, _^_, _≤_, _<_}
 use native.Mathlib.Nat.{le-of-eq, lt-of-lt-of-le, zero-lt-suc, mul-assoc, mul-right-comm, mul-lt-mul-of-pos-right}
 use native.Mathlib.Nat.{mul-div-cancel, div-lt-iff-lt-mul}
 use native.Mathlib.Omega.{arith}
-use mathlib.Core.Bool.{Bool, true, false, _&&_}
+use mathlib.Core.Bool.{true, false}
 use lib.IntN.{ℤ}
-use lib.Dec.{T, leb, ltb, eqb, leb→le, ltb→lt}
+use lib.Dec.{T}
 use lib.Pow.{pow-add, pow-pos}
 use lib.Ieee.{Float, nan, inf, fin, binary64, up, down, size, round, fits}
 use lib.Ieee.Digits.{size-le}
-use lib.Ieee.Fits.{and-l, and-r, down-pos, nan-fits, inf-fits, round-fits}
+use lib.Ieee.Fits.{down-pos, nan-fits, inf-fits, round-fits}
 use lib.Ieee.Exact.{HasValue}
 use Rattle.leaves.specs.Root.{Nearest, NearestRoot, SquareRoot, nearestRoot, rootOfUnits, root}
-use Rattle.leaves.proofs.Values.{same-value}
+use Rattle.leaves.proofs.Values.{Number, number-of, same-value}
 use Rattle.leaves.proofs.root.Squares.{nearest-only, nearest-root-is, nearest-most}
 use Rattle.leaves.proofs.root.Scales.{same-fraction, rescaled, units-of, scale-only, round-scaled, half, Scaled}
 use Rattle.leaves.proofs.root.Scales.{scaled}
 
 -- ---- the function has the meaning
-
--- what it takes for m * 2 ^ e to be a double: m has 53 digits at most, the number is a multiple of the least double,
--- and it is below 2 ^ 1024
-record Double (m : ℕ) (e : ℤ) : Type 0 where
-  few : m < 2 ^ 53
-  fine : down e ≤ 2 ^ 1074
-  finite : m * up e < 2 ^ 1024 * down e
-
-double-of : (s : Bool) (m : ℕ) (e : ℤ) → T (fits binary64 (fin s (suc m) e)) → Double (suc m) e
-unfolding fits
-double-of s m e t =
-    let a : Bool = eqb (suc m % 2) 1 in
-    let b : Bool = ltb (suc m) (2 ^ 53) in
-    let c : Bool = leb (down e) (2 ^ 1074) in
-    let d : Bool = ltb (suc m * up e) (2 ^ 1024 * down e) in
-    record {
-      few = ltb→lt (suc m) (2 ^ 53) (and-r a b (and-l (a && b) c (and-l (a && b && c) d t)));
-      fine = leb→le (down e) (2 ^ 1074) (and-r (a && b) c (and-l (a && b && c) d t));
-      finite = ltb→lt (suc m * up e) (2 ^ 1024 * down e) (and-r (a && b && c) d t);
-    }
 
 -- it is a of the least doubles: m with zeros appended
 record Units (m : ℕ) (e : ℤ) (a : ℕ) : Type 0 where
@@ -49,7 +29,7 @@ record Units (m : ℕ) (e : ℤ) (a : ℕ) : Type 0 where
   value : m * up e * 2 ^ 1074 ≡ a * down e
   most : a < 2 ^ 2098
 
-units : (m : ℕ) (e : ℤ) → Double m e → Units m e (m * up e * 2 ^ 1074 / down e)
+units : (m : ℕ) (e : ℤ) → Number binary64 m e → Units m e (m * up e * 2 ^ 1074 / down e)
 units m e d =
     let digits = units-of 1074 m e (d .fine) in
     let is : m * up e * 2 ^ 1074 / down e ≡ m * 2 ^ digits .0 =
@@ -103,7 +83,7 @@ of-units m e a p few u =
       nearest = nearest;
     }
 
-positive : (m : ℕ) (e : ℤ) → Double (suc m) e → NearestRoot (fin false (suc m) e) (root (fin false (suc m) e))
+positive : (m : ℕ) (e : ℤ) → Number binary64 (suc m) e → NearestRoot (fin false (suc m) e) (root (fin false (suc m) e))
 positive m e d =
     subst (NearestRoot (fin false (suc m) e)) (sym (root-is m e))
     (of-units (suc m) e (suc m * up e * 2 ^ 1074 / down e) (zero-lt-suc m) (d .few) (units (suc m) e d))
@@ -116,7 +96,7 @@ meets (inf true) t = refl
 meets (inf false) t = refl
 meets (fin s zero e) t = refl
 meets (fin true (suc m) e) t = refl
-meets (fin false (suc m) e) t = positive m e (double-of false m e t)
+meets (fin false (suc m) e) t = positive m e (number-of binary64 false m e t)
 
 -- ---- nothing else has it
 

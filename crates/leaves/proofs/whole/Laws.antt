@@ -1,25 +1,27 @@
 -- What an f32 rounds to, halves away from zero: by the field of its exponent, and the sign. Assumes nothing.
 use mathlib.Core.Path.{_≡_, refl, sym, ap, _∙_, subst}
 use mathlib.Core.Logic.{inl, inr}
-use Prim.Native.Nat.{ℕ, _+_, _-_, _*_, _/_, _%_, _^_, _≤_, _<_}
-use native.Mathlib.Nat.{lt-of-lt-of-le, mul-one, mul-comm, mul-assoc, mul-left-comm, add-mul, mul-lt-mul-of-pos-right}
+use Prim.Native.Nat.{ℕ, zero, suc, _+_, _-_, _*_, _/_, _%_, _^_, _≤_, _<_}
+use native.Mathlib.Nat.{le-of-suc-le-suc, div-lt-iff-lt-mul, zero-mul, lt-of-lt-of-le, mul-one, mul-comm, mul-assoc}
+use native.Mathlib.Nat.{mul-left-comm, add-mul, mul-lt-mul-of-pos-right}
 use native.Mathlib.Nat.{mul-lt-mul-of-pos-left, mul-le-mul-left, div-eq-of-lt, zero-add, pow-succ'}
 use native.Mathlib.Omega.{arith}
 use native.Mathlib.Numerals.{add-one}
 use mathlib.Core.Bool.{Bool, true, false, cond}
 use lib.Dec.{T, eqb, lit<, lit≤}
 use lib.Pow.{pow-add, pow-pos, pow-mono}
-use lib.IntN.{pos}
+use lib.IntN.{ℤ, pos, negsuc}
 use lib.Ieee.{Float, nan, inf, fin, binary32, up, down, ofBits, toBits, ofInt, neg, fits, round}
 use lib.Ieee.Fits.{down-pos, round-fits}
 use lib.Ieee.Bits.{ofBits-toBits, toBits-lt}
 use lib.Ieee.Nearest.{div-same}
 use lib.Ieee.Exact.{HasValue, round-exact}
+use lib.Ieee.Back.{round-whole}
 use lib.Ieee.Scale.{round-same}
 use Rattle.leaves.specs.Floats.{rounded}
 use Rattle.leaves.specs.Steps.{signed}
 use Rattle.leaves.proofs.Numbers.{lt-or-ge, one-up}
-use Rattle.leaves.proofs.Values.{same-value, sign-and-rest, no-number, value-of-tail, value-of-digits}
+use Rattle.leaves.proofs.Values.{number-of, same-value, sign-and-rest, no-number, value-of-tail, value-of-digits}
 use Rattle.leaves.proofs.Rounding.{neg-round}
 
 -- w is the whole number that the f32 with this pattern rounds to, with either sign
@@ -50,6 +52,37 @@ rounded-of-value (inf t) s a c h v = absurd v
 rounded-of-value (fin t m e) s a c h v =
     ap (λ (z : Bool). round binary32 z (half-up (m * up e) (down e)) 1) (v .0)
     ∙ ap (λ (w : ℕ). round binary32 s w 1) (half-up-same (m * up e) (down e) a c (down-pos e) h (v .1))
+
+-- ---- the whole number is one that an f32 holds: the rounding in the definition of `rounded` changes nothing
+
+below-one-more : (m d : ℕ) → m < 2 ^ 24 → 0 < d → half-up m d ≤ 2 ^ 24
+below-one-more m d few some =
+    le-of-suc-le-suc
+    (div-lt-iff-lt-mul (double-pos d some) .1
+    (let most : 2 ^ 25 ≤ 2 ^ 25 * d = subst (λ (z : ℕ). z ≤ 2 ^ 25 * d) (mul-one (2 ^ 25)) (mul-le-mul-left (2 ^ 25) some) in
+    let product : suc (2 ^ 24) * (2 * d) ≡ 2 ^ 25 * d + 2 * d = omega arith in
+    omega arith))
+
+pub rounded-whole : (s : Bool) (m : ℕ) (e : ℤ) → T (fits binary32 (fin s m e)) → HasValue (rounded (fin s m e)) s (half-up (m * up e) (down e)) 1
+unfolding rounded
+rounded-whole s zero e holds =
+    let none : half-up (0 * up e) (down e) ≤ 2 ^ 24 = subst (λ (z : ℕ). half-up z (down e) ≤ 2 ^ 24) (sym (zero-mul (up e))) (below-one-more 0 (down e) (lit< tt) (down-pos e)) in
+    round-whole binary32 s (half-up (0 * up e) (down e)) none
+rounded-whole s (suc m) (pos k) holds =
+    let number = number-of binary32 s m (pos k) holds in
+    let w = suc m * 2 ^ k in
+    let same : half-up w 1 ≡ w = omega arith in
+    let units : w * 2 ^ 149 ≡ suc m * 2 ^ (k + 149) =
+    mul-assoc (suc m) (2 ^ k) (2 ^ 149) ∙ ap (λ (z : ℕ). suc m * z) (sym (pow-add 2 k 149)) in
+    let below : suc m * 2 ^ (k + 149) < 2 ^ 277 =
+    subst (λ (z : ℕ). z < 2 ^ 277) units (mul-lt-mul-of-pos-right {n = 2 ^ 128} (number .finite) (pow-pos 149)) in
+    subst (λ (z : ℕ). HasValue (round binary32 s z 1) s z 1) (sym same)
+    (round-exact binary32 s w 1 (suc m) (k + 149) (lit< tt) (number .few) below (units ∙ sym (mul-one (suc m * 2 ^ (k + 149)))))
+rounded-whole s (suc m) (negsuc k) holds =
+    let number = number-of binary32 s m (negsuc k) holds in
+    let most : half-up (suc m * 1) (2 ^ suc k) ≤ 2 ^ 24 =
+    subst (λ (z : ℕ). half-up z (2 ^ suc k) ≤ 2 ^ 24) (sym (mul-one (suc m))) (below-one-more (suc m) (2 ^ suc k) (number .few) (pow-pos (suc k))) in
+    round-whole binary32 s (half-up (suc m * 1) (2 ^ suc k)) most
 
 -- ---- below 2 ^ 23
 
