@@ -1,6 +1,5 @@
 -- Laws on lists, of any element, that the crates above cite: a part that was lent to be written and comes back is a run
--- of stores (`sets`),
--- and what a run of stores leaves at each place. Assumes nothing.
+-- of stores (`sets`), and what a run of stores leaves at each place. Assumes nothing.
 use mathlib.Core.Path.{_≡_, refl, sym, _∙_}
 use mathlib.Core.List.{List, [], _∷_, append-assoc}
 use Prim.Native.Nat.{ℕ, zero, suc, _+_, _-_, _≤_, _<_}

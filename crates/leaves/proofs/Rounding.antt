@@ -1,6 +1,5 @@
 -- How `round` of lib.Ieee rounds a number that is written with binary digits: which digits it keeps, and the pattern of
--- what it gives.
--- Each law holds for both formats. Assumes nothing.
+-- what it gives. Each law holds for both formats. Assumes nothing.
 use mathlib.Core.Path.{_≡_, refl, sym, ap, _∙_}
 use mathlib.Core.Logic.{_⊎_, inl, inr}
 use Prim.Native.Nat.{ℕ, zero, suc, _+_, _-_, _*_, _/_, _%_, _^_, _≤_, _<_, zero-le, compare}
@@ -31,8 +30,8 @@ size-gt : (n j : ℕ) → 2 ^ j ≤ n → j < size n
 size-gt n j h = lt-of-not-le (λ (g : size n ≤ j). not-le-of-lt (lt-of-lt-of-le (size-lt n) (pow-mono g)) h)
 
 -- q * 2 ^ j / 2 ^ l is rounded in units of the format's least value. Of q, d digits are dropped, and what is left
--- stands k places up:
--- none, where what is left has no more digits than the format keeps, and else so many that just these are left.
+-- stands k places up: none, where what is left has no more digits than the format keeps, and else so many that just
+-- these are left.
 module _ (f : Format) (s : Bool) (q j l d k : ℕ) (places : j + low f + d ≡ l + k) where
   scaled : q * 2 ^ j * 2 ^ low f * 2 ^ d ≡ q * (2 ^ l * 2 ^ k)
   scaled = simp (mul-assoc, ← pow-add) (ap (λ (z : ℕ). q * 2 ^ z) places)

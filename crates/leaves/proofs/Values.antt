@@ -4,7 +4,8 @@
 use mathlib.Core.Path.{_≡_, refl, sym, ap, _∙_, subst}
 use mathlib.Core.Logic.{_⊎_, inl, inr}
 use Prim.Native.Nat.{ℕ, suc, _+_, _-_, _*_, _/_, _%_, _^_, _≤_, _<_}
-use native.Mathlib.Nat.{le-trans, le-add-right, le-add-left, not-le-of-lt, mul-one, mul-right-comm, mul-assoc}
+use native.Mathlib.Nat.{eq-of-mul-eq-mul-right, le-trans, le-add-right, le-add-left, not-le-of-lt, mul-one}
+use native.Mathlib.Nat.{mul-right-comm, mul-assoc}
 use native.Mathlib.Nat.{pow-succ', zero-add, zero-mul}
 use native.Mathlib.Omega.{arith}
 use mathlib.Core.Bool.{Bool, true, false, cond, _&&_}
@@ -62,6 +63,34 @@ bits-of-value f s a c (fin t m e) h v =
 pub same-value : (f : Format) (s : Bool) (a c : ℕ) (x y : Float) → 0 < c → T (fits f x) → T (fits f y) → HasValue x s a c → HasValue y s a c → x ≡ y
 same-value f s a c x y h fx fy vx vy =
     sym (ofBits-toBits f x fx) ∙ ap (ofBits f) (bits-of-value f s a c x h vx ∙ sym (bits-of-value f s a c y h vy)) ∙ ofBits-toBits f y fy
+
+-- ---- a float as a fraction
+
+-- the fractions that a float is are equal
+pub same-fraction : (x : Float) (s : Bool) (a c a' c' : ℕ) → HasValue x s a c → HasValue x s a' c' → a * c' ≡ a' * c
+same-fraction nan s a c a' c' v v' = absurd v
+same-fraction (inf t) s a c a' c' v v' = absurd v
+same-fraction (fin t m e) s a c a' c' v v' =
+    eq-of-mul-eq-mul-right (down e) (down-pos e) (a * c') (a' * c)
+    (mul-right-comm a c' (down e)
+    ∙ ap (λ (z : ℕ). z * c') (sym (v .1))
+    ∙ mul-right-comm (m * up e) c c'
+    ∙ ap (λ (z : ℕ). z * c) (v' .1)
+    ∙ mul-right-comm a' (down e) c)
+
+-- a float that is a fraction is every fraction equal to it
+pub rescaled : (x : Float) (s : Bool) (a c a' c' : ℕ) → 0 < c → a * c' ≡ a' * c → HasValue x s a c → HasValue x s a' c'
+rescaled nan s a c a' c' p h v = v
+rescaled (inf t) s a c a' c' p h v = v
+rescaled (fin t m e) s a c a' c' p h v = (
+  v .0,
+  eq-of-mul-eq-mul-right c p (m * up e * c') (a' * down e)
+      (mul-right-comm (m * up e) c' c
+      ∙ ap (λ (z : ℕ). z * c') (v .1)
+      ∙ mul-right-comm a (down e) c'
+      ∙ ap (λ (z : ℕ). z * down e) h
+      ∙ mul-right-comm a' c (down e)),
+)
 
 -- ---- the number of a pattern
 

@@ -1,6 +1,5 @@
 -- Magnitude and order: what the code's tests tell of the magnitude of a float, of the larger and the smaller of two,
--- and of a float held to a span.
--- A law over any float, or over a format, serves both widths. Assumes nothing.
+-- and of a float held to a span. A law over any float, or over a format, serves both widths. Assumes nothing.
 use mathlib.Core.Path.{_≡_, refl, ap}
 use mathlib.Core.Bool.{Bool, true, false, cond, and-eq-true-iff, true≢false, false≢true}
 use Prim.Native.Nat.{zero, suc, _+_, _*_}

@@ -1,6 +1,5 @@
 -- The meaning of the square root and the function that the rules compute with say the same: `root x` has the meaning
--- (`meets`), nothing else has it (`only`),
--- so whatever has it is `root x` (`agree`). For doubles. Assumes nothing.
+-- (`meets`), nothing else has it (`only`), so whatever has it is `root x` (`agree`). For doubles. Assumes nothing.
 use mathlib.Core.Path.{_≡_, refl, sym, ap, _∙_, subst}
 use Prim.Native.Nat.{ℕ, zero, suc, _+_, _*_, _/_, _^_, _≤_, _<_}
 use native.Mathlib.Nat.{le-of-eq, lt-of-lt-of-le, zero-lt-suc, mul-assoc, mul-right-comm, mul-lt-mul-of-pos-right}
@@ -15,9 +14,9 @@ use lib.Ieee.Digits.{size-le}
 use lib.Ieee.Fits.{down-pos, nan-fits, inf-fits, round-fits}
 use lib.Ieee.Exact.{HasValue}
 use Rattle.leaves.specs.Root.{Nearest, NearestRoot, SquareRoot, nearestRoot, rootOfUnits, root}
-use Rattle.leaves.proofs.Values.{Number, number-of, same-value}
+use Rattle.leaves.proofs.Values.{Number, number-of, same-value, same-fraction, rescaled}
 use Rattle.leaves.proofs.root.Squares.{nearest-only, nearest-root-is, nearest-most}
-use Rattle.leaves.proofs.root.Scales.{same-fraction, rescaled, units-of, scale-only, round-scaled, half, Scaled}
+use Rattle.leaves.proofs.root.Scales.{units-of, scale-only, round-scaled, half, Scaled}
 use Rattle.leaves.proofs.root.Scales.{scaled}
 
 -- ---- the function has the meaning
@@ -71,7 +70,8 @@ of-units m e a p few u =
     ∙ mul-right-comm a (down e) (4 ^ 53)
     ∙ ap (λ (z : ℕ). z * down e) (sym (s .whole)) in
     let exact : HasValue (rootOfUnits a) false (q * 2 ^ k) (2 ^ 590) =
-    subst (λ (r : Float). HasValue r false (q * 2 ^ k) (2 ^ 590)) (sym (root-of-units-is a)) (result a q (u .most) (nearest-most n q (s .most) nearest)) in
+    subst (λ (r : Float). HasValue r false (q * 2 ^ k) (2 ^ 590)) (sym (root-of-units-is a))
+    (result a q (u .most) (nearest-most n q (s .most) nearest)) in
     record {
       n = n;
       q = q;
@@ -113,7 +113,8 @@ nearest-root-only x r r' t t' h h' =
     let same : (h .u + h' .v ≡ h' .u + h .v) × (h .n ≡ h' .n) =
     scale-only (4 ^ 52) (h .n) (h' .n) (h .u + h' .v) (h' .u + h .v) (h .digits .0) (h .digits .1) (h' .digits .0) (h' .digits .1)
     (sym (appended 4 (h .n) (h .u) (h' .v)) ∙ cross ∙ appended 4 (h' .n) (h' .u) (h .v)) in
-    let q-same : h .q ≡ h' .q = nearest-only (h .n) (h .q) (h' .q) (h .nearest) (subst (λ (z : ℕ). Nearest z (h' .q)) (sym (same .1)) (h' .nearest)) in
+    let q-same : h .q ≡ h' .q =
+    nearest-only (h .n) (h .q) (h' .q) (h .nearest) (subst (λ (z : ℕ). Nearest z (h' .q)) (sym (same .1)) (h' .nearest)) in
     let r-same : h' .q * 2 ^ h' .u * 2 ^ h .v ≡ h .q * 2 ^ h .u * 2 ^ h' .v =
     appended 2 (h' .q) (h' .u) (h .v)
     ∙ ap (λ (z : ℕ). h' .q * 2 ^ z) (sym (same .0))

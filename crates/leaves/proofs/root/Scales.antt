@@ -1,12 +1,11 @@
--- Numbers scaled by powers of 2 and of 4: the fractions that one float is, a number's one scale of a given length,
--- where a scaled number rounds to itself,
+-- Numbers scaled by powers of 2 and of 4: a number's one scale of a given length, where a scaled number rounds to itself,
 -- and the scale at which the root of a double has 53 digits. Assumes nothing.
 use mathlib.Core.Path.{_≡_, refl, sym, ap, _∙_, subst}
 use mathlib.Core.Logic.{inl, inr}
 use Prim.Native.Nat.{ℕ, zero, suc, _+_, _-_, _*_, _/_, _^_, _≤_, _<_}
 use native.Mathlib.Nat.{le-trans, le-of-eq, le-antisymm, le-of-suc-le-suc, lt-of-lt-of-le, lt-of-le-of-lt, lt-of-not-le}
 use native.Mathlib.Nat.{not-le-of-lt, zero-lt-suc}
-use native.Mathlib.Nat.{mul-assoc, mul-comm, mul-right-comm, mul-one, one-mul, mul-pos, mul-le-mul, mul-le-mul-right}
+use native.Mathlib.Nat.{mul-assoc, mul-comm, mul-one, one-mul, mul-pos, mul-le-mul, mul-le-mul-right}
 use native.Mathlib.Nat.{mul-lt-mul-of-pos-right, mul-div-cancel}
 use native.Mathlib.Nat.{eq-of-mul-eq-mul-right, le-of-mul-le-mul-right, lt-of-mul-lt-mul-right, sub-add-cancel}
 use native.Mathlib.Nat.{one-le-pow, pow-succ', pow-le-pow-right}
@@ -14,39 +13,13 @@ use native.Mathlib.Omega.{arith}
 use mathlib.Core.Bool.{Bool}
 use lib.IntN.{ℤ, pos, negsuc}
 use lib.Pow.{pow-add, pow-pos, pow-mono, pow-lt, shl-lt}
-use lib.Ieee.{Float, nan, inf, fin, Format, prec, emax, low, up, down, size, round}
+use lib.Ieee.{Format, prec, emax, low, up, down, size, round}
 use lib.Ieee.Digits.{size-lt, size-le, size-reaches}
-use lib.Ieee.Fits.{down-pos, two, two-le-pos}
+use lib.Ieee.Fits.{two, two-le-pos}
 use lib.Ieee.Exact.{HasValue, round-exact}
 use Rattle.leaves.proofs.Numbers.{lt-or-ge}
 
--- ---- a float as a fraction
-
--- the fractions that a float is are equal
-pub same-fraction : (x : Float) (s : Bool) (a c a' c' : ℕ) → HasValue x s a c → HasValue x s a' c' → a * c' ≡ a' * c
-same-fraction nan s a c a' c' v v' = absurd v
-same-fraction (inf t) s a c a' c' v v' = absurd v
-same-fraction (fin t m e) s a c a' c' v v' =
-    eq-of-mul-eq-mul-right (down e) (down-pos e) (a * c') (a' * c)
-    (mul-right-comm a c' (down e)
-    ∙ ap (λ (z : ℕ). z * c') (sym (v .1))
-    ∙ mul-right-comm (m * up e) c c'
-    ∙ ap (λ (z : ℕ). z * c) (v' .1)
-    ∙ mul-right-comm a' (down e) c)
-
--- a float that is a fraction is every fraction equal to it
-pub rescaled : (x : Float) (s : Bool) (a c a' c' : ℕ) → 0 < c → a * c' ≡ a' * c → HasValue x s a c → HasValue x s a' c'
-rescaled nan s a c a' c' p h v = v
-rescaled (inf t) s a c a' c' p h v = v
-rescaled (fin t m e) s a c a' c' p h v = (
-  v .0,
-  eq-of-mul-eq-mul-right c p (m * up e * c') (a' * down e)
-      (mul-right-comm (m * up e) c' c
-      ∙ ap (λ (z : ℕ). z * c') (v .1)
-      ∙ mul-right-comm a (down e) c'
-      ∙ ap (λ (z : ℕ). z * down e) h
-      ∙ mul-right-comm a' c (down e)),
-)
+-- ---- a number in units
 
 -- m * 2 ^ e in units of 2 ^ -l is a whole number, m with zeros appended, where the unit is small enough
 pub units-of : (l m : ℕ) (e : ℤ) → down e ≤ 2 ^ l → (j : ℕ) × (m * up e * 2 ^ l ≡ m * 2 ^ j * down e)

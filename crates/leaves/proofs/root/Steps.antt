@@ -1,6 +1,5 @@
 -- The way from a double to the form that `nearest_root` takes, and back: its 53 digits and their scale, the pattern of
--- the root, and the doubles that have no such root.
--- Assumes nothing.
+-- the root, and the doubles that have no such root. Assumes nothing.
 use mathlib.Core.Path.{_≡_, refl, sym, ap, _∙_, subst}
 use mathlib.Core.Logic.{inl, inr}
 use Prim.Native.Nat.{ℕ, zero, suc, _+_, _-_, _*_, _/_, _%_, _^_, _≤_, _<_}
@@ -20,10 +19,11 @@ use lib.Ieee.Exact.{HasValue}
 use Rattle.leaves.specs.Root.{Nearest, NearestRoot, SquareRoot, Rooted, root}
 use Rattle.leaves.specs.Steps.{signed}
 use Rattle.leaves.proofs.Numbers.{lt-or-ge}
-use Rattle.leaves.proofs.Values.{sign-and-rest, no-number, value-of-tail, value-of-digits, value-of-sum}
+use Rattle.leaves.proofs.Values.{rescaled, sign-and-rest, no-number, value-of-tail, value-of-digits}
+use Rattle.leaves.proofs.Values.{value-of-sum}
 use Rattle.leaves.proofs.words.Laws.{nan-test, one-nan}
 use Rattle.leaves.proofs.root.Squares.{nearest-least, nearest-most}
-use Rattle.leaves.proofs.root.Scales.{four, rescaled}
+use Rattle.leaves.proofs.root.Scales.{four}
 use Rattle.leaves.proofs.root.Agree.{meets, agree}
 
 -- ---- from 53 digits and a scale to the root

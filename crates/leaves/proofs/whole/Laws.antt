@@ -66,7 +66,8 @@ below-one-more m d few some =
 pub rounded-whole : (s : Bool) (m : ℕ) (e : ℤ) → T (fits binary32 (fin s m e)) → HasValue (rounded (fin s m e)) s (half-up (m * up e) (down e)) 1
 unfolding rounded
 rounded-whole s zero e holds =
-    let none : half-up (0 * up e) (down e) ≤ 2 ^ 24 = subst (λ (z : ℕ). half-up z (down e) ≤ 2 ^ 24) (sym (zero-mul (up e))) (below-one-more 0 (down e) (lit< tt) (down-pos e)) in
+    let none : half-up (0 * up e) (down e) ≤ 2 ^ 24 =
+    subst (λ (z : ℕ). half-up z (down e) ≤ 2 ^ 24) (sym (zero-mul (up e))) (below-one-more 0 (down e) (lit< tt) (down-pos e)) in
     round-whole binary32 s (half-up (0 * up e) (down e)) none
 rounded-whole s (suc m) (pos k) holds =
     let number = number-of binary32 s m (pos k) holds in

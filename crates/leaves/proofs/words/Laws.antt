@@ -1,6 +1,5 @@
 -- Words and floats: which words are a NaN's, what `x != x` tells, the two comparisons of a sample in range, and a
--- word's way to its float and back.
--- A law over a format serves both widths. Assumes nothing.
+-- word's way to its float and back. A law over a format serves both widths. Assumes nothing.
 use mathlib.Core.Path.{_≡_, refl, sym, ap, _∙_}
 use mathlib.Core.Bool.{Bool, true, false, not, _&&_, and-true, false≢true}
 use Prim.Native.Nat.{ℕ, _+_, _*_, _%_, _^_, _<_, _≤_}

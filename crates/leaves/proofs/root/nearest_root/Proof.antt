@@ -1,6 +1,5 @@
 -- `leaves::root::nearest_root` meets its contract. The invariant of its loop is `Taken` of `../Squares.antt`, which has
--- the arithmetic.
--- The measure is how many turns are left. Assumes nothing.
+-- the arithmetic. The measure is how many turns are left. Assumes nothing.
 use Prim.Native.Nat.{_-_}
 use native.Mathlib.Omega.{arith}
 use Rattle.leaves.proofs.root.Squares.{Taken, start, taken-small, turn-one, turn-zero, taken-all, nearest-up}
