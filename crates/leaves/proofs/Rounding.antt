@@ -26,7 +26,7 @@ use Rattle.leaves.proofs.Values.{same-value, value-of-sum}
 -- ---- which digits are kept
 
 -- a number from 2 ^ j on has more than j digits
-size-gt : (n j : ℕ) → 2 ^ j ≤ n → j < size n
+pub size-gt : (n j : ℕ) → 2 ^ j ≤ n → j < size n
 size-gt n j h = lt-of-not-le (λ (g : size n ≤ j). not-le-of-lt (lt-of-lt-of-le (size-lt n) (pow-mono g)) h)
 
 -- q * 2 ^ j / 2 ^ l is rounded in units of the format's least value. Of q, d digits are dropped, and what is left

@@ -4,7 +4,8 @@
 use mathlib.Core.Path.{_≡_, refl, sym, ap, _∙_, subst}
 use mathlib.Core.Logic.{_⊎_, inl, inr}
 use Prim.Native.Nat.{ℕ, suc, _+_, _-_, _*_, _/_, _%_, _^_, _≤_, _<_}
-use native.Mathlib.Nat.{eq-of-mul-eq-mul-right, le-trans, le-add-right, le-add-left, not-le-of-lt, mul-one}
+use native.Mathlib.Nat.{add-sub-of-le, eq-of-mul-eq-mul-right, le-trans, le-add-right, le-add-left, not-le-of-lt}
+use native.Mathlib.Nat.{mul-one}
 use native.Mathlib.Nat.{mul-right-comm, mul-assoc}
 use native.Mathlib.Nat.{pow-succ', zero-add, zero-mul}
 use native.Mathlib.Omega.{arith}
@@ -92,7 +93,27 @@ rescaled (fin t m e) s a c a' c' p h v = (
       ∙ mul-right-comm a' c (down e)),
 )
 
+-- ---- a float and its pattern
+
+-- the float of a float's own pattern is that float
+pub back : (f : Format) (x : Float) (b : ℕ) → T (fits f x) → b ≡ toBits f x → ofBits f b ≡ x
+back f x b holds e = ap (ofBits f) e ∙ ofBits-toBits f x holds
+
+-- the same of a pattern taken apart: with no sign, and with the sign taken off
+pub back-plain : (f : Format) (x : Float) (b : ℕ) → T (fits f x) → b ≡ toBits f x → ofBits f (signed f false b) ≡ x
+back-plain f x b holds e = ap (ofBits f) (zero-add b) ∙ back f x b holds e
+
+pub back-signed : (f : Format) (x : Float) (b : ℕ) → T (fits f x) → b ≡ toBits f x → top f ≤ b → ofBits f (signed f true (b - top f)) ≡ x
+back-signed f x b holds e h = ap (ofBits f) (add-sub-of-le h) ∙ back f x b holds e
+
 -- ---- the number of a pattern
+
+-- the digits of a pattern with a leading one, and how many places they stand up
+abbrev pub digits : Format → ℕ → ℕ
+digits f p = hid f + p % hid f
+
+abbrev pub place : Format → ℕ → ℕ
+place f p = p / hid f - 1
 
 -- the sign, the exponent's field and the digits below it, of a pattern that is put together from a sign and the rest
 pub fields-of : (f : Format) (s : Bool) (p : ℕ) → p < top f → ofBits f (signed f s p) ≡ ofFields f s (p / hid f) (p % hid f)
@@ -146,11 +167,10 @@ value-of-field f s x t h =
     differ x o h e = omega arith
 
 pub value-of-digits : (f : Format) (s : Bool) (p : ℕ) → hid f ≤ p → p < ones f * hid f
-    → HasValue (ofBits f (signed f s p)) s ((hid f + p % hid f) * 2 ^ (p / hid f - 1)) (2 ^ low f)
+    → HasValue (ofBits f (signed f s p)) s (digits f p * 2 ^ place f p) (2 ^ low f)
 value-of-digits f s p h k =
-    let digits = (hid f + p % hid f) * 2 ^ (p / hid f - 1) in
     rw (fields-of f s p (under-top f p k))
-    (subst (λ (x : ℕ). HasValue (ofFields f s x (p % hid f)) s digits (2 ^ low f)) (some f p h)
+    (subst (λ (x : ℕ). HasValue (ofFields f s x (p % hid f)) s (digits f p * 2 ^ place f p) (2 ^ low f)) (some f p h)
     (value-of-field f s (p / hid f - 1) (p % hid f) (below f p h k)))
   where
     under-top : (f : Format) (p : ℕ) → p < ones f * hid f → p < top f

@@ -11,14 +11,14 @@ use borrow.Author.Tests.{ne-eqb}
 use lib.Dec.{T}
 use lib.Ieee.{Float, nan, inf, fin, binary32, binary64, up, down, ofBits, toBits, fits, round, units}
 use lib.Ieee.Fits.{down-pos}
-use lib.Ieee.Bits.{ofBits-toBits}
 use lib.Ieee.Nearest.{closest}
 use lib.Ieee.Exact.{HasValue}
 use lib.Ieee.Scale.{round-same}
 use Rattle.leaves.specs.Floats.{narrowed}
 use Rattle.leaves.specs.Steps.{signed}
 use Rattle.leaves.proofs.Numbers.{lt-or-ge}
-use Rattle.leaves.proofs.Values.{no-number, value-of-tail, value-of-digits}
+use Rattle.leaves.proofs.Values.{digits, place, back-plain, back-signed, no-number, value-of-tail}
+use Rattle.leaves.proofs.Values.{value-of-digits}
 use Rattle.leaves.proofs.Rounding.{round-digits, round-pattern, units-over, closest-down, closest-least}
 use Rattle.leaves.proofs.Rounding.{closest-most}
 
@@ -61,15 +61,8 @@ inf-narrowed false = refl
 
 -- ---- a finite number with a leading digit
 
--- its 53 digits, and how many places they stand up
-abbrev digits : ℕ → ℕ
-digits bits = 2 ^ 52 + bits % 2 ^ 52
-
-abbrev place : ℕ → ℕ
-place bits = bits / 2 ^ 52 - 1
-
 finite : (s : Bool) (bits : ℕ) → 2 ^ 52 ≤ bits → bits < 0x7ff0000000000000
-    → narrowed (ofBits binary64 (signed binary64 s bits)) ≡ round binary32 s (digits bits * 2 ^ place bits) (2 ^ 1074)
+    → narrowed (ofBits binary64 (signed binary64 s bits)) ≡ round binary32 s (digits binary64 bits * 2 ^ place binary64 bits) (2 ^ 1074)
 finite s bits h k = narrowed-of-value _ s _ _ (pow-pos 1074) (value-of-digits binary64 s bits h k)
 
 -- Of the 53 digits a normal f32 keeps 24, or the next number up.
@@ -85,17 +78,17 @@ abbrev up-by : ℕ → ℕ
 up-by bits = bits / 2 ^ 52 - 897
 
 normal-units : (s : Bool) (bits : ℕ) → 897 ≤ bits / 2 ^ 52
-    → round binary32 s (digits bits * 2 ^ place bits) (2 ^ 1074) ≡ units binary32 s (closest (digits bits) (2 ^ 29)) (up-by bits)
-normal-units s bits h = round-digits binary32 s (digits bits) (place bits) 1074 29 (up-by bits) (omega arith) (omega arith) (inr (omega arith))
+    → round binary32 s (digits binary64 bits * 2 ^ place binary64 bits) (2 ^ 1074) ≡ units binary32 s (closest (digits binary64 bits) (2 ^ 29)) (up-by bits)
+normal-units s bits h = round-digits binary32 s (digits binary64 bits) (place binary64 bits) 1074 29 (up-by bits) (omega arith) (omega arith) (inr (omega arith))
 
-pub at-normal : (bits w : ℕ) → 897 ≤ bits / 2 ^ 52 → bits / 2 ^ 52 < 1151 → w ≡ closest (digits bits) (2 ^ 29)
+pub at-normal : (bits w : ℕ) → 897 ≤ bits / 2 ^ 52 → bits / 2 ^ 52 < 1151 → w ≡ closest (digits binary64 bits) (2 ^ 29)
     → Narrows bits (up-by bits * 2 ^ 23 + w)
 at-normal bits w least most e =
-    let low : 2 ^ 23 ≤ w = rw e (kept-least (digits bits) (omega arith) (omega arith)) in
-    let high : w ≤ 2 ^ 24 = rw e (kept-most (digits bits) (omega arith) (omega arith)) in (
+    let low : 2 ^ 23 ≤ w = rw e (kept-least (digits binary64 bits) (omega arith) (omega arith)) in
+    let high : w ≤ 2 ^ 24 = rw e (kept-most (digits binary64 bits) (omega arith) (omega arith)) in (
       omega arith,
       λ s.
-          round-pattern binary32 s (digits bits * 2 ^ place bits) (2 ^ 1074) (up-by bits) w (rw e (normal-units s bits least))
+          round-pattern binary32 s (digits binary64 bits * 2 ^ place binary64 bits) (2 ^ 1074) (up-by bits) w (rw e (normal-units s bits least))
           (inr low) high (omega arith)
           ∙ sym (finite s bits (omega arith) (omega arith)),
     )
@@ -106,8 +99,8 @@ overflow : (s : Bool) (bits : ℕ) → 1151 ≤ bits / 2 ^ 52 → bits < 0x7ff00
 overflow s bits least h =
     finite s bits (omega arith) h
     ∙ normal-units s bits (omega arith)
-    ∙ units-over binary32 s (closest (digits bits) (2 ^ 29)) (up-by bits)
-    (mul-le-mul {n₁ = 2 ^ 23} {m₁ = 2 ^ 254} (kept-least (digits bits) (omega arith) (omega arith)) (pow-mono {i = 254} (omega arith)))
+    ∙ units-over binary32 s (closest (digits binary64 bits) (2 ^ 29)) (up-by bits)
+    (mul-le-mul {n₁ = 2 ^ 23} {m₁ = 2 ^ 254} (kept-least (digits binary64 bits) (omega arith) (omega arith)) (pow-mono {i = 254} (omega arith)))
 
 pub at-infinity : (bits : ℕ) → bits ≤ 0x7ff0000000000000 → 1151 ≤ bits / 2 ^ 52 → Narrows bits 0x7f800000
 at-infinity bits most least = (
@@ -134,14 +127,14 @@ few-pattern s q j d w e h small is most =
     ∙ round-pattern binary32 s (q * 2 ^ j) (2 ^ 1074) 0 w (rw is (few-units s q j d e h small)) (inl refl) most (omega arith)
 
 pub at-subnormal : (bits w : ℕ) → 873 ≤ bits / 2 ^ 52 → bits / 2 ^ 52 < 897
-    → w ≡ closest (digits bits) (2 ^ (926 - bits / 2 ^ 52)) → Narrows bits w
+    → w ≡ closest (digits binary64 bits) (2 ^ (926 - bits / 2 ^ 52)) → Narrows bits w
 at-subnormal bits w least most e =
     let d = 926 - bits / 2 ^ 52 in
-    let whole : digits bits / 2 ^ d < 2 ^ 24 = shr-lt 24 d (lt-of-lt-of-le {m = 2 ^ 53} (omega arith) (pow-mono {i = 53} (omega arith))) in
-    let high : w ≤ 2 ^ 24 = rw e (omega (arith, closest-most (digits bits) (2 ^ d))) in (
+    let whole : digits binary64 bits / 2 ^ d < 2 ^ 24 = shr-lt 24 d (lt-of-lt-of-le {m = 2 ^ 53} (omega arith) (pow-mono {i = 53} (omega arith))) in
+    let high : w ≤ 2 ^ 24 = rw e (omega (arith, closest-most (digits binary64 bits) (2 ^ d))) in (
       omega arith,
       λ s.
-          few-pattern s (digits bits) (place bits) d w (omega arith) (omega arith) (omega arith) e high
+          few-pattern s (digits binary64 bits) (place binary64 bits) d w (omega arith) (omega arith) (omega arith) e high
           ∙ sym (finite s bits (omega arith) (omega arith)),
     )
 
@@ -163,25 +156,16 @@ at-zero bits most = (
         tiny s bits 0 (omega arith) (omega arith)
         ∙ ap (λ (a : ℕ). round binary32 s a (2 ^ 1074)) (mul-one bits)
         ∙ sym (narrowed-of-value _ s _ _ (pow-pos 1074) (value-of-tail binary64 s bits h))
-    | inr h ↦ tiny s (digits bits) (place bits) (omega arith) (omega arith) ∙ sym (finite s bits h (omega arith))
+    | inr h ↦ tiny s (digits binary64 bits) (place binary64 bits) (omega arith) (omega arith) ∙ sym (finite s bits h (omega arith))
   ],
 )
 
 -- ---- the sign goes over
 
 module _ (x : Float) (holds : T (fits binary64 x)) (bits : ℕ) (of-x : bits ≡ toBits binary64 x) (r : ℕ) (y : Float) where
-  back : ofBits binary64 bits ≡ x
-  back = ap (ofBits binary64) of-x ∙ ofBits-toBits binary64 x holds
-
   pub with-no-sign : Narrows bits r → y ≡ ofBits binary32 r → y ≡ narrowed x
   with-no-sign n is =
-      is
-      ∙ ap (ofBits binary32) (sym (zero-add r))
-      ∙ n .1 false
-      ∙ ap (λ (b : ℕ). narrowed (ofBits binary64 b)) (zero-add bits)
-      ∙ ap narrowed back
+      is ∙ ap (ofBits binary32) (sym (zero-add r)) ∙ n .1 false ∙ ap narrowed (back-plain binary64 x bits holds of-x)
 
   pub with-sign : 2 ^ 63 ≤ bits → Narrows (bits - 2 ^ 63) r → y ≡ ofBits binary32 (2 ^ 31 + r) → y ≡ narrowed x
-  with-sign h n is =
-      let whole : 2 ^ 63 + (bits - 2 ^ 63) ≡ bits = omega arith in
-      is ∙ n .1 true ∙ ap (λ (b : ℕ). narrowed (ofBits binary64 b)) whole ∙ ap narrowed back
+  with-sign h n is = is ∙ n .1 true ∙ ap narrowed (back-signed binary64 x bits holds of-x h)

@@ -18,6 +18,7 @@ use lib.Ieee.Digits.{size-lt, size-le, size-reaches}
 use lib.Ieee.Fits.{two, two-le-pos}
 use lib.Ieee.Exact.{HasValue, round-exact}
 use Rattle.leaves.proofs.Numbers.{lt-or-ge}
+use Rattle.leaves.proofs.Rounding.{size-gt}
 
 -- ---- a number in units
 
@@ -151,8 +152,5 @@ pub scaled : (a m j : ℕ) → 0 < m → m < 2 ^ 53 → a ≡ m * 2 ^ j → Scal
 scaled a m j p few e =
     let z = size a in
     let short : z ≤ 53 + j = size-le a (53 + j) (subst (λ (x : ℕ). x < 2 ^ (53 + j)) (sym e) (shl-lt 53 j few)) in
-    let some : 0 < z = size-pos a (subst (λ (x : ℕ). 0 < x) (sym e) (mul-pos p (pow-pos j))) in
+    let some : 0 < z = size-gt a 0 (subst (λ (x : ℕ). 0 < x) (sym e) (mul-pos p (pow-pos j))) in
     scaled-by a m j z (half a) e short some (size-reaches a (z - 1) (omega arith)) (size-lt a) (omega arith) (omega arith)
-  where
-    size-pos : (a : ℕ) → 0 < a → 0 < size a
-    size-pos a h = lt-of-not-le (λ (g : size a ≤ 0). not-le-of-lt (lt-of-lt-of-le (size-lt a) (pow-mono g)) h)

@@ -14,12 +14,13 @@ use lib.Pow.{pow-add, pow-pos, pow-mono, shl-lt}
 use lib.Count.{leadingZeros, leading-top}
 use lib.Ieee.{Float, nan, inf, fin, binary64, up, down, lt, eq, ne, ofBits, toBits, fits}
 use lib.Ieee.Fits.{up-pos}
-use lib.Ieee.Bits.{ofBits-toBits, toBits-lt}
+use lib.Ieee.Bits.{toBits-lt}
 use lib.Ieee.Exact.{HasValue}
 use Rattle.leaves.specs.Root.{Nearest, NearestRoot, SquareRoot, Rooted, root}
 use Rattle.leaves.specs.Steps.{signed}
 use Rattle.leaves.proofs.Numbers.{lt-or-ge}
-use Rattle.leaves.proofs.Values.{rescaled, sign-and-rest, no-number, value-of-tail, value-of-digits}
+use Rattle.leaves.proofs.Values.{digits, place, back, rescaled, sign-and-rest, no-number, value-of-tail}
+use Rattle.leaves.proofs.Values.{value-of-digits}
 use Rattle.leaves.proofs.Values.{value-of-sum}
 use Rattle.leaves.proofs.words.Laws.{nan-test, one-nan}
 use Rattle.leaves.proofs.root.Squares.{nearest-least, nearest-most}
@@ -209,7 +210,7 @@ of-zero (fin s (suc m) e) h =
 pub of-infinity : (x : Float) → T (fits binary64 x) → toBits binary64 x ≡ 0x7ff0000000000000 → x ≡ root x
 unfolding ofBits root
 of-infinity x holds e =
-    let is : x ≡ inf false = sym (ofBits-toBits binary64 x holds) ∙ ap (ofBits binary64) e in
+    let is : x ≡ inf false = sym (back binary64 x 0x7ff0000000000000 holds (sym e)) in
     rw is refl
 
 -- either zero equals zero
@@ -282,8 +283,7 @@ positive-bits x bits holds of-x n l z i =
     let number = positive x n l z (λ (h : toBits binary64 x ≡ 0x7ff0000000000000). i (of-x ∙ h)) in
     let m = number .0 in
     let e = number .1 in
-    let back : ofBits binary64 bits ≡ x = ap (ofBits binary64) of-x ∙ ofBits-toBits binary64 x holds in
-    let is : ofBits binary64 bits ≡ fin false (suc m) e = back ∙ number .2 in
+    let is : ofBits binary64 bits ≡ fin false (suc m) e = back binary64 x bits holds of-x ∙ number .2 in
     record {
       bounds = (some-bits m e bits is, finite-bits m e bits is (subst (λ (b : ℕ). b < 2 ^ 64) (sym of-x) (toBits-lt binary64 x holds)));
       rooted =

@@ -4,7 +4,7 @@ use mathlib.Core.Logic.{inl, inr}
 use Prim.Native.Nat.{ℕ, zero, suc, _+_, _-_, _*_, _/_, _%_, _^_, _≤_, _<_}
 use native.Mathlib.Nat.{le-of-suc-le-suc, div-lt-iff-lt-mul, zero-mul, lt-of-lt-of-le, mul-one, mul-comm, mul-assoc}
 use native.Mathlib.Nat.{mul-left-comm, add-mul, mul-lt-mul-of-pos-right}
-use native.Mathlib.Nat.{mul-lt-mul-of-pos-left, mul-le-mul-left, div-eq-of-lt, zero-add, pow-succ'}
+use native.Mathlib.Nat.{mul-lt-mul-of-pos-left, mul-le-mul-left, div-eq-of-lt, pow-succ'}
 use native.Mathlib.Omega.{arith}
 use native.Mathlib.Numerals.{add-one}
 use mathlib.Core.Bool.{Bool, true, false, cond}
@@ -13,7 +13,7 @@ use lib.Pow.{pow-add, pow-pos, pow-mono}
 use lib.IntN.{ℤ, pos, negsuc}
 use lib.Ieee.{Float, nan, inf, fin, binary32, up, down, ofBits, toBits, ofInt, neg, fits, round}
 use lib.Ieee.Fits.{down-pos, round-fits}
-use lib.Ieee.Bits.{ofBits-toBits, toBits-lt}
+use lib.Ieee.Bits.{toBits-lt}
 use lib.Ieee.Nearest.{div-same}
 use lib.Ieee.Exact.{HasValue, round-exact}
 use lib.Ieee.Back.{round-whole}
@@ -21,7 +21,8 @@ use lib.Ieee.Scale.{round-same}
 use Rattle.leaves.specs.Floats.{rounded}
 use Rattle.leaves.specs.Steps.{signed}
 use Rattle.leaves.proofs.Numbers.{lt-or-ge, one-up}
-use Rattle.leaves.proofs.Values.{number-of, same-value, sign-and-rest, no-number, value-of-tail, value-of-digits}
+use Rattle.leaves.proofs.Values.{digits, place, back, back-plain, back-signed, number-of, same-value}
+use Rattle.leaves.proofs.Values.{sign-and-rest, no-number, value-of-tail, value-of-digits}
 use Rattle.leaves.proofs.Rounding.{neg-round}
 
 -- w is the whole number that the f32 with this pattern rounds to, with either sign
@@ -87,14 +88,8 @@ rounded-whole s (suc m) (negsuc k) holds =
 
 -- ---- below 2 ^ 23
 
-abbrev digits : ℕ → ℕ
-digits bits = 2 ^ 23 + bits % 2 ^ 23
-
-abbrev place : ℕ → ℕ
-place bits = bits / 2 ^ 23 - 1
-
 finite : (s : Bool) (bits : ℕ) → 2 ^ 23 ≤ bits → bits < 0x7f800000
-    → rounded (ofBits binary32 (signed binary32 s bits)) ≡ round binary32 s (half-up (digits bits * 2 ^ place bits) (2 ^ 149)) 1
+    → rounded (ofBits binary32 (signed binary32 s bits)) ≡ round binary32 s (half-up (digits binary32 bits * 2 ^ place binary32 bits) (2 ^ 149)) 1
 finite s bits h k = rounded-of-value _ s _ _ (pow-pos 149) (value-of-digits binary32 s bits h k)
 
 -- less than 1 / 2 has no whole part with the half added
@@ -115,23 +110,23 @@ at-small bits h s = elim (lt-or-ge bits (2 ^ 23)) [
   | inr g ↦
       finite s bits g (omega arith)
       ∙ ap (λ (w : ℕ). round binary32 s w 1)
-      (small (digits bits * 2 ^ place bits) (2 ^ 149) (tiny (digits bits) (place bits) (omega arith) (omega arith)))
+      (small (digits binary32 bits * 2 ^ place binary32 bits) (2 ^ 149) (tiny (digits binary32 bits) (place binary32 bits) (omega arith) (omega arith)))
 ]
 
 -- d digits stand after the point: the number is digits / 2 ^ d
-pub at-digits : (bits d : ℕ) → 126 ≤ bits / 2 ^ 23 → bits / 2 ^ 23 + d ≡ 150 → Rounds bits ((2 * digits bits + 2 ^ d) / 2 ^ (d + 1))
+pub at-digits : (bits d : ℕ) → 126 ≤ bits / 2 ^ 23 → bits / 2 ^ 23 + d ≡ 150 → Rounds bits ((2 * digits binary32 bits + 2 ^ d) / 2 ^ (d + 1))
 at-digits bits d h e s =
-    let places : place bits + d ≡ 149 = omega arith in
-    let power : 2 ^ place bits * 2 ^ d ≡ 2 ^ 149 = sym (pow-add 2 (place bits) d) ∙ ap (λ (z : ℕ). 2 ^ z) places in
+    let places : place binary32 bits + d ≡ 149 = omega arith in
+    let power : 2 ^ place binary32 bits * 2 ^ d ≡ 2 ^ 149 = sym (pow-add 2 (place binary32 bits) d) ∙ ap (λ (z : ℕ). 2 ^ z) places in
     finite s bits (omega arith) (omega arith)
     ∙ ap (λ (w : ℕ). round binary32 s w 1)
-    (half-up-same (digits bits * 2 ^ place bits) (2 ^ 149) (digits bits) (2 ^ d) (pow-pos 149) (pow-pos d)
-    (mul-assoc (digits bits) (2 ^ place bits) (2 ^ d) ∙ ap (λ (z : ℕ). digits bits * z) power)
-    ∙ ap (λ (z : ℕ). (2 * digits bits + 2 ^ d) / z) (sym (ap (λ (z : ℕ). 2 ^ z) (add-one d) ∙ pow-succ' 2 d)))
+    (half-up-same (digits binary32 bits * 2 ^ place binary32 bits) (2 ^ 149) (digits binary32 bits) (2 ^ d) (pow-pos 149) (pow-pos d)
+    (mul-assoc (digits binary32 bits) (2 ^ place binary32 bits) (2 ^ d) ∙ ap (λ (z : ℕ). digits binary32 bits * z) power)
+    ∙ ap (λ (z : ℕ). (2 * digits binary32 bits + 2 ^ d) / z) (sym (ap (λ (z : ℕ). 2 ^ z) (add-one d) ∙ pow-succ' 2 d)))
 
 -- the same with 2 ^ d as the code makes it, by a shift
 pub at-shifted : (bits : ℕ) → 126 ≤ bits / 2 ^ 23 → bits / 2 ^ 23 < 150
-    → Rounds bits ((2 * digits bits + (1 * 2 ^ (150 - bits / 2 ^ 23)) % 2 ^ 32) / 2 ^ (150 - bits / 2 ^ 23 + 1))
+    → Rounds bits ((2 * digits binary32 bits + (1 * 2 ^ (150 - bits / 2 ^ 23)) % 2 ^ 32) / 2 ^ (150 - bits / 2 ^ 23 + 1))
 at-shifted bits h k s =
     let d = 150 - bits / 2 ^ 23 in
     rw (one-up d 32 (omega arith)) (at-digits bits d h (omega arith) s)
@@ -175,11 +170,11 @@ at-large x word holds of-x least =
     let p = word % 2 ^ 31 in
     let split = sign-and-rest binary32 word (subst (λ (b : ℕ). b < 2 ^ 32) (sym of-x) (toBits-lt binary32 x holds)) in
     let s = split .0 in
-    let is : ofBits binary32 (signed binary32 s p) ≡ x = ap (ofBits binary32) (sym (split .1) ∙ of-x) ∙ ofBits-toBits binary32 x holds in
+    let is : ofBits binary32 (signed binary32 s p) ≡ x = ap (ofBits binary32) (sym (split .1)) ∙ back binary32 x word holds of-x in
     sym (elim (lt-or-ge p 0x7f800000) [
       | inl l ↦
-          whole-number s x (digits p) (place p) holds
-          (subst (λ (y : Float). HasValue y s (digits p * 2 ^ place p) (2 ^ 149)) is (value-of-digits binary32 s p (omega arith) l))
+          whole-number s x (digits binary32 p) (place binary32 p) holds
+          (subst (λ (y : Float). HasValue y s (digits binary32 p * 2 ^ place binary32 p) (2 ^ 149)) is (value-of-digits binary32 s p (omega arith) l))
           (omega arith) (omega arith) (omega arith)
       | inr g ↦ no-fraction (eqb (p % 2 ^ 23) 0) s x (sym is ∙ no-number binary32 s p g (omega arith))
     ])
@@ -187,15 +182,10 @@ at-large x word holds of-x least =
 -- ---- the sign goes over
 
 module _ (x : Float) (holds : T (fits binary32 x)) (word : ℕ) (of-x : word ≡ toBits binary32 x) (w : ℕ) (y : Float) where
-  back : ofBits binary32 word ≡ x
-  back = ap (ofBits binary32) of-x ∙ ofBits-toBits binary32 x holds
-
   pub with-no-sign : Rounds word w → y ≡ ofInt binary32 (pos w) → y ≡ rounded x
   unfolding ofInt
-  with-no-sign r is = is ∙ sym (r false) ∙ ap (λ (b : ℕ). rounded (ofBits binary32 b)) (zero-add word) ∙ ap rounded back
+  with-no-sign r is = is ∙ sym (r false) ∙ ap rounded (back-plain binary32 x word holds of-x)
 
   pub with-sign : 2 ^ 31 ≤ word → Rounds (word - 2 ^ 31) w → y ≡ ofInt binary32 (pos w) → neg y ≡ rounded x
   unfolding ofInt
-  with-sign h r is =
-      let whole : 2 ^ 31 + (word - 2 ^ 31) ≡ word = omega arith in
-      ap neg is ∙ neg-round binary32 w 1 ∙ sym (r true) ∙ ap (λ (b : ℕ). rounded (ofBits binary32 b)) whole ∙ ap rounded back
+  with-sign h r is = ap neg is ∙ neg-round binary32 w 1 ∙ sym (r true) ∙ ap rounded (back-signed binary32 x word holds of-x h)
