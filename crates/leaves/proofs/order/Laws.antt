@@ -1,8 +1,8 @@
 -- Magnitude and order: what the code's tests tell of the magnitude of a float, of the larger and the smaller of two,
 -- and of a float held to a span. A law over any float, or over a format, serves both widths. Assumes nothing.
-use mathlib.Core.Path.{_≡_, refl, ap}
-use mathlib.Core.Bool.{Bool, true, false, cond, and-eq-true-iff, true≢false, false≢true}
-use Prim.Native.Nat.{zero, suc, _+_, _*_}
+use mathlib.Core.Path.{_≡_, refl, sym, ap, _∙_}
+use mathlib.Core.Bool.{Bool, true, false, cond, true≢false, false≢true}
+use Prim.Native.Nat.{ℕ, zero, suc, _+_, _*_}
 use native.Mathlib.Omega.{arith}
 use native.Mathlib.Nat.{pow-suc, mul-pos, zero-lt-suc}
 use lib.Dec.{T, eqb→eq}
@@ -10,14 +10,14 @@ use lib.Pow.{pow-pos}
 use lib.IntN.{ℤ, pos, negsuc}
 use lib.Ieee.{Float, nan, inf, fin, Format, binary32, binary64, up, down, neg, lt, eq, ne, isNan, fits, ofBits}
 use lib.Ieee.Fits.{up-pos}
-use borrow.Author.Tests.{ltb-true, ltb-false, eqb-true, eq-eqb}
+use borrow.Author.Tests.{lt-ltb, le-ltb, eq-eqb, ne-eqb}
 use Rattle.leaves.specs.Floats.{magnitude, larger, smaller, held}
 use Rattle.leaves.proofs.words.Laws.{nan-test}
 
--- ---- magnitude, by the tests against 0.0, the float of the word 0
+-- ---- how a number compares with 0.0, the float of the word 0
 
 -- the zero without a sign
-abbrev plain-zero : Float
+abbrev pub plain-zero : Float
 plain-zero = fin false 0 (pos 0)
 
 -- In either format the word 0 is that of the zero without a sign.
@@ -26,6 +26,37 @@ unfolding ofBits
 zero-word binary32 = refl
 zero-word binary64 = refl
 
+-- Either zero equals zero, and is not below it.
+pub zero-level : (s : Bool) (e : ℤ) → eq (fin s zero e) plain-zero ≡ true
+unfolding eq
+zero-level true e = rw (eq-eqb (0 * up e * 1) (0 * down e) (omega arith), eq-eqb (0 * up e * 1) 0 (omega arith))
+zero-level false e = rw (eq-eqb (0 * up e * 1) (0 * down e) (omega arith))
+
+pub zero-not-below : (s : Bool) (e : ℤ) → lt (fin s zero e) plain-zero ≡ false
+unfolding lt
+zero-not-below true e = le-ltb 0 (0 * up e * 1 + 0 * down e) (omega arith)
+zero-not-below false e = le-ltb (0 * up e * 1) (0 * down e) (omega arith)
+
+-- No other number equals it; one with a sign is below it, and one without is not.
+pub number-not-level : (s : Bool) (m : ℕ) (e : ℤ) → eq (fin s (suc m) e) plain-zero ≡ false
+unfolding eq
+number-not-level s m e =
+    rw (ne-eqb (suc m * up e * 1) (0 * down e) (λ q. omega (arith, mul-pos (zero-lt-suc m) (up-pos e)))) refl
+
+pub negative-below : (m : ℕ) (e : ℤ) → lt (fin true (suc m) e) plain-zero ≡ true
+unfolding lt
+negative-below m e = lt-ltb 0 (suc m * up e * 1 + 0 * down e) (omega (arith, mul-pos (zero-lt-suc m) (up-pos e)))
+
+pub positive-not-below : (m : ℕ) (e : ℤ) → lt (fin false (suc m) e) plain-zero ≡ false
+unfolding lt
+positive-not-below m e = le-ltb (suc m * up e * 1) (0 * down e) (omega arith)
+
+-- A test cannot have given both answers.
+pub both : {A : Type 0} {b : Bool} → b ≡ true → b ≡ false → A
+both t f = absurd (true≢false (sym t ∙ f))
+
+-- ---- magnitude, by the tests against 0.0
+
 -- What is below zero has a sign, which its negation has not.
 below : (x : Float) → lt x plain-zero ≡ true → neg x ≡ magnitude x
 unfolding lt neg
@@ -33,7 +64,8 @@ below nan h = refl
 below (inf true) h = refl
 below (inf false) h = absurd (false≢true h)
 below (fin true m e) h = refl
-below (fin false m e) h = absurd (omega (arith, ltb-true (m * up e * 1) (0 * down e) h))
+below (fin false zero e) h = both h (zero-not-below false e)
+below (fin false (suc m) e) h = both h (positive-not-below m e)
 
 -- 2 ^ e is 1 only at the exponent 0.
 exponent-zero : (e : ℤ) → up e * down e ≡ 1 → pos 0 ≡ e
@@ -47,8 +79,7 @@ unfolding eq fits
 level-zero f nan k h = absurd (false≢true h)
 level-zero f (inf s) k h = absurd (false≢true h)
 level-zero f (fin s zero e) k h = ap (fin false 0) (exponent-zero e (eqb→eq (up e * down e) 1 k))
-level-zero f (fin s (suc m) e) k h =
-    absurd (omega (arith, mul-pos (zero-lt-suc m) (up-pos e), eqb-true (suc m * up e * 1) (0 * down e) (and-eq-true-iff _ _ .0 h .0)))
+level-zero f (fin s (suc m) e) k h = both h (number-not-level s m e)
 
 -- A number with a sign is below zero or equals it, so one that is neither has none.
 above : (x : Float) → lt x plain-zero ≡ false → eq x plain-zero ≡ false → x ≡ magnitude x
@@ -56,10 +87,8 @@ unfolding lt eq
 above nan h k = refl
 above (inf true) h k = absurd (true≢false h)
 above (inf false) h k = refl
-above (fin true m e) h k =
-    let a = m * up e * 1 in
-    let z : a ≡ 0 = omega (arith, ltb-false 0 (a + 0 * down e) h) in
-    absurd (true≢false (rw (eq-eqb a (0 * down e) (omega arith), eq-eqb a 0 z) at k))
+above (fin true zero e) h k = both (zero-level true e) k
+above (fin true (suc m) e) h k = both (negative-below m e) h
 above (fin false m e) h k = refl
 
 -- The magnitude of a float below zero is its negation.

@@ -4,16 +4,14 @@ use mathlib.Core.Path.{_≡_, refl, sym, ap, _∙_, subst}
 use mathlib.Core.Logic.{inl, inr}
 use Prim.Native.Nat.{ℕ, zero, suc, _+_, _-_, _*_, _/_, _%_, _^_, _≤_, _<_}
 use native.Mathlib.Nat.{le-trans, lt-of-lt-of-le, lt-of-not-le, not-le-of-lt, mul-le-mul-right, mod-eq-of-lt}
-use native.Mathlib.Nat.{pos-of-ne-zero, mul-pos, zero-lt-suc, mul-assoc, mul-comm, mul-one, mul-le-mul-left, zero-add}
+use native.Mathlib.Nat.{pos-of-ne-zero, mul-assoc, mul-comm, mul-one, mul-le-mul-left, zero-add}
 use native.Mathlib.Omega.{arith}
-use mathlib.Core.Bool.{Bool, true, false, cond, and-eq-true-iff, true≢false, false≢true}
+use mathlib.Core.Bool.{Bool, true, false, cond, true≢false, false≢true}
 use lib.IntN.{ℤ, pos}
 use lib.Dec.{T, eqb}
-use borrow.Author.Tests.{ltb-true, ltb-false, eqb-true, eq-eqb}
 use lib.Pow.{pow-add, pow-pos, pow-mono, shl-lt}
 use lib.Count.{leadingZeros, leading-top}
-use lib.Ieee.{Float, nan, inf, fin, binary64, up, down, lt, eq, ne, ofBits, toBits, fits}
-use lib.Ieee.Fits.{up-pos}
+use lib.Ieee.{Float, nan, inf, fin, binary64, lt, eq, ne, ofBits, toBits, fits}
 use lib.Ieee.Bits.{toBits-lt}
 use lib.Ieee.Exact.{HasValue}
 use Rattle.leaves.specs.Root.{Nearest, NearestRoot, SquareRoot, Rooted, root}
@@ -23,6 +21,8 @@ use Rattle.leaves.proofs.Values.{digits, place, back, rescaled, sign-an
 use Rattle.leaves.proofs.Values.{value-of-digits}
 use Rattle.leaves.proofs.Values.{value-of-sum}
 use Rattle.leaves.proofs.words.Laws.{nan-test, one-nan}
+use Rattle.leaves.proofs.order.Laws.{plain-zero, zero-level, zero-not-below, number-not-level, negative-below}
+use Rattle.leaves.proofs.order.Laws.{positive-not-below, both}
 use Rattle.leaves.proofs.root.Squares.{nearest-least, nearest-most}
 use Rattle.leaves.proofs.root.Scales.{four}
 use Rattle.leaves.proofs.root.Agree.{meets, agree}
@@ -116,16 +116,16 @@ module _
 
 -- with a leading digit in the pattern
 pub normal-value : (bits : ℕ) → 2 ^ 52 ≤ bits → bits < 0x7ff0000000000000
-    → HasValue (ofBits binary64 bits) false ((2 ^ 52 + bits % 2 ^ 52) * 2 ^ (bits / 2 ^ 52 + 51)) (2 ^ 1126)
+    → HasValue (ofBits binary64 bits) false (digits binary64 bits * 2 ^ (bits / 2 ^ 52 + 51)) (2 ^ 1126)
 normal-value bits least most =
-    let digits = 2 ^ 52 + bits % 2 ^ 52 in
-    let j = bits / 2 ^ 52 - 1 in
-    let value : HasValue (ofBits binary64 bits) false (digits * 2 ^ j) (2 ^ 1074) =
-    subst (λ (b : ℕ). HasValue (ofBits binary64 b) false (digits * 2 ^ j) (2 ^ 1074)) (zero-add bits)
+    let d = digits binary64 bits in
+    let j = place binary64 bits in
+    let value : HasValue (ofBits binary64 bits) false (d * 2 ^ j) (2 ^ 1074) =
+    subst (λ (b : ℕ). HasValue (ofBits binary64 b) false (d * 2 ^ j) (2 ^ 1074)) (zero-add bits)
     (value-of-digits binary64 false bits least most) in
     let places : bits / 2 ^ 52 + 51 ≡ j + 52 = omega arith in
-    rescaled (ofBits binary64 bits) false (digits * 2 ^ j) (2 ^ 1074) (digits * 2 ^ (bits / 2 ^ 52 + 51)) (2 ^ 1126) (pow-pos 1074)
-    (moved digits (2 ^ j) (2 ^ 52) (2 ^ 1074) ∙ ap (λ (z : ℕ). digits * z * 2 ^ 1074) (sym (ap (λ (z : ℕ). 2 ^ z) places ∙ pow-add 2 j 52))) value
+    rescaled (ofBits binary64 bits) false (d * 2 ^ j) (2 ^ 1074) (d * 2 ^ (bits / 2 ^ 52 + 51)) (2 ^ 1126) (pow-pos 1074)
+    (moved d (2 ^ j) (2 ^ 52) (2 ^ 1074) ∙ ap (λ (z : ℕ). d * z * 2 ^ 1074) (sym (ap (λ (z : ℕ). 2 ^ z) places ∙ pow-add 2 j 52))) value
   where
     moved : (d p s t : ℕ) → d * p * (s * t) ≡ d * (p * s) * t
     moved d p s t = simp mul-assoc
@@ -187,24 +187,23 @@ unfolding root
 of-nan x h = sym (ap root (one-nan x (nan-test x ∙ h)))
 
 -- below zero
-pub of-negative : (x : Float) → lt x (fin false 0 (pos 0)) ≡ true → nan ≡ root x
+pub of-negative : (x : Float) → lt x plain-zero ≡ true → nan ≡ root x
 unfolding lt root
 of-negative nan h = refl
 of-negative (inf true) h = refl
 of-negative (inf false) h = absurd (false≢true h)
-of-negative (fin true zero e) h = absurd (omega (arith, ltb-true 0 (0 * up e * 1 + 0 * down e) h))
+of-negative (fin true zero e) h = both h (zero-not-below true e)
 of-negative (fin true (suc m) e) h = refl
-of-negative (fin false zero e) h = absurd (omega (arith, ltb-true (0 * up e * 1) (0 * down e) h))
-of-negative (fin false (suc m) e) h = absurd (omega (arith, ltb-true (suc m * up e * 1) (0 * down e) h))
+of-negative (fin false zero e) h = both h (zero-not-below false e)
+of-negative (fin false (suc m) e) h = both h (positive-not-below m e)
 
 -- equal to zero
-pub of-zero : (x : Float) → eq x (fin false 0 (pos 0)) ≡ true → x ≡ root x
+pub of-zero : (x : Float) → eq x plain-zero ≡ true → x ≡ root x
 unfolding eq root
 of-zero nan h = refl
 of-zero (inf s) h = absurd (false≢true h)
 of-zero (fin s zero e) h = refl
-of-zero (fin s (suc m) e) h =
-    absurd (omega (arith, mul-pos (zero-lt-suc m) (up-pos e), eqb-true (suc m * up e * 1) (0 * down e) (and-eq-true-iff _ _ .0 h .0)))
+of-zero (fin s (suc m) e) h = both h (number-not-level s m e)
 
 -- plus infinity, by its pattern
 pub of-infinity : (x : Float) → T (fits binary64 x) → toBits binary64 x ≡ 0x7ff0000000000000 → x ≡ root x
@@ -213,23 +212,15 @@ of-infinity x holds e =
     let is : x ≡ inf false = sym (back binary64 x 0x7ff0000000000000 holds (sym e)) in
     rw is refl
 
--- either zero equals zero
-zeros-equal : (s : Bool) (e : ℤ) → eq (fin s zero e) (fin false 0 (pos 0)) ≡ true
-unfolding eq
-zeros-equal true e = rw (eq-eqb (0 * up e * 1) (0 * down e) (omega arith), eq-eqb (0 * up e * 1) 0 (omega arith))
-zeros-equal false e = rw (eq-eqb (0 * up e * 1) (0 * down e) (omega arith))
-
 -- what is left is finite and positive
-pub positive : (x : Float) → ne x x ≡ false → lt x (fin false 0 (pos 0)) ≡ false → eq x (fin false 0 (pos 0)) ≡ false
+pub positive : (x : Float) → ne x x ≡ false → lt x plain-zero ≡ false → eq x plain-zero ≡ false
     → (toBits binary64 x ≡ 0x7ff0000000000000 → ⊥) → (m : ℕ) × (e : ℤ) × (x ≡ fin false (suc m) e)
 unfolding ne lt eq toBits
 positive nan n l z i = absurd (true≢false n)
 positive (inf true) n l z i = absurd (true≢false l)
 positive (inf false) n l z i = absurd (i refl)
-positive (fin true zero e) n l z i = absurd (true≢false (sym (zeros-equal true e) ∙ z))
-positive (fin true (suc m) e) n l z i =
-    absurd (omega (arith, mul-pos (zero-lt-suc m) (up-pos e), ltb-false 0 (suc m * up e * 1 + 0 * down e) l))
-positive (fin false zero e) n l z i = absurd (true≢false (sym (zeros-equal false e) ∙ z))
+positive (fin s zero e) n l z i = both (zero-level s e) z
+positive (fin true (suc m) e) n l z i = both (negative-below m e) l
 positive (fin false (suc m) e) n l z i = (m, e, refl)
 
 -- the pattern of a finite positive double is above 0 and below the infinity's
@@ -246,7 +237,7 @@ module _ (m : ℕ) (e : ℤ) (bits : ℕ) (is : ofBits binary64 bits ≡ fin fal
   no-sign s p split h = elim (lt-or-ge p (2 ^ 52)) [
     | inl l ↦ subst (λ (x : Float). HasValue x s p (2 ^ 1074)) same (value-of-tail binary64 s p l) .0
     | inr g ↦
-        subst (λ (x : Float). HasValue x s ((2 ^ 52 + p % 2 ^ 52) * 2 ^ (p / 2 ^ 52 - 1)) (2 ^ 1074)) same
+        subst (λ (x : Float). HasValue x s (digits binary64 p * 2 ^ place binary64 p) (2 ^ 1074)) same
         (value-of-digits binary64 s p g h) .0
   ]
     where
@@ -277,7 +268,7 @@ pub record Positive (x : Float) (bits : ℕ) : Type 0 where
   pub rooted : (r : Float) → T (fits binary64 r) → NearestRoot (ofBits binary64 bits) r → Rooted x r
 
 pub positive-bits : (x : Float) (bits : ℕ) → T (fits binary64 x) → bits ≡ toBits binary64 x
-    → ne x x ≡ false → lt x (fin false 0 (pos 0)) ≡ false → eq x (fin false 0 (pos 0)) ≡ false
+    → ne x x ≡ false → lt x plain-zero ≡ false → eq x plain-zero ≡ false
     → (bits ≡ 0x7ff0000000000000 → ⊥) → Positive x bits
 positive-bits x bits holds of-x n l z i =
     let number = positive x n l z (λ (h : toBits binary64 x ≡ 0x7ff0000000000000). i (of-x ∙ h)) in
