@@ -1,17 +1,13 @@
 -- The float leaves, in the words of document 01 where a comment quotes it, over the kit's account of IEEE 754 (`lib.Ieee`).
 -- There a float is `nan`, `inf s` or `fin s m e`: the number m * 2 ^ e, negative where s is true. 2 ^ e is the fraction
 -- `up e / down e`, and `round f s a b` is the float of the format f nearest to a / b, with the sign s, a tie going to the
--- even one. One definition serves both formats. Widening has none: the number stays what it is. Definitions only.
+-- even one; `finite` is true of all but `nan` and the infinities. One definition serves both formats. Widening has none:
+-- the number stays what it is. Definitions only.
 use Prim.Native.Nat.{ℕ, _+_, _*_, _/_}
-use mathlib.Core.Bool.{Bool, true, false, cond, _&&_}
+use mathlib.Core.Bool.{Bool, false, cond, _&&_}
 use lib.IntN.{pos}
 use lib.Ieee.{Float, nan, inf, fin, binary32, round, up, down, lt, le, isNan, ofBits}
-
--- neither a NaN nor an infinity
-abbrev pub finite : Float → Bool
-finite nan = false
-finite (inf s) = false
-finite (fin s m e) = true
+use lib.Ieee.Scale.{finite}
 
 -- "magnitude": the number without its sign
 abbrev pub magnitude : Float → Float

@@ -9,8 +9,9 @@ use lib.Ieee.{Float, nan, inf, fin, Format, binary32, binary64, up, down, level,
 use lib.Ieee.{isNan, fits, nanBits, ofBits, toBits}
 use lib.Ieee.Bits.{nanBits-is, nanBits-above, toBits-ofBits, toBits-lt}
 use lib.Ieee.Fits.{down-pos}
+use lib.Ieee.Scale.{finite}
 use borrow.Author.Tests.{lt-ltb, le-ltb, eqb-true, eqb-false, eq-eqb, ne-eqb}
-use Rattle.leaves.specs.Floats.{finite, magnitude, largest, inRange}
+use Rattle.leaves.specs.Floats.{magnitude, largest, inRange}
 
 -- ---- NaN
 
