@@ -79,7 +79,8 @@ up-by bits = bits / 2 ^ 52 - 897
 
 normal-units : (s : Bool) (bits : ℕ) → 897 ≤ bits / 2 ^ 52
     → round binary32 s (digits binary64 bits * 2 ^ place binary64 bits) (2 ^ 1074) ≡ units binary32 s (closest (digits binary64 bits) (2 ^ 29)) (up-by bits)
-normal-units s bits h = round-digits binary32 s (digits binary64 bits) (place binary64 bits) 1074 29 (up-by bits) (omega arith) (omega arith) (inr (omega arith))
+normal-units s bits h =
+    round-digits binary32 s (digits binary64 bits) (place binary64 bits) 1074 29 (up-by bits) (omega arith) (omega arith) (inr (omega arith))
 
 pub at-normal : (bits w : ℕ) → 897 ≤ bits / 2 ^ 52 → bits / 2 ^ 52 < 1151 → w ≡ closest (digits binary64 bits) (2 ^ 29)
     → Narrows bits (up-by bits * 2 ^ 23 + w)
