@@ -4,6 +4,44 @@
 ghost use mathlib.Core.Path.{_≡_};
 ghost use Rattle.leaves.specs.Floats.{narrowed, rounded};
 ghost use Rattle.leaves.specs.Root.{Rooted};
+ghost use Rattle.recording.specs.Recording.{state, opened, undone};
+ghost use Rattle.cathar.specs.Exports.{Opens, Tells};
+use recording::numbers::number_of;
+use recording::numbers::value_of;
+
+// Opens a recording: all marks and all journal words become 0, and used too. The number of the refusal,
+// 1 or 2, or 0.
+#[no_mangle]
+pub extern "C" fn cathar_open(
+    samples: &[u32],
+    marks: &mut [u8],
+    journal: &mut [u32],
+    used: &mut usize,
+) -> u32
+    ensures { λ r. ⌜ Opens (opened (state (now (samples .entry)) (now (marks .entry)) (now (journal .entry)) (now (used .entry)))) r
+        (state (now (samples .entry)) (now (marks .exit)) (now (journal .exit)) (now (used .exit))) ⌝ }
+{
+    let answer = recording::open::open(samples, marks, journal, used);
+    number_of(answer)
+}
+
+// Takes back the last entry of the journal. The number of the refusal, 1, 2, 3, 10 or 11, or 0; value
+// becomes the number of samples that got their word and mark back, and 0 where the call is refused.
+#[no_mangle]
+pub extern "C" fn cathar_undo(
+    samples: &mut [u32],
+    marks: &mut [u8],
+    journal: &mut [u32],
+    used: &mut usize,
+    value: &mut usize,
+) -> u32
+    ensures { λ r. ⌜ Tells (undone (state (now (samples .entry)) (now (marks .entry)) (now (journal .entry)) (now (used .entry)))) r
+        (now (value .exit)) (state (now (samples .exit)) (now (marks .exit)) (now (journal .exit)) (now (used .exit))) ⌝ }
+{
+    let answer = recording::undo::undo(samples, marks, journal, used);
+    *value = value_of(answer);
+    number_of(answer)
+}
 
 // IEEE 754's square root, correctly rounded: a NaN and a number below zero give a NaN, a zero of
 // either sign and plus infinity themselves.

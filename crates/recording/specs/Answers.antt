@@ -1,0 +1,44 @@
+-- What document 01 says of an answer: its number, and the value that goes with it. Definitions only.
+use Prim.Native.Nat.{ℕ}
+use Rattle.recording.specs.declared.Reason.{Reason}
+use Rattle.recording.specs.declared.Reason.the-variants.{Counts, TooMany, Used, Setting, Gap, Workspace, Read, Result, Room, Nothing, Malformed}
+use Rattle.recording.specs.declared.Answer.{Answer}
+use Rattle.recording.specs.declared.Answer.the-variants.{Done, Refused}
+
+-- "What is turned away": the table's number of each reason
+abbrev pub reasonNumber : Reason → ℕ
+reasonNumber Counts = 1
+reasonNumber TooMany = 2
+reasonNumber Used = 3
+reasonNumber Setting = 4
+reasonNumber Gap = 5
+reasonNumber Workspace = 6
+reasonNumber (Read place) = 7
+reasonNumber (Result place) = 8
+reasonNumber Room = 9
+reasonNumber Nothing = 10
+reasonNumber Malformed = 11
+
+-- "the reason carries the sample's place for 7 and 8"; for the others 0 stands there
+abbrev pub reasonPlace : Reason → ℕ
+reasonPlace Counts = 0
+reasonPlace TooMany = 0
+reasonPlace Used = 0
+reasonPlace Setting = 0
+reasonPlace Gap = 0
+reasonPlace Workspace = 0
+reasonPlace (Read place) = place
+reasonPlace (Result place) = place
+reasonPlace Room = 0
+reasonPlace Nothing = 0
+reasonPlace Malformed = 0
+
+-- 0 for an acceptance, and else the number of the refusal
+abbrev pub number : Answer → ℕ
+number (Done m) = 0
+number (Refused why) = reasonNumber why
+
+-- "An accepted repair returns m; an accepted undo returns the m it took back." For a refusal it is the place.
+abbrev pub value : Answer → ℕ
+value (Done m) = m
+value (Refused why) = reasonPlace why

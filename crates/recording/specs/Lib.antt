@@ -1,0 +1,5 @@
+pub mod Answers
+pub mod Recording
+pub mod History
+pub mod Inner
+pub mod Rows

@@ -1,0 +1,247 @@
+// The commit of an accepted repair: its named samples are saved in the journal, marked and written.
+ghost use Prim.Native.Nat.{ℕ, _+_, _*_, _≤_, _<_};
+ghost use mathlib.Core.Path.{_≡_};
+ghost use mathlib.Core.List.{List, [], _∷_};
+ghost use lib.ListN.{length};
+ghost use lib.Seq.{sets};
+ghost use Rattle.recording.specs.Recording.{state, ended, mostSamples, places, put, each, saved, threeWords, entered, ranged, change, span, carried};
+ghost use Rattle.recording.specs.Inner.{Fits, consecutive, filled, pickedBy};
+use super::Answer;
+use super::Reason;
+use super::clear::set_marks;
+use leaves::words::in_range;
+
+// Place, old word and old mark of one sample, written from journal word `at` on.
+fn save(samples: &[u32], marks: &[u8], journal: &mut [u32], at: usize, place: usize)
+    requires { ⌜ (at + 3 ≤ length (now journal)) × (place < length (now samples)) × (place < length (now marks)) × (place ≤ mostSamples) ⌝ }
+    ensures { λ _. ⌜ now (journal .exit)
+        ≡ sets (now (journal .entry)) at (threeWords (saved (now (samples .entry)) (now (marks .entry)) (place ∷ []))) ⌝ }
+{
+    journal[at] = place as u32;
+    journal[at + 1] = samples[place];
+    journal[at + 2] = marks[place] as u32;
+}
+
+// The end of an entry of m saved samples that begins at used: m, and the mark. Used passes it.
+fn seal(journal: &mut [u32], used: &mut usize, m: usize, mark: u8)
+    requires { ⌜ (now used + (3 * m + 2) ≤ length (now journal)) × (m ≤ mostSamples) ⌝ }
+    ensures { λ _. ⌜ (now (journal .exit) ≡ sets (now (journal .entry)) (now (used .entry) + 3 * m) (m ∷ mark ∷ []))
+        × (now (used .exit) ≡ now (used .entry) + (3 * m + 2)) ⌝ }
+{
+    let at = *used + 3 * m;
+    journal[at] = m as u32;
+    journal[at + 1] = mark as u32;
+    *used = at + 2;
+}
+
+// Saves the len samples from `start` on, from journal word `at` on.
+fn save_span(
+    samples: &[u32],
+    marks: &[u8],
+    journal: &mut [u32],
+    at: usize,
+    start: usize,
+    len: usize,
+)
+    requires { ⌜ (at + 3 * len ≤ length (now journal)) × (start + len ≤ length (now samples)) × (length (now marks) ≡ length (now samples))
+        × (length (now samples) ≤ mostSamples) ⌝ }
+    ensures { λ _. ⌜ now (journal .exit)
+        ≡ sets (now (journal .entry)) at (threeWords (saved (now (samples .entry)) (now (marks .entry)) (consecutive start len))) ⌝ }
+{
+    let mut i: usize = 0;
+    while i < len {
+        save(samples, marks, journal, at + 3 * i, start + i);
+        i += 1;
+    }
+}
+
+// Refusal 9 for a repair that names the len samples from `start` on, and else all of its commit but the
+// new words: they are the caller's to write, through the part of the recording that it lends on.
+pub fn enter_span(
+    samples: &[u32],
+    marks: &mut [u8],
+    journal: &mut [u32],
+    used: &mut usize,
+    start: usize,
+    len: usize,
+    mark: u8,
+) -> Answer
+    requires { ⌜ Fits (state (now samples) (now marks) (now journal) (now used)) × (start + len ≤ length (now samples)) ⌝ }
+    ensures { λ r. ⌜ ((words : List ℕ)
+        → length words ≡ len
+        → ended r (state (filled r start words (now (samples .entry))) (now (marks .exit)) (now (journal .exit)) (now (used .exit)))
+        ≡ entered (state (now (samples .entry)) (now (marks .entry)) (now (journal .entry)) (now (used .entry))) mark (span start words)) ⌝ }
+{
+    if len == 0 {
+        return Answer::Done(0);
+    }
+    let at = *used;
+    if journal.len() - at < 3 * len + 2 {
+        return Answer::Refused(Reason::Room);
+    }
+    save_span(samples, marks, journal, at, start, len);
+    set_marks(marks, start, len, mark);
+    seal(journal, used, len, mark);
+    Answer::Done(len)
+}
+
+// Refusal 8 for new words of consecutive places from `start` on; accepted, with 0, where all are in range.
+pub fn check_span(words: &[u32], start: usize) -> Answer
+    requires { ⌜ start + length (now words) ≤ mostSamples ⌝ }
+    ensures { λ r. ⌜ r ≡ ranged (span start (now (words .entry))) ⌝ }
+{
+    let mut i: usize = 0;
+    while i < words.len() {
+        if !in_range(words[i]) {
+            return Answer::Refused(Reason::Result(start + i));
+        }
+        i += 1;
+    }
+    Answer::Done(0)
+}
+
+// The words from `start` on become these, and the others stay.
+fn copy_words(samples: &mut [u32], start: usize, words: &[u32])
+    requires { ⌜ start + length (now words) ≤ length (now samples) ⌝ }
+    ensures { λ _. ⌜ now (samples .exit) ≡ sets (now (samples .entry)) start (now (words .entry)) ⌝ }
+{
+    let mut i: usize = 0;
+    while i < words.len() {
+        samples[start + i] = words[i];
+        i += 1;
+    }
+}
+
+// Commits a repair that names consecutive places from `start` on, with these words: refusals 8 and 9 in
+// their order, and else the entry, the marks and the words.
+pub fn commit_span(
+    samples: &mut [u32],
+    marks: &mut [u8],
+    journal: &mut [u32],
+    used: &mut usize,
+    start: usize,
+    words: &[u32],
+    mark: u8,
+) -> Answer
+    requires { ⌜ Fits (state (now samples) (now marks) (now journal) (now used)) × (start + length (now words) ≤ length (now samples)) ⌝ }
+    ensures { λ r. ⌜ ended r (state (now (samples .exit)) (now (marks .exit)) (now (journal .exit)) (now (used .exit)))
+        ≡ carried (state (now (samples .entry)) (now (marks .entry)) (now (journal .entry)) (now (used .entry)))
+        (change mark (span start (now (words .entry)))) ⌝ }
+{
+    let checked = check_span(words, start);
+    let Answer::Done(_) = checked else {
+        return checked;
+    };
+    let entered = enter_span(samples, marks, journal, used, start, words.len(), mark);
+    let Answer::Done(_) = entered else {
+        return entered;
+    };
+    copy_words(samples, start, words);
+    entered
+}
+
+// Refusal 8 for the samples that the workspace names (see `pickedBy`); accepted, with 0, where all
+// their new words are in range.
+fn check_picked(work: &[u32], n: usize) -> Answer
+    requires { ⌜ n + n ≤ length (now work) ⌝ }
+    ensures { λ r. ⌜ r ≡ ranged (pickedBy (now (work .entry)) n) ⌝ }
+{
+    let mut i: usize = 0;
+    while i < n {
+        if work[n + i] != 0 {
+            if !in_range(work[i]) {
+                return Answer::Refused(Reason::Result(i));
+            }
+        }
+        i += 1;
+    }
+    Answer::Done(0)
+}
+
+// How many samples the workspace names.
+fn count_picked(work: &[u32], n: usize) -> usize
+    requires { ⌜ n + n ≤ length (now work) ⌝ }
+    ensures { λ r. ⌜ r ≡ length (pickedBy (now (work .entry)) n) ⌝ }
+{
+    let mut m: usize = 0;
+    let mut i: usize = 0;
+    while i < n {
+        if work[n + i] != 0 {
+            m += 1;
+        }
+        i += 1;
+    }
+    m
+}
+
+// Saves the samples that the workspace names, from journal word `at` on.
+fn save_picked(samples: &[u32], marks: &[u8], journal: &mut [u32], at: usize, work: &[u32])
+    requires { ⌜ (at + 3 * length (pickedBy (now work) (length (now samples))) ≤ length (now journal))
+        × (length (now samples) + length (now samples) ≤ length (now work)) × (length (now marks) ≡ length (now samples))
+        × (length (now samples) ≤ mostSamples) ⌝ }
+    ensures { λ _. ⌜ now (journal .exit)
+        ≡ sets (now (journal .entry)) at
+        (threeWords (saved (now (samples .entry)) (now (marks .entry)) (places (pickedBy (now (work .entry)) (length (now (samples .entry))))))) ⌝ }
+{
+    let n = samples.len();
+    let mut next = at;
+    let mut i: usize = 0;
+    while i < n {
+        if work[n + i] != 0 {
+            save(samples, marks, journal, next, i);
+            next += 3;
+        }
+        i += 1;
+    }
+}
+
+// Writes word and mark of each sample that the workspace names.
+fn write_picked(samples: &mut [u32], marks: &mut [u8], work: &[u32], mark: u8)
+    requires { ⌜ (length (now samples) + length (now samples) ≤ length (now work)) × (length (now marks) ≡ length (now samples)) ⌝ }
+    ensures { λ _. ⌜ (now (samples .exit) ≡ put (pickedBy (now (work .entry)) (length (now (samples .entry)))) (now (samples .entry)))
+        × (now (marks .exit) ≡ put (each mark (places (pickedBy (now (work .entry)) (length (now (samples .entry)))))) (now (marks .entry))) ⌝ }
+{
+    let n = samples.len();
+    let mut i: usize = 0;
+    while i < n {
+        if work[n + i] != 0 {
+            samples[i] = work[i];
+            marks[i] = mark;
+        }
+        i += 1;
+    }
+}
+
+// Commits a repair whose named samples and new words stand in a workspace of 2n words (see `pickedBy`):
+// refusals 8 and 9 in their order, and else the entry, the marks and the words.
+pub fn commit_picked(
+    samples: &mut [u32],
+    marks: &mut [u8],
+    journal: &mut [u32],
+    used: &mut usize,
+    work: &[u32],
+    mark: u8,
+) -> Answer
+    requires { ⌜ Fits (state (now samples) (now marks) (now journal) (now used)) × (length (now samples) + length (now samples) ≤ length (now work)) ⌝ }
+    ensures { λ r. ⌜ ended r (state (now (samples .exit)) (now (marks .exit)) (now (journal .exit)) (now (used .exit)))
+        ≡ carried (state (now (samples .entry)) (now (marks .entry)) (now (journal .entry)) (now (used .entry)))
+        (change mark (pickedBy (now (work .entry)) (length (now (samples .entry))))) ⌝ }
+{
+    let n = samples.len();
+    let checked = check_picked(work, n);
+    let Answer::Done(_) = checked else {
+        return checked;
+    };
+    let m = count_picked(work, n);
+    if m == 0 {
+        return Answer::Done(0);
+    }
+    let at = *used;
+    if journal.len() - at < 3 * m + 2 {
+        return Answer::Refused(Reason::Room);
+    }
+    save_picked(samples, marks, journal, at, work);
+    write_picked(samples, marks, work, mark);
+    seal(journal, used, m, mark);
+    Answer::Done(m)
+}

@@ -1,0 +1,41 @@
+// The recording: samples, a mark for each that says measured or made, and a journal of what repairs
+// overwrote. Here are the answers that every call gives, opening, the commit of an accepted repair,
+// and undo.
+pub mod clear;
+pub mod commit;
+pub mod numbers;
+pub mod open;
+pub mod undo;
+
+// Why a call is turned away, in the order of document 01's table, whose first line is number 1. The
+// two range cases carry the lowest place of a sample out of range.
+pub enum Reason {
+    // 1: marks and samples differ in number.
+    Counts,
+    // 2: more than 1,048,576 samples.
+    TooMany,
+    // 3: used exceeds the journal's length.
+    Used,
+    // 4: a setting is not allowed.
+    Setting,
+    // 5: the gap is empty, or not within the recording.
+    Gap,
+    // 6: the workspace is shorter than needed.
+    Workspace,
+    // 7: a sample that the repair reads is not in range.
+    Read(usize),
+    // 8: a result at a named sample is not in range.
+    Result(usize),
+    // 9: the journal has too few free words.
+    Room,
+    // 10: there is nothing to undo.
+    Nothing,
+    // 11: the last entry is malformed.
+    Malformed,
+}
+
+// How a call ends: accepted, with the number of samples that it named or took back, or refused.
+pub enum Answer {
+    Done(usize),
+    Refused(Reason),
+}

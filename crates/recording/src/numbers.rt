@@ -1,0 +1,63 @@
+// An answer as document 01's number and value, for callers that take numbers.
+ghost use mathlib.Core.Path.{_≡_};
+ghost use Rattle.recording.specs.Answers.{reasonNumber, reasonPlace, number, value};
+use super::Answer;
+use super::Reason;
+
+// The table's number of a reason.
+fn reason_number(why: Reason) -> u32
+    ensures { λ r. ⌜ r ≡ reasonNumber why ⌝ }
+{
+    match why {
+        Reason::Counts => 1,
+        Reason::TooMany => 2,
+        Reason::Used => 3,
+        Reason::Setting => 4,
+        Reason::Gap => 5,
+        Reason::Workspace => 6,
+        Reason::Read(_) => 7,
+        Reason::Result(_) => 8,
+        Reason::Room => 9,
+        Reason::Nothing => 10,
+        Reason::Malformed => 11,
+    }
+}
+
+// The place that a range case carries, and 0 for the other reasons.
+fn reason_place(why: Reason) -> usize
+    ensures { λ r. ⌜ r ≡ reasonPlace why ⌝ }
+{
+    match why {
+        Reason::Read(place) => place,
+        Reason::Result(place) => place,
+        Reason::Counts => 0,
+        Reason::TooMany => 0,
+        Reason::Used => 0,
+        Reason::Setting => 0,
+        Reason::Gap => 0,
+        Reason::Workspace => 0,
+        Reason::Room => 0,
+        Reason::Nothing => 0,
+        Reason::Malformed => 0,
+    }
+}
+
+// 0 for an acceptance, and else the number of the refusal.
+pub fn number_of(answer: Answer) -> u32
+    ensures { λ r. ⌜ r ≡ number answer ⌝ }
+{
+    match answer {
+        Answer::Done(_) => 0,
+        Answer::Refused(why) => reason_number(why),
+    }
+}
+
+// The m of an acceptance, the place of a range refusal, and 0 for the other refusals.
+pub fn value_of(answer: Answer) -> usize
+    ensures { λ r. ⌜ r ≡ value answer ⌝ }
+{
+    match answer {
+        Answer::Done(m) => m,
+        Answer::Refused(why) => reason_place(why),
+    }
+}
