@@ -1,16 +1,17 @@
 -- Undo: the saved samples of an entry, tested and given back one at a time, and one law for each way out of the tests
 -- and of the call. Assumes nothing.
 use mathlib.Core.Path.{_≡_, refl, sym, ap, _∙_}
-use mathlib.Core.Bool.{Bool, true, false, not, _||_}
+use mathlib.Core.Bool.{Bool, true, false, not, _||_, or-assoc, true≢false}
 use mathlib.Core.List.{List, [], _∷_}
 use Prim.Native.Nat.{ℕ, zero, suc, _+_, _-_, _*_, _≤_, _<_}
 use native.Mathlib.Omega.{arith}
 use native.Mathlib.Numerals.{add-one}
-use lib.ListN.{length, getD, set}
+use native.Mathlib.Nat.{add-zero, sub-zero}
+use lib.ListN.{length, getD, set, length-set}
 use lib.Dec.{leb, ltb, eqb, leb·suc-zero, leb·suc-suc}
 use borrow.Author.Tests.{lt-ltb, le-ltb, le-leb, lt-leb, eq-eqb, ne-eqb, ltb-false, leb-false}
-use Rattle.recording.specs.Recording.{Saved, savedAt, placePast, notRising, markPast, put, oldWords, oldMarks}
-use Rattle.recording.specs.Inner.{anyWrong}
+use Rattle.recording.specs.Recording.{Saved, savedAt, placePast, notRising, markPast, put, oldWords, oldMarks, entrySize, lastCount, lastMark, lastSaved, made, malformed}
+use Rattle.recording.specs.Inner.{anyWrong, Restorable}
 
 -- ---- the tests of saved samples, in one pass
 
@@ -97,3 +98,136 @@ module _ (journal : List ℕ) (begin m i n least place : ℕ) (whole : Bool) (mo
       pub none-wrong : getD journal (begin + 3 * i + 2) 0 ≤ 255
           → anyWrong n (place + 1) (savedAt journal (begin + 3 * (i + 1)) (m - (i + 1))) ≡ whole
       none-wrong h = rw (le-ltb place least rises, lt-leb n place within, le-ltb 255 _ h) at opened
+
+-- ---- saved samples given back
+
+-- Where one of two tests would do, and there is none, both found nothing.
+neither : (a b : Bool) → a || b ≡ false → (a ≡ false) × (b ≡ false)
+neither true b h = absurd (true≢false h)
+neither false b h = (refl, h)
+
+-- The next sample's place is within the recording, and so are those after it.
+past-first : (n : ℕ) (journal : List ℕ) (begin m i : ℕ) → i < m → placePast n (savedAt journal (begin + 3 * i) (m - i)) ≡ false
+    → (leb n (getD journal (begin + 3 * i) 0) ≡ false) × (placePast n (savedAt journal (begin + 3 * (i + 1)) (m - (i + 1))) ≡ false)
+unfolding placePast
+past-first n journal begin m i more none =
+    neither (leb n (getD journal (begin + 3 * i) 0)) (placePast n (savedAt journal (begin + 3 * (i + 1)) (m - (i + 1))))
+    (sym (ap (placePast n) (left-first journal begin m i more)) ∙ none)
+
+-- The next sample's mark is a byte, and so are those after it.
+mark-first : (journal : List ℕ) (begin m i : ℕ) → i < m → markPast (savedAt journal (begin + 3 * i) (m - i)) ≡ false
+    → (ltb 255 (getD journal (begin + 3 * i + 2) 0) ≡ false) × (markPast (savedAt journal (begin + 3 * (i + 1)) (m - (i + 1))) ≡ false)
+unfolding markPast
+mark-first journal begin m i more none =
+    neither (ltb 255 (getD journal (begin + 3 * i + 2) 0)) (markPast (savedAt journal (begin + 3 * (i + 1)) (m - (i + 1))))
+    (sym (ap markPast (left-first journal begin m i more)) ∙ none)
+
+-- i of the m saved samples are given back: putting what is left gives the whole, and what is left can be put.
+pub record GivenBack (samples₀ marks₀ journal : List ℕ) (begin m : ℕ) (samples marks : List ℕ) (i : ℕ) : Type 0 where
+  pub counted : i ≤ m
+  pub as-samples : length samples ≡ length samples₀
+  pub as-marks : length marks ≡ length marks₀
+  pub words : put (oldWords (savedAt journal (begin + 3 * i) (m - i))) samples ≡ put (oldWords (savedAt journal begin m)) samples₀
+  pub bytes : put (oldMarks (savedAt journal (begin + 3 * i) (m - i))) marks ≡ put (oldMarks (savedAt journal begin m)) marks₀
+  pub places-within : placePast (length samples₀) (savedAt journal (begin + 3 * i) (m - i)) ≡ false
+  pub marks-within : markPast (savedAt journal (begin + 3 * i) (m - i)) ≡ false
+
+module _ (samples₀ marks₀ journal : List ℕ) (begin m : ℕ) where
+  pub none-back : Restorable samples₀ marks₀ journal begin m → GivenBack samples₀ marks₀ journal begin m samples₀ marks₀ 0
+  none-back r =
+      let start : begin + 3 * 0 ≡ begin = omega arith in
+      record {
+        counted = omega arith;
+        as-samples = refl;
+        as-marks = refl;
+        words = rw (start, sub-zero) refl;
+        bytes = rw (start, sub-zero) refl;
+        places-within = rw (start, sub-zero) (r .places);
+        marks-within = rw (start, sub-zero) (r .bytes);
+      }
+
+  module _ (samples marks : List ℕ) (i : ℕ) (g : GivenBack samples₀ marks₀ journal begin m samples marks i) where
+    pub all-back : m ≤ i
+        → (samples ≡ put (oldWords (savedAt journal begin m)) samples₀) × (marks ≡ put (oldMarks (savedAt journal begin m)) marks₀)
+    unfolding savedAt put
+    all-back h = let done : m - i ≡ 0 = omega arith in (rw done at (g .words), rw done at (g .bytes))
+
+    module _ (more : i < m) where
+      pub place-below : getD journal (begin + 3 * i) 0 < length samples₀
+      place-below = leb-false _ _ (past-first (length samples₀) journal begin m i more (g .places-within) .0)
+
+      pub mark-byte : getD journal (begin + 3 * i + 2) 0 ≤ 255
+      mark-byte = ltb-false _ _ (mark-first journal begin m i more (g .marks-within) .0)
+
+      pub one-back : (place : ℕ) → place ≡ getD journal (begin + 3 * i) 0
+          → GivenBack samples₀ marks₀ journal begin m (set samples place (getD journal (begin + 3 * i + 1) 0))
+          (set marks place (getD journal (begin + 3 * i + 2) 0)) (i + 1)
+      unfolding put
+      one-back place read =
+          let first = left-first journal begin m i more in
+          record {
+            counted = omega arith;
+            as-samples = length-set samples place _ ∙ g .as-samples;
+            as-marks = length-set marks place _ ∙ g .as-marks;
+            words = rw read (sym (ap (λ (ts : List Saved). put (oldWords ts) samples) first) ∙ g .words);
+            bytes = rw read (sym (ap (λ (ts : List Saved). put (oldMarks ts) marks) first) ∙ g .bytes);
+            places-within = past-first (length samples₀) journal begin m i more (g .places-within) .1;
+            marks-within = mark-first journal begin m i more (g .marks-within) .1;
+          }
+
+-- ---- refusal 11, clause by clause
+
+-- the clauses, with the three tests of the saved samples as one pass, where m is the number that the entry gives
+clauses : (n : ℕ) (journal : List ℕ) (used m : ℕ) → m ≡ lastCount journal used
+    → malformed n journal used
+    ≡ eqb used 1 || eqb m 0 || ltb n m || ltb used (entrySize m) || anyWrong n 0 (savedAt journal (used - entrySize m) m)
+    || not (made (lastMark journal used))
+unfolding malformed lastSaved
+clauses n journal used m read =
+    rw (← read, three-tests n (savedAt journal (used - entrySize m) m), ← or-assoc _ _ (markPast _), ← or-assoc _ (placePast n _) _)
+    refl
+
+module _ (n : ℕ) (journal : List ℕ) (used : ℕ) where
+  pub malformed-short : used ≡ 1 → true ≡ malformed n journal used
+  unfolding malformed
+  malformed-short h = rw (eq-eqb used 1 h) refl
+
+  module _ (long : used ≡ 1 → ⊥) (m : ℕ) (read : m ≡ lastCount journal used) where
+    pub malformed-none : m ≡ 0 → true ≡ malformed n journal used
+    malformed-none h = rw (clauses n journal used m read, ne-eqb used 1 long, eq-eqb m 0 h) refl
+
+    module _ (some : m ≡ 0 → ⊥) where
+      pub malformed-many : n < m → true ≡ malformed n journal used
+      malformed-many h = rw (clauses n journal used m read, ne-eqb used 1 long, ne-eqb m 0 some, lt-ltb n m h) refl
+
+      module _ (few : m ≤ n) where
+        pub malformed-past : used < 3 * m + 2 → true ≡ malformed n journal used
+        malformed-past h =
+            rw (clauses n journal used m read, ne-eqb used 1 long, ne-eqb m 0 some, le-ltb n m few, lt-ltb used (3 * m + 2) h) refl
+
+        module _ (there : 3 * m + 2 ≤ used) (wrong : Bool) (found : wrong ≡ anyWrong n 0 (savedAt journal (used - (3 * m + 2)) m)) where
+          -- what is left to test
+          left-clauses : malformed n journal used ≡ wrong || not (made (lastMark journal used))
+          left-clauses =
+              rw (
+                found,
+                clauses n journal used m read,
+                ne-eqb used 1 long,
+                ne-eqb m 0 some,
+                le-ltb n m few,
+                le-ltb used (3 * m + 2) there,
+              ) refl
+
+          pub malformed-saved : wrong ≡ true → true ≡ malformed n journal used
+          malformed-saved h = rw (left-clauses, h) refl
+
+          module _ (right : wrong ≡ false) where
+            pub malformed-low : lastMark journal used < 1 → true ≡ malformed n journal used
+            malformed-low h = rw (left-clauses, right, lt-leb 1 _ h) refl
+
+            module _ (first : 1 ≤ lastMark journal used) where
+              pub malformed-high : 5 < lastMark journal used → true ≡ malformed n journal used
+              malformed-high h = rw (left-clauses, right, le-leb 1 _ first, lt-leb _ 5 h) refl
+
+              pub well-formed : lastMark journal used ≤ 5 → false ≡ malformed n journal used
+              well-formed h = rw (left-clauses, right, le-leb 1 _ first, le-leb _ 5 h) refl
