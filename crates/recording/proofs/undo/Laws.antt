@@ -7,11 +7,16 @@ use Prim.Native.Nat.{ℕ, zero, suc, _+_, _-_, _*_, _≤_, _<_}
 use native.Mathlib.Omega.{arith}
 use native.Mathlib.Numerals.{add-one}
 use native.Mathlib.Nat.{add-zero, sub-zero}
-use lib.ListN.{length, getD, set, length-set}
+use lib.ListN.{length, getD, set, length-set, replicate}
+use lib.Seq.{sets}
 use lib.Dec.{leb, ltb, eqb, leb·suc-zero, leb·suc-suc}
-use borrow.Author.Tests.{lt-ltb, le-ltb, le-leb, lt-leb, eq-eqb, ne-eqb, ltb-false, leb-false}
-use Rattle.recording.specs.Recording.{Saved, savedAt, placePast, notRising, markPast, put, oldWords, oldMarks, entrySize, lastCount, lastMark, lastSaved, made, malformed}
-use Rattle.recording.specs.Inner.{anyWrong, Restorable}
+use borrow.Author.Tests.{lt-ltb, le-ltb, le-leb, lt-leb, eq-eqb, ne-eqb, ltb-false, leb-false, eqb-true, not-false}
+use Rattle.recording.specs.Recording.{Saved, savedAt, placePast, notRising, markPast, put, oldWords, oldMarks, entrySize, lastCount, lastMark, lastSaved, lastBegin, made, malformed, takenBack, undone, State, state, ended, refused, fitting, if_then_else_}
+use Rattle.recording.specs.declared.Reason.{Reason}
+use Rattle.recording.specs.declared.Reason.the-variants.{Counts, TooMany, Used, Nothing, Malformed}
+use Rattle.recording.specs.declared.Answer.{Answer}
+use Rattle.recording.specs.declared.Answer.the-variants.{Done, Refused}
+use Rattle.recording.specs.Inner.{anyWrong, Fits, Restorable}
 
 -- ---- the tests of saved samples, in one pass
 
@@ -231,3 +236,79 @@ module _ (n : ℕ) (journal : List ℕ) (used : ℕ) where
 
               pub well-formed : lastMark journal used ≤ 5 → false ≡ malformed n journal used
               well-formed h = rw (left-clauses, right, le-leb 1 _ first, le-leb _ 5 h) refl
+
+-- The last entry, of m samples, is not malformed: it is there, and its samples can be given back.
+pub record Sound (n : ℕ) (journal : List ℕ) (used m : ℕ) : Type 0 where
+  pub there : 3 * m + 2 ≤ used
+  pub places : placePast n (savedAt journal (used - (3 * m + 2)) m) ≡ false
+  pub bytes : markPast (savedAt journal (used - (3 * m + 2)) m) ≡ false
+
+pub sound : (n : ℕ) (journal : List ℕ) (used m : ℕ) → m ≡ lastCount journal used → malformed n journal used ≡ false
+    → Sound n journal used m
+sound n journal used m read h =
+    let olds = savedAt journal (used - entrySize m) m in
+    let few = eqb used 1 || eqb m 0 || ltb n m in
+    let past = ltb used (entrySize m) in
+    let front = neither (few || past || anyWrong n 0 olds) (not (made (lastMark journal used))) (sym (clauses n journal used m read) ∙ h) .0 in
+    let parts = neither (few || past) (anyWrong n 0 olds) front in
+    let tests = neither (placePast n olds || notRising olds) (markPast olds) (sym (three-tests n olds) ∙ parts .1) in
+    record {
+      there = ltb-false _ _ (neither few past (parts .0) .1);
+      places = neither (placePast n olds) (notRising olds) (tests .0) .0;
+      bytes = tests .1;
+    }
+
+-- ---- undo
+
+-- Accepted, so none of the three tests found anything.
+none-found : (a b c : Bool) (m : ℕ)
+    → (if a then Refused Counts else if b then Refused TooMany else if c then Refused Used else Done 0) ≡ Done m
+    → (a ≡ false) × (b ≡ false) × (c ≡ false)
+none-found true b c m h = (cc, cc, cc)
+none-found false true c m h = (refl, cc, cc)
+none-found false false true m h = (refl, refl, cc)
+none-found false false false m h = (refl, refl, refl)
+
+-- Where the tests of the sizes accept, none of refusals 1 to 3 applies.
+pub accepted-fits : (s : State) (m : ℕ) → fitting s ≡ Done m → Fits s
+unfolding fitting
+accepted-fits s m h =
+    let none = none-found (not (eqb (length (s .marks)) (length (s .samples)))) (ltb 1048576 (length (s .samples)))
+    (ltb (length (s .journal)) (s .used)) m h in
+    record {
+      counts = eqb-true _ _ (not-false _ (none .0));
+      few = ltb-false _ _ (none .1);
+      within = ltb-false _ _ (none .2);
+    }
+
+-- An entry that is not malformed can be given back to a recording whose sizes fit.
+pub restorable : (s : State) (m : ℕ) → Fits s → Sound (length (s .samples)) (s .journal) (s .used) m
+    → Restorable (s .samples) (s .marks) (s .journal) (s .used - (3 * m + 2)) m
+restorable s m fits entry =
+    record { counts = fits .counts; there = omega (arith, fits .within, entry .there); places = entry .places; bytes = entry .bytes }
+
+-- One law for each way out: what the tests of the sizes answered, the tests that failed, the test that holds, and how the
+-- call ends
+module _ (s : State) (sized : Answer) (answered : sized ≡ fitting s) where
+  pub undone-unfit : (why : Reason) → sized ≡ Refused why → ended sized s ≡ undone s
+  unfolding undone
+  undone-unfit why h = rw (← answered, h) refl
+
+  module _ (none : ℕ) (accepted : sized ≡ Done none) where
+    pub undone-nothing : s .used ≡ 0 → refused s Nothing ≡ undone s
+    unfolding undone
+    undone-nothing h = rw (← answered, accepted, eq-eqb (s .used) 0 h) refl
+
+    module _ (some : s .used ≡ 0 → ⊥) (wrong : Bool) (found : wrong ≡ malformed (length (s .samples)) (s .journal) (s .used)) where
+      pub undone-malformed : wrong ≡ true → refused s Malformed ≡ undone s
+      unfolding undone
+      undone-malformed h = rw (← answered, accepted, ne-eqb (s .used) 0 some, ← found, h) refl
+
+      pub undone-done : wrong ≡ false → (m : ℕ) → m ≡ lastCount (s .journal) (s .used) → (samples marks journal : List ℕ)
+          → samples ≡ put (oldWords (savedAt (s .journal) (s .used - (3 * m + 2)) m)) (s .samples)
+          → marks ≡ put (oldMarks (savedAt (s .journal) (s .used - (3 * m + 2)) m)) (s .marks)
+          → journal ≡ sets (s .journal) (s .used - (3 * m + 2)) (replicate (3 * m + 2) 0)
+          → ended (Done m) (state samples marks journal (s .used - (3 * m + 2))) ≡ undone s
+      unfolding undone takenBack lastSaved
+      undone-done right m read samples marks journal words bytes zeros =
+          rw (← answered, accepted, ne-eqb (s .used) 0 some, ← found, right, words, bytes, zeros, ← read) refl

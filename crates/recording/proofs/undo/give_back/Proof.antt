@@ -2,7 +2,6 @@
 -- samples gives. The measure is how many are left. Assumes nothing.
 use Prim.Native.Nat.{_-_}
 use native.Mathlib.Omega.{arith}
-use lib.ListN.{length-set}
 use borrow.Author.Needs.{needs}
 use Rattle.recording.proofs.undo.Laws.{GivenBack, none-back, place-below, mark-byte, one-back, all-back}
 use Rattle.recording.proofs.undo.give_back.Statement.{statement}
@@ -44,12 +43,12 @@ shared-slice-read-samples c = omega arith
 mul-samples-2 : tie.Need-mul-samples-2 Inv-loop μ-loop
 mul-samples-2 c =
     let turn = c .before .before .before in
-    omega (arith, place-below _ _ _ _ _ _ _ _ (turn .before .loop .inv) (turn .loop-test .taken), c .before .index .ensures)
+    omega (arith, place-below _ _ _ _ _ _ _ _ (turn .before .loop .inv) (turn .loop-test .taken))
 
 slice-write-samples : tie.Need-slice-write-samples Inv-loop μ-loop
 slice-write-samples c =
     let turn = c .before .before .before in
-    omega (arith, place-below _ _ _ _ _ _ _ _ (turn .before .loop .inv) (turn .loop-test .taken), c .before .index .ensures)
+    omega (arith, place-below _ _ _ _ _ _ _ _ (turn .before .loop .inv) (turn .loop-test .taken))
 
 add-marks : tie.Need-add-marks Inv-loop μ-loop
 add-marks c = omega arith
@@ -68,7 +67,7 @@ cast-marks c =
 slice-write-marks : tie.Need-slice-write-marks Inv-loop μ-loop
 slice-write-marks c =
     let turn = c .before .before .before .before in
-    omega (arith, place-below _ _ _ _ _ _ _ _ (turn .before .loop .inv) (turn .loop-test .taken), c .before .before .index .ensures)
+    omega (arith, place-below _ _ _ _ _ _ _ _ (turn .before .loop .inv) (turn .loop-test .taken))
 
 add-i : tie.Need-add-i Inv-loop μ-loop
 add-i c = omega arith

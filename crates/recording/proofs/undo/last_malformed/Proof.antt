@@ -31,10 +31,14 @@ returns-3 c =
     malformed-many _ _ _ (at .before .before .if1 .left) _ (at .index .ensures) (c .before .if2 .left) (c .if3 .taken)
 
 mul-if4 : tie.Need-mul-if4
-mul-if4 c = let at = c .before .before in omega (arith, at .index .ensures, at .before .shared-slice-known2 .given (at .before .before .before .before .args .used - 2))
+mul-if4 c =
+    let at = c .before .before in
+    omega (arith, at .before .shared-slice-known2 .given (at .before .before .before .before .args .used - 2))
 
 add-if4 : tie.Need-add-if4
-add-if4 c = let at = c .before .before in omega (arith, at .index .ensures, at .before .shared-slice-known2 .given (at .before .before .before .before .args .used - 2))
+add-if4 c =
+    let at = c .before .before in
+    omega (arith, at .before .shared-slice-known2 .given (at .before .before .before .before .args .used - 2))
 
 returns-4 : tie.Need-returns-4
 returns-4 c =
