@@ -1,5 +1,5 @@
--- `recording::undo::give_back` meets its contract. The loop's invariant: putting what is left gives what putting all m saved
--- samples gives. The measure is how many are left. Assumes nothing.
+-- `recording::undo::give_back` meets its contract. The loop's invariant: putting what is left gives what putting all
+-- m saved samples gives. The measure is how many are left. Assumes nothing.
 use Prim.Native.Nat.{_-_}
 use native.Mathlib.Omega.{arith}
 use borrow.Author.Needs.{needs}
