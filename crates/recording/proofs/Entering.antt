@@ -12,7 +12,7 @@ use lib.Dec.{leb, ltb, eqb}
 use borrow.Author.Tests.{ne-eqb, le-ltb, leb-true, eqb-false, ltb-false}
 use Rattle.leaves.proofs.Lists.{read-before, read-after}
 use Rattle.leaves.specs.Floats.{inRange}
-use Rattle.recording.specs.Recording.{State, Ended, ended, Placed, places, each, put, made, entrySize, entry, committed, entered, ranged, Plan, refuse, change, carried, performed}
+use Rattle.recording.specs.Recording.{State, ended, Placed, places, each, made, entrySize, entry, committed, entered, ranged, Plan, refuse, change, carried, performed}
 use Rattle.recording.specs.History.{Ascending, Bytes, Keeps}
 use Rattle.recording.specs.Inner.{Fits}
 use Rattle.recording.specs.declared.Reason.{Reason}
@@ -20,7 +20,7 @@ use Rattle.recording.specs.declared.Reason.the-variants.{Result, Room}
 use Rattle.recording.specs.declared.Answer.the-variants.{Done, Refused}
 use Rattle.recording.proofs.Put.{Among, among-or-not, among-below, put-elsewhere, put-each, places-each, length-places}
 use Rattle.recording.proofs.Journal.{length-entry}
-use Rattle.recording.proofs.Tests.{truth, fits-done, fits-or-not}
+use Rattle.recording.proofs.Tests.{EitherWay, truth, fits-done, fits-or-not}
 
 -- a repair of these samples is accepted, names some and enters them
 pub record Enters (s : State) (mark : ℕ) (cs : List Placed) : Type 0 where
@@ -37,13 +37,13 @@ pub record Sound (s : State) : Type 0 where
   pub free : (i : ℕ) → s .used ≤ i → getD (s .journal) i 0 ≡ 0
   pub bytes : Bytes (s .marks)
 
--- a mark that a repair sets is one of 1 to 5
-pub made-below : (k : ℕ) → made k ≡ true → (1 ≤ k) × (k ≤ 5)
-made-below k h = (leb-true 1 k (and-true (leb 1 k) (leb k 5) h .0), leb-true k 5 (and-true (leb 1 k) (leb k 5) h .1))
+-- a mark that a repair sets is a byte
+made-byte : (k : ℕ) → made k ≡ true → k < 256
+made-byte k h = omega (arith, leb-true k 5 (second (leb 1 k) (leb k 5) h))
   where
-    and-true : (a b : Bool) → a && b ≡ true → (a ≡ true) × (b ≡ true)
-    and-true true b h = (refl, h)
-    and-true false b h = absurd (let z : _≡_ {A = ℕ} 0 1 = cc in omega arith)
+    second : (a b : Bool) → a && b ≡ true → b ≡ true
+    second true b h = h
+    second false b h = cc
 
 -- such a repair ends in the commit
 pub enters-ends : {s : State} {mark : ℕ} {cs : List Placed} → Enters s mark cs
@@ -72,25 +72,26 @@ ending s p k = elim (fits-or-not s) [ inl f ↦ planned f p k | inr n ↦ turned
     planned : Fits s → (p : Plan) → Keeps (length (s .samples)) p → Ending s p
     planned f (refuse why) k = turned-away why (rw (fits-done f))
     planned f (change mark cs) k =
-        elim (ranged-or-not cs)
-        [ inl g ↦ sized g (truth (eqb (length cs) 0)) (truth (ltb (length (s .journal) - s .used) (entrySize (length cs))))
-        | inr n ↦ turned-away (n .0) (rw (fits-done f, n .1))
+        elim (ranged-or-not cs) [
+          | inl g ↦ sized g (truth (eqb (length cs) 0)) (truth (ltb free (entrySize (length cs))))
+          | inr n ↦ turned-away (n .0) (rw (fits-done f, n .1))
         ]
       where
-        sized : ranged cs ≡ Done 0 → (eqb (length cs) 0 ≡ true) ⊎ (eqb (length cs) 0 ≡ false)
-            → (ltb (length (s .journal) - s .used) (entrySize (length cs)) ≡ true) ⊎ (ltb (length (s .journal) - s .used) (entrySize (length cs)) ≡ false)
-            → Ending s (change mark cs)
+        free : ℕ
+        free = length (s .journal) - s .used
+
+        sized : ranged cs ≡ Done 0 → EitherWay (eqb (length cs) 0) → EitherWay (ltb free (entrySize (length cs))) → Ending s (change mark cs)
         sized g (inl z) r = unnamed (rw (fits-done f, g, z))
         sized g (inr z) (inl r) = turned-away Room (rw (fits-done f, g, z, r))
         sized g (inr z) (inr r) =
             enters mark cs refl
-            (record
-            { fits = f
-            ; in-range = g
-            ; some = let n : length cs ≢ 0 = eqb-false _ _ z in omega arith
-            ; room = let free : entrySize (length cs) ≤ length (s .journal) - s .used = ltb-false _ _ r in omega (arith, f .within)
-            ; valid = k .0
-            ; ascending = k .1
+            (record {
+              fits = f;
+              in-range = g;
+              some = let n : length cs ≢ 0 = eqb-false _ _ z in omega arith;
+              room = let free : entrySize (length cs) ≤ length (s .journal) - s .used = ltb-false _ _ r in omega (arith, f .within);
+              valid = k .0;
+              ascending = k .1;
             })
 
 -- ---- The recording after a commit
@@ -134,13 +135,15 @@ module _ {s : State} {mark : ℕ} {cs : List Placed} (e : Enters s mark cs) wher
     where
       within : committed s mark cs .used ≤ length (committed s mark cs .journal)
       within = unfold committed in simp length-sets (e .room)
+
       free : (i : ℕ) → committed s mark cs .used ≤ i → getD (committed s mark cs .journal) i 0 ≡ 0
       free i h =
           unfold committed in
           (read-after (s .journal) (entry s mark (places cs)) (s .used) i 0 (rw (length-entry, length-places) h) ∙ kept .free i (omega arith))
+
       bytes : (i : ℕ) → getD (committed s mark cs .marks) i 0 < 256
       bytes i =
-          elim (among-or-not i (places cs))
-          [ inl a ↦ rw (after-named i a) (omega (arith, made-below mark (e .valid)))
-          | inr f ↦ rw (after-elsewhere s mark cs i f .1) (kept .bytes i)
+          elim (among-or-not i (places cs)) [
+            | inl a ↦ rw (after-named i a) (made-byte mark (e .valid))
+            | inr f ↦ rw (after-elsewhere s mark cs i f .1) (kept .bytes i)
           ]

@@ -1,29 +1,21 @@
 -- Demand 3 and what follows from it, of specs/History.antt. A recording is reached from the raw one by the repairs that
 -- survive, one commit on the other; a call leads from a reached recording to a reached one, since an undo takes the last commit back
 -- to the very state before it. Assumes nothing.
-use mathlib.Core.Path.{_≡_, refl, sym, ap, _∙_, subst}
-use mathlib.Core.Bool.{Bool, true, false}
+use mathlib.Core.Path.{_≡_, refl, sym, ap, _∙_}
+use mathlib.Core.Bool.{true, false}
 use mathlib.Core.List.{List, [], _∷_, _++_, map, map-append, reverse, reverse-cons, reverse-append}
 use mathlib.Core.Logic.{_⊎_, inl, inr}
-use Prim.Native.Nat.{ℕ, zero, suc, _+_, _-_, _*_, _≤_, _<_}
+use Prim.Native.Nat.{ℕ, zero, suc, _-_, _≤_, _<_}
 use native.Mathlib.Omega.{arith}
-use lib.ListN.{length, getD, replicate, length-reverse, length-replicate, getD-replicate, List·getD-eq-default}
-use lib.Seq.{sets}
-use lib.Dec.{ltb, eqb}
-use borrow.Author.Tests.{eq-eqb, ne-eqb, lt-ltb, le-ltb, eqb-true, eqb-false, ltb-false}
-use Rattle.leaves.proofs.Numbers.{lt-or-ge}
-use Rattle.leaves.proofs.Lists.{read-before}
+use lib.ListN.{length, getD, replicate, length-reverse}
 use Rattle.recording.specs.Answers.{value}
-use Rattle.recording.specs.Recording.{State, state, Ended, ended, Placed, places, each, put, made, measured, entrySize, entry, committed, entered, ranged, Plan, refuse, change, carried, performed, undone, fitting, opened, blank, differ, tooMany}
-use Rattle.recording.specs.History.{Repair, Call, repair, undo, did, run, surviving, survivorsOver, survivors, replay, fresh, Bytes, Ascending, Keeps, Lawful, AfterAny, Demand3, UndoingAll, MeasuredIsRaw, UnmadeIsRaw, FreeIsZero, Closing, closings, markOf, returned, EntriesAreSurvivors}
-use Rattle.recording.specs.Inner.{Fits}
-use Rattle.recording.specs.declared.Reason.{Reason}
+use Rattle.recording.specs.Recording.{State, ended, Placed, made, committed, Plan, change, performed, undone, opened, differ, tooMany}
+use Rattle.recording.specs.History.{Repair, Call, repair, undo, did, run, surviving, survivorsOver, survivors, replay, fresh, Keeps, Lawful, AfterAny, Demand3, UndoingAll, MeasuredIsRaw, UnmadeIsRaw, FreeIsZero, Closing, closings, markOf, returned, EntriesAreSurvivors}
 use Rattle.recording.specs.declared.Reason.the-variants.{Counts, TooMany}
 use Rattle.recording.specs.declared.Answer.{Answer}
 use Rattle.recording.specs.declared.Answer.the-variants.{Done, Refused}
-use Rattle.recording.proofs.Put.{Among, among-or-not, among-below, put-elsewhere, put-each, places-each}
-use Rattle.recording.proofs.Tests.{truth, fits-done, fits-or-not, undone-idle}
-use Rattle.recording.proofs.Entering.{Enters, Sound, Ending, unnamed, turned-away, enters, ending, enters-ends, after-sound, after-unmade, after-earlier, after-used, made-below}
+use Rattle.recording.proofs.Tests.{EitherWay, truth, undone-idle}
+use Rattle.recording.proofs.Entering.{Enters, Sound, Ending, unnamed, turned-away, enters, ending, enters-ends, after-sound, after-unmade, after-earlier, after-used}
 use Rattle.recording.proofs.UndoCommit.{undo-commit, last-count, last-mark, last-begin}
 
 -- ---- The relation
@@ -171,7 +163,7 @@ pub opening-is-fresh : (s : State) → opened s .answer ≡ Done 0
 unfolding opened
 opening-is-fresh s h = go (truth (differ s)) (truth (tooMany s))
   where
-    go : (differ s ≡ true) ⊎ (differ s ≡ false) → (tooMany s ≡ true) ⊎ (tooMany s ≡ false)
+    go : EitherWay (differ s) → EitherWay (tooMany s)
         → opened s .after ≡ fresh (s .samples) (replicate (length (s .marks)) 0) (length (s .journal))
     go (inl a) b = let no-done : Refused Counts ≡ Done 0 = rw a at h in cc
     go (inr a) (inl b) = let no-done : Refused TooMany ≡ Done 0 = rw (a, b) at h in cc

@@ -1,10 +1,10 @@
 -- Laws of the journal: an entry that was appended is read back, its saved samples pass every test of undo, and clearing it
 -- leaves the journal as it was before. Assumes nothing.
 use mathlib.Core.Path.{_≡_, refl, sym, ap, _∙_}
-use mathlib.Core.Bool.{true, false}
-use mathlib.Core.List.{List, [], _∷_, _++_}
+use mathlib.Core.Bool.{false}
+use mathlib.Core.List.{List, [], _∷_}
 use mathlib.Core.Logic.{_⊎_, inl, inr}
-use Prim.Native.Nat.{ℕ, zero, suc, _+_, _-_, _*_, _≤_, _<_}
+use Prim.Native.Nat.{ℕ, suc, _+_, _-_, _*_, _≤_, _<_}
 use native.Mathlib.Omega.{arith}
 use lib.ListN.{length, getD, replicate, length-append, length-replicate, getD-replicate, List·getD-append}
 use lib.Seq.{sets, length-sets, getD-append-add, getD-at, ext-getD}
@@ -13,7 +13,6 @@ use Rattle.leaves.proofs.Numbers.{lt-or-ge}
 use Rattle.leaves.proofs.Lists.{read-before, read-within, read-after}
 use Rattle.recording.specs.Recording.{State, Placed, Saved, places, saved, threeWords, entrySize, entry, savedAt, placePast, notRising, markPast}
 use Rattle.recording.specs.History.{Ascending, Bytes}
-use Rattle.recording.proofs.Put.{length-places}
 
 -- ---- Sizes
 
@@ -74,6 +73,7 @@ module _ (s : State) (mark : ℕ) (is j : List ℕ) (u : ℕ) (room : u + entryS
       front : (i : ℕ) → i < length (threeWords (saved (s .samples) (s .marks) is))
           → getD (entry s mark is) i 0 ≡ getD (threeWords (saved (s .samples) (s .marks) is)) i 0
       front i h = unfold entry in List·getD-append (threeWords (saved (s .samples) (s .marks) is)) _ 0 i h
+
       word : (i : ℕ) → i < length (threeWords (saved (s .samples) (s .marks) is))
           → getD (sets j u (entry s mark is)) (u + i) 0 ≡ getD (threeWords (saved (s .samples) (s .marks) is)) i 0
       word i h = entry-word i (omega (arith, saved-size)) ∙ front i h
@@ -88,6 +88,7 @@ stored-cleared j e u room zeros = ext-getD 0 _ _ (simp length-sets) at-each
       where
         count : length {A = ℕ} (replicate (length e) 0) ≡ length e
         count = length-replicate (length e) 0
+
         from : u ≤ i → (i < u + length e) ⊎ (u + length e ≤ i) → getD (sets (sets j u e) u (replicate (length e) 0)) i 0 ≡ getD j i 0
         from k (inl l) =
             let here : u + (i - u) ≡ i = omega arith in

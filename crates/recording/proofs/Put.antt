@@ -1,9 +1,9 @@
 -- Laws of `put`: what stands at a place after values were put at places, and how the old values are put back. Words and
 -- marks are both such lists, so each law is said once. Assumes nothing.
-use mathlib.Core.Path.{_≡_, refl, sym, ap, _∙_}
+use mathlib.Core.Path.{_≡_, refl, ap, _∙_}
 use mathlib.Core.List.{List, [], _∷_}
 use mathlib.Core.Logic.{_⊎_, inl, inr}
-use Prim.Native.Nat.{ℕ, zero, suc, _+_, _≤_, _<_}
+use Prim.Native.Nat.{ℕ, suc, _+_, _≤_, _<_}
 use native.Mathlib.Decide.{ℕ-discrete}
 use native.Mathlib.Omega.{arith}
 use lib.ListN.{length, getD, set, length-set}
@@ -52,6 +52,7 @@ put-valued v i (j ∷ js) l h m = put-valued v i js (set l j (v j)) (simp length
   where
     here : i ≡ j → getD (set l j (v j)) i 0 ≡ v i
     here e = rw (← e) (getD-set-same l i (v i) 0 h)
+
     other : (i ≡ j → ⊥) → Among i (j ∷ js) ⊎ (getD l i 0 ≡ v i) → Among i js ⊎ (getD (set l j (v j)) i 0 ≡ v i)
     other f (inl (inl e)) = absurd (f e)
     other f (inl (inr a)) = inl a
@@ -67,6 +68,7 @@ put-back cs l = ext-getD 0 _ _ same at-each
   where
     same : length (put (kept l (places cs)) (put cs l)) ≡ length l
     same = length-put (kept l (places cs)) (put cs l) ∙ length-put cs l
+
     at-each : (i : ℕ) → i < length (put (kept l (places cs)) (put cs l)) → getD (put (kept l (places cs)) (put cs l)) i 0 ≡ getD l i 0
     at-each i h =
         put-valued (λ i. getD l i 0) i (places cs) (put cs l) (rw length-put at h)

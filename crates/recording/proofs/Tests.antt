@@ -1,22 +1,25 @@
 -- The tests of a call, as facts: which refusals apply, and that none does. Assumes nothing.
-use mathlib.Core.Path.{_≡_, refl, sym, ap, _∙_}
+use mathlib.Core.Path.{_≡_, refl, _∙_}
 use mathlib.Core.Bool.{Bool, true, false}
-use mathlib.Core.List.{List, [], _∷_}
+use mathlib.Core.List.{List}
 use mathlib.Core.Logic.{_⊎_, inl, inr}
-use Prim.Native.Nat.{ℕ, zero, suc, _+_, _-_, _*_, _≤_, _<_}
+use Prim.Native.Nat.{ℕ, _-_, _≤_, _<_}
 use native.Mathlib.Omega.{arith}
-use lib.ListN.{length, getD, replicate}
+use lib.ListN.{length, replicate}
 use lib.Seq.{sets}
 use lib.Dec.{eqb}
 use borrow.Author.Tests.{eq-eqb, ne-eqb, le-ltb, eqb-true, ltb-false, not-false}
-use Rattle.recording.specs.Recording.{State, Ended, ended, Saved, differ, tooMany, overUsed, fitting, made, entrySize, lastCount, lastMark, lastBegin, lastSaved, placePast, notRising, markPast, malformed, oldWords, oldMarks, put, state, takenBack, undone}
+use Rattle.recording.specs.Recording.{State, ended, Saved, differ, tooMany, overUsed, fitting, made, entrySize, lastCount, lastMark, lastSaved, placePast, notRising, markPast, malformed, oldWords, oldMarks, put, state, takenBack, undone}
 use Rattle.recording.specs.Inner.{Fits}
 use Rattle.recording.specs.declared.Reason.{Reason}
 use Rattle.recording.specs.declared.Reason.the-variants.{Counts, TooMany, Used}
 use Rattle.recording.specs.declared.Answer.the-variants.{Done, Refused}
 
 -- a test holds, or it does not
-pub truth : (b : Bool) → (b ≡ true) ⊎ (b ≡ false)
+abbrev pub EitherWay : Bool → Type 0
+EitherWay b = (b ≡ true) ⊎ (b ≡ false)
+
+pub truth : (b : Bool) → EitherWay b
 truth true = inl refl
 truth false = inr refl
 
@@ -30,8 +33,7 @@ pub fits-or-not : (s : State) → Fits s ⊎ ((why : Reason) × (fitting s ≡ R
 unfolding fitting
 fits-or-not s = one (truth (differ s)) (truth (tooMany s)) (truth (overUsed s))
   where
-    one : (differ s ≡ true) ⊎ (differ s ≡ false) → (tooMany s ≡ true) ⊎ (tooMany s ≡ false) → (overUsed s ≡ true) ⊎ (overUsed s ≡ false)
-        → Fits s ⊎ ((why : Reason) × (fitting s ≡ Refused why))
+    one : EitherWay (differ s) → EitherWay (tooMany s) → EitherWay (overUsed s) → Fits s ⊎ ((why : Reason) × (fitting s ≡ Refused why))
     one (inl a) b c = inr (Counts, rw a)
     one (inr a) (inl b) c = inr (TooMany, rw (a, b))
     one (inr a) (inr b) (inl c) = inr (Used, rw (a, b, c))

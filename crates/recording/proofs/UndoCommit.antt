@@ -1,23 +1,17 @@
 -- Undo after a repair that entered its samples: it gives back the very state before. Assumes nothing.
-use mathlib.Core.Path.{_≡_, refl, sym, ap, _∙_}
-use mathlib.Core.Bool.{Bool, true, false, _&&_}
-use mathlib.Core.List.{List, [], _∷_}
-use mathlib.Core.Logic.{_⊎_, inl, inr}
-use Prim.Native.Nat.{ℕ, zero, suc, _+_, _-_, _*_, _≤_, _<_}
+use mathlib.Core.Path.{_≡_, ap, _∙_}
+use mathlib.Core.List.{List}
+use Prim.Native.Nat.{ℕ, _+_, _-_, _*_, _≤_}
 use native.Mathlib.Omega.{arith}
-use lib.ListN.{length, getD, replicate, length-set}
+use lib.ListN.{length, replicate}
 use lib.Seq.{sets, length-sets}
-use borrow.Author.Tests.{ne-eqb, le-ltb, leb-true, leb-false}
-use Rattle.leaves.proofs.Numbers.{lt-or-ge}
-use Rattle.leaves.proofs.Lists.{read-before, read-after}
-use Rattle.recording.specs.Recording.{State, state, Ended, ended, Placed, Saved, places, each, put, saved, savedAt, oldWords, oldMarks, made, entrySize, entry, committed, entered, ranged, Plan, refuse, change, carried, performed, lastCount, lastMark, lastBegin, lastSaved, malformed, takenBack, undone, fitting}
-use Rattle.recording.specs.History.{Ascending, Bytes}
+use Rattle.recording.specs.Recording.{State, state, ended, Placed, places, put, saved, savedAt, oldWords, oldMarks, entrySize, entry, committed, lastCount, lastMark, lastSaved, undone}
 use Rattle.recording.specs.Inner.{Fits}
-use Rattle.recording.specs.declared.Answer.the-variants.{Done, Refused}
-use Rattle.recording.proofs.Put.{Among, among-or-not, among-below, put-elsewhere, put-each, places-each, length-put, length-places, ascending-count, put-back, marks-back, words-kept, marks-kept}
+use Rattle.recording.specs.declared.Answer.the-variants.{Done}
+use Rattle.recording.proofs.Put.{length-put, length-places, ascending-count, put-back, marks-back, words-kept, marks-kept}
 use Rattle.recording.proofs.Journal.{length-entry, entry-count, entry-mark, entry-saved, stored-cleared, none-past, rising, all-bytes}
 use Rattle.recording.proofs.Entering.{Enters, Sound}
-use Rattle.recording.proofs.Tests.{fits-done, Sealed, sealed-undone}
+use Rattle.recording.proofs.Tests.{Sealed, sealed-undone}
 
 -- the recording after it
 module _ {s : State} {mark : ℕ} {cs : List Placed} (e : Enters s mark cs) where
@@ -56,21 +50,22 @@ module _ {s : State} {mark : ℕ} {cs : List Placed} (e : Enters s mark cs) wher
     -- it passes every test of undo
     last-sealed : Sealed (committed s mark cs) (length cs) mark (saved (s .samples) (s .marks) (places cs))
     last-sealed =
-        record
-        { count = last-count
-        ; set-mark = last-mark
-        ; saved-there = last-saved
-        ; some = e .some
-        ; few = omega (arith, same, ascending-count (length (s .samples)) 0 cs (e .ascending) (omega arith))
-        ; fits = long-enough
-        ; below = rw same (none-past (length (s .samples)) 0 (s .samples) (s .marks) cs (e .ascending))
-        ; rising = rising (length (s .samples)) 0 (s .samples) (s .marks) cs (e .ascending)
-        ; bytes = all-bytes (s .samples) (s .marks) (places cs) (kept .bytes)
-        ; valid = e .valid
+        record {
+          count = last-count;
+          set-mark = last-mark;
+          saved-there = last-saved;
+          some = e .some;
+          few = omega (arith, same, ascending-count (length (s .samples)) 0 cs (e .ascending) (omega arith));
+          fits = long-enough;
+          below = rw same (none-past (length (s .samples)) 0 (s .samples) (s .marks) cs (e .ascending));
+          rising = rising (length (s .samples)) 0 (s .samples) (s .marks) cs (e .ascending);
+          bytes = all-bytes (s .samples) (s .marks) (places cs) (kept .bytes);
+          valid = e .valid;
         }
       where
         same : length (committed s mark cs .samples) ≡ length (s .samples)
         same = unfold committed in simp length-put
+
         long-enough : entrySize (length cs) ≤ committed s mark cs .used
         long-enough = unfold committed in omega arith
 
