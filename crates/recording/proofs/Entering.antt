@@ -1,5 +1,5 @@
--- A repair whose plan keeps to its rule: it leaves all as it is, or it enters what it names; and what the recording keeps
--- then. Assumes nothing.
+-- A repair whose plan keeps to its rule: it leaves all as it is, or it enters what it names; and what is then kept.
+-- Assumes nothing.
 use mathlib.Core.Path.{_≡_, refl, sym, _∙_}
 use mathlib.Core.Bool.{Bool, true, false, _&&_}
 use mathlib.Core.List.{List, [], _∷_}
@@ -57,7 +57,8 @@ enters-ends {s} {mark} {cs} e =
 ranged-or-not : (cs : List Placed) → (ranged cs ≡ Done 0) ⊎ ((why : Reason) × (ranged cs ≡ Refused why))
 unfolding ranged
 ranged-or-not [] = inl refl
-ranged-or-not (c ∷ cs) = elim (truth (inRange (c .value))) [ inl t ↦ rw t (ranged-or-not cs) | inr f ↦ inr (Result (c .place), rw f) ]
+ranged-or-not (c ∷ cs) =
+    elim (truth (inRange (c .value))) [ inl t ↦ rw t (ranged-or-not cs) | inr f ↦ inr (Result (c .place), rw f) ]
 
 -- the three ways in which a repair ends
 pub data Ending (s : State) (p : Plan) : Type 0 where
@@ -80,7 +81,8 @@ ending s p k = elim (fits-or-not s) [ inl f ↦ planned f p k | inr n ↦ turned
         free : ℕ
         free = length (s .journal) - s .used
 
-        sized : ranged cs ≡ Done 0 → EitherWay (eqb (length cs) 0) → EitherWay (ltb free (entrySize (length cs))) → Ending s (change mark cs)
+        sized : ranged cs ≡ Done 0 → EitherWay (eqb (length cs) 0) → EitherWay (ltb free (entrySize (length cs)))
+            → Ending s (change mark cs)
         sized g (inl z) r = unnamed (rw (fits-done f, g, z))
         sized g (inr z) (inl r) = turned-away Room (rw (fits-done f, g, z, r))
         sized g (inr z) (inr r) =
@@ -89,14 +91,19 @@ ending s p k = elim (fits-or-not s) [ inl f ↦ planned f p k | inr n ↦ turned
               fits = f;
               in-range = g;
               some = let n : length cs ≢ 0 = eqb-false _ _ z in omega arith;
-              room = let free : entrySize (length cs) ≤ length (s .journal) - s .used = ltb-false _ _ r in omega (arith, f .within);
+              room = let enough : entrySize (length cs) ≤ free = ltb-false _ _ r in omega (arith, f .within);
               valid = k .0;
               ascending = k .1;
             })
 
 -- ---- The recording after a commit
 
+-- sample i has one word and one mark in both recordings
+abbrev pub SameAt : ℕ → State → State → Type 0
+SameAt i s t = (getD (s .samples) i 0 ≡ getD (t .samples) i 0) × (getD (s .marks) i 0 ≡ getD (t .marks) i 0)
+
 module _ (s : State) (mark : ℕ) (cs : List Placed) where
+  -- the entry is 3m+2 words long
   pub after-used : committed s mark cs .used ≡ s .used + entrySize (length cs)
   unfolding committed
   after-used = refl
@@ -107,8 +114,7 @@ module _ (s : State) (mark : ℕ) (cs : List Placed) where
   after-earlier i h = read-before (s .journal) (entry s mark (places cs)) (s .used) i 0 h
 
   -- a sample that is not named is as it was
-  after-elsewhere : (i : ℕ) → (Among i (places cs) → ⊥)
-      → (getD (committed s mark cs .samples) i 0 ≡ getD (s .samples) i 0) × (getD (committed s mark cs .marks) i 0 ≡ getD (s .marks) i 0)
+  after-elsewhere : (i : ℕ) → (Among i (places cs) → ⊥) → SameAt i (committed s mark cs) s
   unfolding committed
   after-elsewhere i f =
       (put-elsewhere i cs (s .samples) f, put-elsewhere i (each mark (places cs)) (s .marks) (rw places-each f))
@@ -118,16 +124,16 @@ module _ {s : State} {mark : ℕ} {cs : List Placed} (e : Enters s mark cs) wher
   after-named : (i : ℕ) → Among i (places cs) → getD (committed s mark cs .marks) i 0 ≡ mark
   unfolding committed
   after-named i a =
-      let within : i < length (s .marks) = omega (arith, among-below (length (s .samples)) 0 i cs (e .ascending) a, e .fits .counts) in
+      let below : i < length (s .samples) = among-below (length (s .samples)) 0 i cs (e .ascending) a in
+      let within : i < length (s .marks) = omega (arith, e .fits .counts) in
       put-each mark i (places cs) (s .marks) within a
 
   -- so one whose mark is none that a repair sets is as it was
-  pub after-unmade : (i : ℕ) → made (getD (committed s mark cs .marks) i 0) ≡ false
-      → (getD (committed s mark cs .samples) i 0 ≡ getD (s .samples) i 0) × (getD (committed s mark cs .marks) i 0 ≡ getD (s .marks) i 0)
-  after-unmade i h = elim (among-or-not i (places cs)) [ inl a ↦ absurd (never a) | inr f ↦ after-elsewhere s mark cs i f ]
+  pub after-unmade : (i : ℕ) → made (getD (committed s mark cs .marks) i 0) ≡ false → SameAt i (committed s mark cs) s
+  after-unmade i h = elim (among-or-not i (places cs)) [ inl a ↦ never a | inr f ↦ after-elsewhere s mark cs i f ]
     where
-      never : Among i (places cs) → ⊥
-      never a = let z : true ≡ false = sym (e .valid) ∙ (rw (after-named i a) at h) in let y : _≡_ {A = ℕ} 0 1 = cc in omega arith
+      never : Among i (places cs) → SameAt i (committed s mark cs) s
+      never a = let both : true ≡ false = sym (e .valid) ∙ (rw (after-named i a) at h) in (cc, cc)
 
   -- the free words stay 0, and marks stay bytes
   pub after-sound : Sound s → Sound (committed s mark cs)
@@ -139,7 +145,8 @@ module _ {s : State} {mark : ℕ} {cs : List Placed} (e : Enters s mark cs) wher
       free : (i : ℕ) → committed s mark cs .used ≤ i → getD (committed s mark cs .journal) i 0 ≡ 0
       free i h =
           unfold committed in
-          (read-after (s .journal) (entry s mark (places cs)) (s .used) i 0 (rw (length-entry, length-places) h) ∙ kept .free i (omega arith))
+          (read-after (s .journal) (entry s mark (places cs)) (s .used) i 0 (rw (length-entry, length-places) h)
+          ∙ kept .free i (omega arith))
 
       bytes : (i : ℕ) → getD (committed s mark cs .marks) i 0 < 256
       bytes i =

@@ -1,12 +1,12 @@
--- Laws of the journal: an entry that was appended is read back, its saved samples pass every test of undo, and clearing it
--- leaves the journal as it was before. Assumes nothing.
-use mathlib.Core.Path.{_≡_, refl, sym, ap, _∙_}
+-- Laws of the journal: an entry that was appended is read back, what it saved passes every test of undo, and clearing
+-- it leaves the journal as it was. Assumes nothing.
+use mathlib.Core.Path.{_≡_, refl, ap, _∙_}
 use mathlib.Core.Bool.{false}
 use mathlib.Core.List.{List, [], _∷_}
 use mathlib.Core.Logic.{_⊎_, inl, inr}
-use Prim.Native.Nat.{ℕ, suc, _+_, _-_, _*_, _≤_, _<_}
+use Prim.Native.Nat.{ℕ, zero, suc, _+_, _-_, _*_, _≤_, _<_}
 use native.Mathlib.Omega.{arith}
-use lib.ListN.{length, getD, replicate, length-append, length-replicate, getD-replicate, List·getD-append}
+use lib.ListN.{length, getD, replicate, length-append, List·getD-append}
 use lib.Seq.{sets, length-sets, getD-append-add, getD-at, ext-getD}
 use borrow.Author.Tests.{lt-leb, le-ltb}
 use Rattle.leaves.proofs.Numbers.{lt-or-ge}
@@ -45,21 +45,27 @@ read-saved journal u (t ∷ ts) h =
     rw (place, word, mark) (ap (λ (r : List Saved). t ∷ r) (read-saved journal (u + 3) ts later))
   where
     later : (i : ℕ) → i < length (threeWords ts) → getD journal (u + 3 + i) 0 ≡ getD (threeWords ts) i 0
-    later i k = let same : u + 3 + i ≡ u + suc (suc (suc i)) = omega arith in rw same (h (suc (suc (suc i))) (omega arith))
+    later i k =
+        let same : u + 3 + i ≡ u + suc (suc (suc i)) = omega arith in
+        rw same (h (suc (suc (suc i))) (omega arith))
 
 -- an entry of the samples at the places `is`, and the mark that was set, appended to a journal with room for it
 module _ (s : State) (mark : ℕ) (is j : List ℕ) (u : ℕ) (room : u + entrySize (length is) ≤ length j) where
   -- the entry's word i stands i words after its begin
-  entry-word : (i : ℕ) → i < entrySize (length is) → getD (sets j u (entry s mark is)) (u + i) 0 ≡ getD (entry s mark is) i 0
+  entry-word : (i : ℕ) → i < entrySize (length is)
+      → getD (sets j u (entry s mark is)) (u + i) 0 ≡ getD (entry s mark is) i 0
   entry-word i h = read-within j (entry s mark is) u i 0 (simp length-entry room) (simp length-entry h)
 
+  -- three words for each saved sample
   saved-size : length (threeWords (saved (s .samples) (s .marks) is)) ≡ 3 * length is
   saved-size = simp (length-threeWords, length-saved)
 
   -- it ends in the count and the mark, and begins with what was saved
   pub entry-count : getD (sets j u (entry s mark is)) (u + 3 * length is) 0 ≡ length is
   unfolding entry
-  entry-count = entry-word (3 * length is) (omega arith) ∙ getD-at (threeWords (saved (s .samples) (s .marks) is)) _ _ 0 _ saved-size
+  entry-count =
+      entry-word (3 * length is) (omega arith)
+      ∙ getD-at (threeWords (saved (s .samples) (s .marks) is)) _ _ 0 _ saved-size
 
   pub entry-mark : getD (sets j u (entry s mark is)) (u + (3 * length is + 1)) 0 ≡ mark
   unfolding entry
@@ -78,34 +84,41 @@ module _ (s : State) (mark : ℕ) (is j : List ℕ) (u : ℕ) (room : u + entryS
           → getD (sets j u (entry s mark is)) (u + i) 0 ≡ getD (threeWords (saved (s .samples) (s .marks) is)) i 0
       word i h = entry-word i (omega (arith, saved-size)) ∙ front i h
 
--- words that were stored where all was 0, cleared again, leave the list as it was
-pub stored-cleared : (j e : List ℕ) (u : ℕ) → u + length e ≤ length j → ((i : ℕ) → u ≤ i → getD j i 0 ≡ 0)
-    → sets (sets j u e) u (replicate (length e) 0) ≡ j
-stored-cleared j e u room zeros = ext-getD 0 _ _ (simp length-sets) at-each
-  where
-    at-each : (i : ℕ) → i < length (sets (sets j u e) u (replicate (length e) 0)) → getD (sets (sets j u e) u (replicate (length e) 0)) i 0 ≡ getD j i 0
-    at-each i h = elim (lt-or-ge i u) [ inl k ↦ read-before (sets j u e) (replicate (length e) 0) u i 0 k ∙ read-before j e u i 0 k | inr k ↦ from k (lt-or-ge i (u + length e)) ]
-      where
-        count : length {A = ℕ} (replicate (length e) 0) ≡ length e
-        count = length-replicate (length e) 0
+-- ---- Clearing
 
-        from : u ≤ i → (i < u + length e) ⊎ (u + length e ≤ i) → getD (sets (sets j u e) u (replicate (length e) 0)) i 0 ≡ getD j i 0
-        from k (inl l) =
-            let here : u + (i - u) ≡ i = omega arith in
-            (rw here at (read-within (sets j u e) (replicate (length e) 0) u (i - u) 0 (simp (length-sets, length-replicate) room) (omega (arith, count))))
-            ∙ getD-replicate (length e) (i - u) 0 0 (omega arith)
-            ∙ sym (zeros i k)
-        from k (inr l) = read-after (sets j u e) (replicate (length e) 0) u i 0 (omega (arith, count)) ∙ read-after j e u i 0 l
+-- words that stood in a list, stored over those that were stored over them, give it back
+pub stored-back : (j e olds : List ℕ) (u : ℕ) → length olds ≡ length e → u + length e ≤ length j
+    → ((i : ℕ) → i < length olds → getD olds i 0 ≡ getD j (u + i) 0) → sets (sets j u e) u olds ≡ j
+stored-back j e olds u count room there =
+    ext-getD 0 _ _ (simp length-sets) (λ i h. at-each i (lt-or-ge i u) (lt-or-ge i (u + length e)))
+  where
+    at-each : (i : ℕ) → (i < u) ⊎ (u ≤ i) → (i < u + length e) ⊎ (u + length e ≤ i)
+        → getD (sets (sets j u e) u olds) i 0 ≡ getD j i 0
+    at-each i (inl k) l = read-before (sets j u e) olds u i 0 k ∙ read-before j e u i 0 k
+    at-each i (inr k) (inl l) =
+        let here : u + (i - u) ≡ i = omega arith in
+        let fits : u + length olds ≤ length (sets j u e) = simp length-sets (omega arith) in
+        rw here at (read-within (sets j u e) olds u (i - u) 0 fits (omega arith) ∙ there (i - u) (omega arith))
+    at-each i (inr k) (inr l) = read-after (sets j u e) olds u i 0 (omega arith) ∙ read-after j e u i 0 l
+
+-- words that are all 0, also past their end
+pub all-zero : (n i : ℕ) → getD {A = ℕ} (replicate n 0) i 0 ≡ 0
+all-zero zero i = refl
+all-zero (suc n) zero = refl
+all-zero (suc n) (suc i) = all-zero n i
 
 -- ---- The tests of undo
 
 -- what was saved at ascending places below n passes the tests of places
-pub none-past : (n least : ℕ) (words marks : List ℕ) (cs : List Placed) → Ascending n least cs → placePast n (saved words marks (places cs)) ≡ false
+pub none-past : (n least : ℕ) (words marks : List ℕ) (cs : List Placed) → Ascending n least cs
+    → placePast n (saved words marks (places cs)) ≡ false
 unfolding saved placePast
 none-past n least words marks [] h = refl
-none-past n least words marks (c ∷ cs) h = rw (lt-leb n (c .place) (h .1)) (none-past n (c .place + 1) words marks cs (h .2))
+none-past n least words marks (c ∷ cs) h =
+    rw (lt-leb n (c .place) (h .1)) (none-past n (c .place + 1) words marks cs (h .2))
 
-pub rising : (n least : ℕ) (words marks : List ℕ) (cs : List Placed) → Ascending n least cs → notRising (saved words marks (places cs)) ≡ false
+pub rising : (n least : ℕ) (words marks : List ℕ) (cs : List Placed) → Ascending n least cs
+    → notRising (saved words marks (places cs)) ≡ false
 unfolding saved notRising
 rising n least words marks [] h = refl
 rising n least words marks (c ∷ []) h = refl

@@ -25,13 +25,15 @@ among-or-not i (j ∷ js) = elim (ℕ-discrete i j) [ yes e ↦ inl (inl e) | no
     later f (inl m) = inl (inr m)
     later f (inr n) = inr (λ (a : (i ≡ j) ⊎ Among i js). elim a [ inl e ↦ f e | inr m ↦ n m ])
 
+-- no element is added or lost
 pub length-put : (cs : List Placed) (l : List ℕ) → length (put cs l) ≡ length l
 unfolding put
 length-put [] l = refl
 length-put (c ∷ cs) l = length-put cs (set l (c .place) (c .value)) ∙ length-set l (c .place) (c .value)
 
 -- a place that is not named is as it was
-pub put-elsewhere : (i : ℕ) (cs : List Placed) (l : List ℕ) → (Among i (places cs) → ⊥) → getD (put cs l) i 0 ≡ getD l i 0
+pub put-elsewhere : (i : ℕ) (cs : List Placed) (l : List ℕ) → (Among i (places cs) → ⊥)
+    → getD (put cs l) i 0 ≡ getD l i 0
 unfolding put
 put-elsewhere i [] l h = refl
 put-elsewhere i (c ∷ cs) l h =
@@ -44,11 +46,14 @@ valued v [] = []
 valued v (i ∷ is) = record { place = i; value = v i } ∷ valued v is
 
 -- after that, a place that is among them, or had its value already, has its value
-pub put-valued : (v : ℕ → ℕ) (i : ℕ) (is l : List ℕ) → i < length l → Among i is ⊎ (getD l i 0 ≡ v i) → getD (put (valued v is) l) i 0 ≡ v i
+put-valued : (v : ℕ → ℕ) (i : ℕ) (is l : List ℕ) → i < length l → Among i is ⊎ (getD l i 0 ≡ v i)
+    → getD (put (valued v is) l) i 0 ≡ v i
 unfolding put
 put-valued v i [] l h (inl none) = absurd none
 put-valued v i [] l h (inr e) = e
-put-valued v i (j ∷ js) l h m = put-valued v i js (set l j (v j)) (simp length-set h) (elim (ℕ-discrete i j) [ yes e ↦ inr (here e) | no f ↦ other f m ])
+put-valued v i (j ∷ js) l h m =
+    put-valued v i js (set l j (v j)) (simp length-set h)
+    (elim (ℕ-discrete i j) [ yes e ↦ inr (here e) | no f ↦ other f m ])
   where
     here : i ≡ j → getD (set l j (v j)) i 0 ≡ v i
     here e = rw (← e) (getD-set-same l i (v i) 0 h)
@@ -69,7 +74,8 @@ put-back cs l = ext-getD 0 _ _ same at-each
     same : length (put (kept l (places cs)) (put cs l)) ≡ length l
     same = length-put (kept l (places cs)) (put cs l) ∙ length-put cs l
 
-    at-each : (i : ℕ) → i < length (put (kept l (places cs)) (put cs l)) → getD (put (kept l (places cs)) (put cs l)) i 0 ≡ getD l i 0
+    at-each : (i : ℕ) → i < length (put (kept l (places cs)) (put cs l))
+        → getD (put (kept l (places cs)) (put cs l)) i 0 ≡ getD l i 0
     at-each i h =
         put-valued (λ i. getD l i 0) i (places cs) (put cs l) (rw length-put at h)
         (elim (among-or-not i (places cs)) [ inl a ↦ inl a | inr f ↦ inr (put-elsewhere i cs l f) ])
@@ -79,7 +85,7 @@ pub places-each : (v : ℕ) (is : List ℕ) → places (each v is) ≡ is
 places-each v [] = refl
 places-each v (i ∷ is) = ap (λ (js : List ℕ). i ∷ js) (places-each v is)
 
-pub each-valued : (v : ℕ) (is : List ℕ) → each v is ≡ valued (λ i. v) is
+each-valued : (v : ℕ) (is : List ℕ) → each v is ≡ valued (λ i. v) is
 each-valued v [] = refl
 each-valued v (i ∷ is) = ap (λ (cs : List Placed). record { place = i; value = v } ∷ cs) (each-valued v is)
 
@@ -94,12 +100,14 @@ marks-back v is l = rw places-each at (put-back (each v is) l)
 pub words-kept : (words marks is : List ℕ) → oldWords (saved words marks is) ≡ kept words is
 unfolding saved
 words-kept words marks [] = refl
-words-kept words marks (i ∷ is) = ap (λ (cs : List Placed). record { place = i; value = getD words i 0 } ∷ cs) (words-kept words marks is)
+words-kept words marks (i ∷ is) =
+    ap (λ (cs : List Placed). record { place = i; value = getD words i 0 } ∷ cs) (words-kept words marks is)
 
 pub marks-kept : (words marks is : List ℕ) → oldMarks (saved words marks is) ≡ kept marks is
 unfolding saved
 marks-kept words marks [] = refl
-marks-kept words marks (i ∷ is) = ap (λ (cs : List Placed). record { place = i; value = getD marks i 0 } ∷ cs) (marks-kept words marks is)
+marks-kept words marks (i ∷ is) =
+    ap (λ (cs : List Placed). record { place = i; value = getD marks i 0 } ∷ cs) (marks-kept words marks is)
 
 -- ascending places below n: each is below n, and they are at most n
 pub among-below : (n least i : ℕ) (cs : List Placed) → Ascending n least cs → Among i (places cs) → i < n
@@ -113,6 +121,7 @@ ascending-count n least (c ∷ cs) h k =
     let rest : c .place + 1 + length cs ≤ n = ascending-count n (c .place + 1) cs (h .2) (omega (arith, h .1)) in
     omega (arith, h .0)
 
+-- as many places as named samples
 pub length-places : (cs : List Placed) → length (places cs) ≡ length cs
 length-places [] = refl
 length-places (c ∷ cs) = ap suc (length-places cs)

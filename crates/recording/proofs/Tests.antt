@@ -1,4 +1,5 @@
--- The tests of a call, as facts: which refusals apply, and that none does. Assumes nothing.
+-- The tests of a call, as facts: whether one of the refusals 1 to 3 applies, and how undo ends where the last entry
+-- passes every test, and where there is none. Assumes nothing.
 use mathlib.Core.Path.{_≡_, refl, _∙_}
 use mathlib.Core.Bool.{Bool, true, false}
 use mathlib.Core.List.{List}
@@ -33,7 +34,8 @@ pub fits-or-not : (s : State) → Fits s ⊎ ((why : Reason) × (fitting s ≡ R
 unfolding fitting
 fits-or-not s = one (truth (differ s)) (truth (tooMany s)) (truth (overUsed s))
   where
-    one : EitherWay (differ s) → EitherWay (tooMany s) → EitherWay (overUsed s) → Fits s ⊎ ((why : Reason) × (fitting s ≡ Refused why))
+    one : EitherWay (differ s) → EitherWay (tooMany s) → EitherWay (overUsed s)
+        → Fits s ⊎ ((why : Reason) × (fitting s ≡ Refused why))
     one (inl a) b c = inr (Counts, rw a)
     one (inr a) (inl b) c = inr (TooMany, rw (a, b))
     one (inr a) (inr b) (inl c) = inr (Used, rw (a, b, c))
@@ -53,30 +55,36 @@ pub record Sealed (s : State) (m mark : ℕ) (olds : List Saved) : Type 0 where
   pub bytes : markPast olds ≡ false
   pub valid : made mark ≡ true
 
-well-formed : {s : State} {m mark : ℕ} {olds : List Saved} → Sealed s m mark olds → malformed (length (s .samples)) (s .journal) (s .used) ≡ false
-unfolding malformed
-well-formed {s} {m} {mark} {olds} e =
-    rw (e .saved-there, e .count, e .set-mark, ne-eqb (s .used) 1 (λ (z : s .used ≡ 1). omega arith), ne-eqb m 0 (λ (z : m ≡ 0). omega arith))
-    (rw (le-ltb (length (s .samples)) m (e .few), le-ltb (s .used) (entrySize m) (e .fits), e .below, e .rising, e .bytes, e .valid) refl)
-
 -- the words and marks that it saved return, and it is cleared
 abbrev pub without : State → ℕ → List Saved → State
 without s m olds =
-    state (put (oldWords olds) (s .samples)) (put (oldMarks olds) (s .marks)) (sets (s .journal) (s .used - entrySize m) (replicate (entrySize m) 0))
-    (s .used - entrySize m)
+    let begin = s .used - entrySize m in
+    let journal = sets (s .journal) begin (replicate (entrySize m) 0) in
+    state (put (oldWords olds) (s .samples)) (put (oldMarks olds) (s .marks)) journal begin
 
-sealed-back : {s : State} {m mark : ℕ} {olds : List Saved} → Sealed s m mark olds → takenBack s ≡ without s m olds
-unfolding takenBack
-sealed-back e = rw (e .saved-there, e .count)
+module _ {s : State} {m mark : ℕ} {olds : List Saved} (e : Sealed s m mark olds) where
+  well-formed : malformed (length (s .samples)) (s .journal) (s .used) ≡ false
+  unfolding malformed
+  well-formed =
+      rw (e .saved-there, e .count, e .set-mark)
+      (rw (ne-eqb (s .used) 1 (λ (z : s .used ≡ 1). omega arith), ne-eqb m 0 (λ (z : m ≡ 0). omega arith))
+      (rw (le-ltb (length (s .samples)) m (e .few), le-ltb (s .used) (entrySize m) (e .fits))
+      (rw (e .below, e .rising, e .bytes, e .valid) refl)))
 
-pub sealed-undone : {s : State} {m mark : ℕ} {olds : List Saved} → Fits s → Sealed s m mark olds → undone s ≡ ended (Done m) (without s m olds)
-sealed-undone {s} f e =
-    undone-to s (fits-done f) (ne-eqb (s .used) 0 (λ (z : s .used ≡ 0). omega (arith, e .fits))) (well-formed e)
-    ∙ rw (e .count, sealed-back e)
-  where
-    undone-to : (s : State) → fitting s ≡ Done 0 → eqb (s .used) 0 ≡ false → malformed (length (s .samples)) (s .journal) (s .used) ≡ false
-        → undone s ≡ ended (Done (lastCount (s .journal) (s .used))) (takenBack s)
-    undone-to s f g h = unfold undone in rw (f, g, h)
+  sealed-back : takenBack s ≡ without s m olds
+  unfolding takenBack
+  sealed-back = rw (e .saved-there, e .count)
+
+  -- undo does so
+  pub sealed-undone : Fits s → undone s ≡ ended (Done m) (without s m olds)
+  sealed-undone f =
+      accepted (fits-done f) (ne-eqb (s .used) 0 (λ (z : s .used ≡ 0). omega (arith, e .fits))) well-formed
+      ∙ rw (e .count, sealed-back)
+    where
+      accepted : fitting s ≡ Done 0 → eqb (s .used) 0 ≡ false
+          → malformed (length (s .samples)) (s .journal) (s .used) ≡ false
+          → undone s ≡ ended (Done (lastCount (s .journal) (s .used))) (takenBack s)
+      accepted one two three = unfold undone in rw (one, two, three)
 
 -- where nothing was entered, undo leaves all as it is
 pub undone-idle : (s : State) → s .used ≡ 0 → undone s .after ≡ s
