@@ -1,0 +1,7 @@
+-- Laws of the recording's rules, and the history of a recording.
+pub mod Put
+pub mod Journal
+pub mod Tests
+pub mod Entering
+pub mod UndoCommit
+pub mod History
