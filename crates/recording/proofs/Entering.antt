@@ -20,7 +20,7 @@ use Rattle.recording.specs.declared.Reason.the-variants.{Result, Room}
 use Rattle.recording.specs.declared.Answer.the-variants.{Done, Refused}
 use Rattle.recording.proofs.Put.{Among, among-or-not, among-below, put-elsewhere, put-each, places-each, length-places}
 use Rattle.recording.proofs.Journal.{length-entry}
-use Rattle.recording.proofs.Tests.{EitherWay, truth, fits-done, fits-or-not}
+use Rattle.recording.proofs.open.Laws.{EitherWay, truth, fits-done, fits-or-not}
 
 -- a repair of these samples is accepted, names some and enters them
 pub record Enters (s : State) (mark : ℕ) (cs : List Placed) : Type 0 where

@@ -9,13 +9,14 @@ use Prim.Native.Nat.{ℕ, zero, suc, _-_, _≤_, _<_}
 use native.Mathlib.Omega.{arith}
 use lib.ListN.{length, getD, replicate, length-reverse}
 use Rattle.recording.specs.Answers.{value}
-use Rattle.recording.specs.Recording.{State, ended, Placed, made, committed, Plan, change, performed, undone, opened, differ, tooMany}
-use Rattle.recording.specs.History.{Repair, Call, repair, undo, did, run, surviving, survivorsOver, survivors, replay, fresh, Bytes, Keeps, Lawful, AfterAny, Demand3, UndoingAll, MeasuredIsRaw, UnmadeIsRaw, FreeIsZero, Closing, closings, markOf, returned, EntriesAreSurvivors}
+use Rattle.recording.specs.Recording.{State, Ended, ended, Placed, made, committed, Plan, change, performed, undone, opened, differ, tooMany}
+use Rattle.recording.specs.History.{Repair, Call, repair, undo, did, run, surviving, survivorsOver, survivors, replay, fresh, Bytes, Keeps, Lawful, OpeningIsFresh, AfterAny, Demand3, AllName, SurvivorsStand, UndoingAll, MeasuredIsRaw, UnmadeIsRaw, FreeIsZero, Closing, closings, markOf, returned, EntriesAreSurvivors}
 use Rattle.recording.specs.declared.Reason.the-variants.{Counts, TooMany}
 use Rattle.recording.specs.declared.Answer.{Answer}
 use Rattle.recording.specs.declared.Answer.the-variants.{Done, Refused}
 use Rattle.recording.proofs.Journal.{all-zero}
-use Rattle.recording.proofs.Tests.{EitherWay, truth, undone-idle}
+use Rattle.recording.proofs.open.Laws.{EitherWay, truth}
+use Rattle.recording.proofs.Tests.{undone-idle}
 use Rattle.recording.proofs.Entering.{Enters, SameAt, Sound, Ending, unnamed, turned-away, enters, ending, enters-ends, after-sound, after-unmade, after-earlier, after-used}
 use Rattle.recording.proofs.UndoCommit.{undo-commit, last-count, last-mark, last-begin}
 
@@ -132,6 +133,23 @@ reached-unmade i (more before p e) h =
     let earlier = reached-unmade i before (rw (step .1) at h) in
     (step .0 ∙ earlier .0, step .1 ∙ earlier .1)
 
+-- the survivors are accepted again, and each names a sample; one more may follow
+all-name-last : (rs : List Repair) (r : Repair) (s : State) → AllName rs s
+    → (m : ℕ) × (did (repair r) (replay rs s) .answer ≡ Done (suc m)) → AllName (rs ++ (r ∷ [])) s
+unfolding replay run
+all-name-last [] r s all last = (last, tt)
+all-name-last (q ∷ rs) r s all last = (all .0, all-name-last rs r (did (repair q) s .after) (all .1) last)
+
+reached-names : {raw : State} {kept : List Repair} {s : State} → Reached raw kept s → AllName (reverse kept) raw
+reached-names (none sound empty) = tt
+reached-names {raw} (more {r} {kept} {s} {mark} {cs} before p e) =
+    rw reverse-cons (all-name-last (reverse kept) r raw (reached-names before) (rw (reached-replay before) (named cs p e)))
+  where
+    named : (cs : List Placed) → r (s .samples) ≡ change mark cs → Enters s mark cs
+        → (m : ℕ) × (did (repair r) s .answer ≡ Done (suc m))
+    named [] p e = absurd (omega (arith, e .some))
+    named (c ∷ cs) p e = (length cs, ap (λ (end : Ended). end .answer) (did-enter r p e))
+
 -- what one repair returns and sets, and what one repair more does
 abbrev closing : Repair → State → Closing
 closing r s = record { count = value (did (repair r) s .answer); mark = markOf (r (s .samples)) }
@@ -171,8 +189,7 @@ reached-closings j (more {r} {kept} {s} {mark} {cs} before p e) agree =
 -- ---- A freshly opened recording
 
 -- an accepted opening makes one
-pub opening-is-fresh : (s : State) → opened s .answer ≡ Done 0
-    → opened s .after ≡ fresh (s .samples) (replicate (length (s .marks)) 0) (length (s .journal))
+pub opening-is-fresh : OpeningIsFresh
 unfolding opened
 opening-is-fresh s h = go (truth (differ s)) (truth (tooMany s))
   where
@@ -198,6 +215,10 @@ unfolding survivors
 demand-3 words marks room cs bytes l = sym (reached-replay (reached words marks room cs bytes l))
 
 -- ---- What follows
+
+pub survivors-stand : SurvivorsStand
+unfolding survivors
+survivors-stand words marks room cs bytes l = reached-names (reached words marks room cs bytes l)
 
 pub undoing-all : UndoingAll
 unfolding survivors

@@ -1,5 +1,4 @@
--- The tests of a call, as facts: whether one of the refusals 1 to 3 applies, and how undo ends where the last entry
--- passes every test, and where there is none. Assumes nothing.
+-- How undo ends where the last entry passes every test, and where there is none. Assumes nothing.
 use mathlib.Core.Path.{_≡_, refl, _∙_}
 use mathlib.Core.Bool.{Bool, true, false}
 use mathlib.Core.List.{List}
@@ -14,33 +13,8 @@ use Rattle.recording.specs.Recording.{State, ended, Saved, differ, tooMa
 use Rattle.recording.specs.Inner.{Fits}
 use Rattle.recording.specs.declared.Reason.{Reason}
 use Rattle.recording.specs.declared.Reason.the-variants.{Counts, TooMany, Used}
-use Rattle.recording.specs.declared.Answer.the-variants.{Done, Refused}
-
--- a test holds, or it does not
-abbrev pub EitherWay : Bool → Type 0
-EitherWay b = (b ≡ true) ⊎ (b ≡ false)
-
-pub truth : (b : Bool) → EitherWay b
-truth true = inl refl
-truth false = inr refl
-
--- none of the refusals 1 to 3 applies
-pub fits-done : {s : State} → Fits s → fitting s ≡ Done 0
-unfolding fitting
-fits-done f = rw (eq-eqb _ _ (f .counts), le-ltb _ _ (f .few), le-ltb _ _ (f .within))
-
--- or one does
-pub fits-or-not : (s : State) → Fits s ⊎ ((why : Reason) × (fitting s ≡ Refused why))
-unfolding fitting
-fits-or-not s = one (truth (differ s)) (truth (tooMany s)) (truth (overUsed s))
-  where
-    one : EitherWay (differ s) → EitherWay (tooMany s) → EitherWay (overUsed s)
-        → Fits s ⊎ ((why : Reason) × (fitting s ≡ Refused why))
-    one (inl a) b c = inr (Counts, rw a)
-    one (inr a) (inl b) c = inr (TooMany, rw (a, b))
-    one (inr a) (inr b) (inl c) = inr (Used, rw (a, b, c))
-    one (inr a) (inr b) (inr c) =
-        inl (record { counts = eqb-true _ _ (not-false _ a); few = ltb-false _ _ b; within = ltb-false _ _ c })
+use Rattle.recording.specs.declared.Answer.the-variants.{Done}
+use Rattle.recording.proofs.open.Laws.{fits-done, fits-or-not}
 
 -- a last entry that passes every test of undo: its count, the mark that was set, and what was saved
 pub record Sealed (s : State) (m mark : ℕ) (olds : List Saved) : Type 0 where

@@ -8,7 +8,7 @@ use mathlib.Core.Bool.{true, false}
 use mathlib.Core.List.{List, [], _∷_, map, reverse}
 use lib.ListN.{length, getD, replicate}
 use Rattle.recording.specs.Answers.{value}
-use Rattle.recording.specs.Recording.{State, state, Ended, Placed, Plan, refuse, change, measured, made, entrySize, performed, undone}
+use Rattle.recording.specs.Recording.{State, state, Ended, Placed, Plan, refuse, change, measured, made, entrySize, performed, undone, opened}
 use Rattle.recording.specs.declared.Answer.{Answer}
 use Rattle.recording.specs.declared.Answer.the-variants.{Done, Refused}
 
@@ -68,6 +68,11 @@ replay rs s = run (map repair rs) s
 abbrev pub fresh : List ℕ → List ℕ → ℕ → State
 fresh words marks room = state words marks (replicate room 0) 0
 
+-- an accepted opening gives such a recording, with every sample marked measured
+abbrev pub OpeningIsFresh : Type 0
+OpeningIsFresh =
+    (s : State) → opened s .answer ≡ Done 0 → opened s .after ≡ fresh (s .samples) (replicate (length (s .marks)) measured) (length (s .journal))
+
 -- a mark is a byte
 abbrev pub Bytes : List ℕ → Type 0
 Bytes marks = (i : ℕ) → getD marks i 0 < 256
@@ -100,6 +105,14 @@ abbrev pub Demand3 : Type 0
 Demand3 = AfterAny (λ raw cs. run cs raw ≡ replay (survivors cs raw) raw)
 
 -- ---- What follows
+
+-- every repair of a replay is accepted, as it was, and names a sample
+abbrev pub AllName : List Repair → State → Type 0
+AllName [] s = Unit {0}
+AllName (r ∷ rs) s = ((m : ℕ) × (did (repair r) s .answer ≡ Done (suc m))) × AllName rs (did (repair r) s .after)
+
+abbrev pub SurvivorsStand : Type 0
+SurvivorsStand = AfterAny (λ raw cs. AllName (survivors cs raw) raw)
 
 -- undoing everything, and also going on to undo after that, returns every raw word and mark, and an empty journal
 abbrev pub UndoingAll : Type 0

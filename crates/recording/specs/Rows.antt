@@ -4,57 +4,47 @@
 use Prim.Native.Nat.{ℕ}
 use mathlib.Core.Path.{_≡_, refl}
 use mathlib.Core.List.{List, [], _∷_}
+use lib.ListN.{replicate}
 use Rattle.recording.specs.Answers.{number, value}
-use Rattle.recording.specs.Recording.{State, Ended, Plan, change, span, performed, undone, gapByModel}
+use Rattle.recording.specs.Recording.{State, Ended, Plan, change, span, performed, undone, measured, gapByModel}
 use Rattle.recording.specs.History.{fresh}
 
 -- 2^-30 is the word 30800000
+unfoldable pub rawWords : List ℕ
+rawWords = 0x30800000 ∷ 0x30800000 ∷ 0 ∷ 0 ∷ 0x30800000 ∷ 0x30800000 ∷ []
+
 unfoldable pub quiet : ℕ → State
-quiet room = fresh (0x30800000 ∷ 0x30800000 ∷ 0 ∷ 0 ∷ 0x30800000 ∷ 0x30800000 ∷ []) (0 ∷ 0 ∷ 0 ∷ 0 ∷ 0 ∷ 0 ∷ []) room
+unfolding rawWords
+quiet room = fresh rawWords (replicate 6 measured) room
 
 unfoldable pub quietPlan : Plan
 unfolding span
 quietPlan = change gapByModel (span 2 (0x80000000 ∷ 0 ∷ []))
 
--- number, value, samples, marks, journal and used
-unfoldable pub shown : Ended → List (List ℕ)
-shown e =
-    (number (e .answer) ∷ value (e .answer) ∷ []) ∷ e .after .samples ∷ e .after .marks ∷ e .after .journal ∷ (e .after .used ∷ []) ∷ []
+-- number, value and used; samples; marks; journal
+unfoldable pub row : ℕ → ℕ → ℕ → List ℕ → List ℕ → List ℕ → List (List ℕ)
+row number value used samples marks journal = (number ∷ value ∷ used ∷ []) ∷ samples ∷ marks ∷ journal ∷ []
 
+unfoldable pub shown : Ended → List (List ℕ)
+unfolding row
+shown e = let s = e .after in row (number (e .answer)) (value (e .answer)) (s .used) (s .samples) (s .marks) (s .journal)
+
+-- *quiet*; then undo; a further undo; *quiet* with a journal of 7 words
 unfoldable pub recordingRows : List (List (List ℕ))
 unfolding quiet quietPlan shown performed undone
 recordingRows =
     let repaired = performed (quiet 8) quietPlan in
     let back = undone (repaired .after) in
-    -- *quiet*; then undo; a further undo; *quiet* with a journal of 7 words
     shown repaired ∷ shown back ∷ shown (undone (back .after)) ∷ shown (performed (quiet 7) quietPlan) ∷ []
 
 unfoldable pub recordingShould : List (List (List ℕ))
+unfolding row rawWords
 recordingShould =
-    ((0 ∷ 2 ∷ [])
-    ∷ (0x30800000 ∷ 0x30800000 ∷ 0x80000000 ∷ 0 ∷ 0x30800000 ∷ 0x30800000 ∷ [])
-    ∷ (0 ∷ 0 ∷ 1 ∷ 1 ∷ 0 ∷ 0 ∷ [])
-    ∷ (2 ∷ 0 ∷ 0 ∷ 3 ∷ 0 ∷ 0 ∷ 2 ∷ 1 ∷ [])
-    ∷ (8 ∷ [])
-    ∷ [])
-    ∷ ((0 ∷ 2 ∷ [])
-    ∷ (0x30800000 ∷ 0x30800000 ∷ 0 ∷ 0 ∷ 0x30800000 ∷ 0x30800000 ∷ [])
-    ∷ (0 ∷ 0 ∷ 0 ∷ 0 ∷ 0 ∷ 0 ∷ [])
-    ∷ (0 ∷ 0 ∷ 0 ∷ 0 ∷ 0 ∷ 0 ∷ 0 ∷ 0 ∷ [])
-    ∷ (0 ∷ [])
-    ∷ [])
-    ∷ ((10 ∷ 0 ∷ [])
-    ∷ (0x30800000 ∷ 0x30800000 ∷ 0 ∷ 0 ∷ 0x30800000 ∷ 0x30800000 ∷ [])
-    ∷ (0 ∷ 0 ∷ 0 ∷ 0 ∷ 0 ∷ 0 ∷ [])
-    ∷ (0 ∷ 0 ∷ 0 ∷ 0 ∷ 0 ∷ 0 ∷ 0 ∷ 0 ∷ [])
-    ∷ (0 ∷ [])
-    ∷ [])
-    ∷ ((9 ∷ 0 ∷ [])
-    ∷ (0x30800000 ∷ 0x30800000 ∷ 0 ∷ 0 ∷ 0x30800000 ∷ 0x30800000 ∷ [])
-    ∷ (0 ∷ 0 ∷ 0 ∷ 0 ∷ 0 ∷ 0 ∷ [])
-    ∷ (0 ∷ 0 ∷ 0 ∷ 0 ∷ 0 ∷ 0 ∷ 0 ∷ [])
-    ∷ (0 ∷ [])
-    ∷ [])
+    let made : List ℕ = 0x30800000 ∷ 0x30800000 ∷ 0x80000000 ∷ 0 ∷ 0x30800000 ∷ 0x30800000 ∷ [] in
+    row 0 2 8 made (0 ∷ 0 ∷ 1 ∷ 1 ∷ 0 ∷ 0 ∷ []) (2 ∷ 0 ∷ 0 ∷ 3 ∷ 0 ∷ 0 ∷ 2 ∷ 1 ∷ [])
+    ∷ row 0 2 0 rawWords (replicate 6 0) (replicate 8 0)
+    ∷ row 10 0 0 rawWords (replicate 6 0) (replicate 8 0)
+    ∷ row 9 0 0 rawWords (replicate 6 0) (replicate 7 0)
     ∷ []
 
 pub recording-table : recordingRows ≡ recordingShould

@@ -14,6 +14,8 @@ use lib.Seq.{sets, drop-cons}
 use Rattle.leaves.specs.Floats.{inRange}
 use Rattle.recording.specs.Recording.{State, state, ended, refused, Placed, places, put, each, saved, threeWords, entrySize, entry, committed, entered, ranged, change, span, picked, carried}
 use Rattle.recording.specs.Inner.{consecutive, flags, pickedBy, pickedFrom, filled}
+use Rattle.recording.proofs.Put.{length-places}
+use Rattle.recording.proofs.Journal.{length-saved, length-threeWords}
 use Rattle.recording.specs.declared.Reason.{Reason}
 use Rattle.recording.specs.declared.Reason.the-variants.{Result, Room}
 use Rattle.recording.specs.declared.Answer.{Answer}
@@ -44,15 +46,6 @@ unfolding saved
 save-more j next-j whole samples marks at next i is e ej rest =
     let there : next ≡ suc (suc (suc at)) = omega arith in
     rw (there, ej) rest
-
-length-saved : (samples marks is : List ℕ) → length (threeWords (saved samples marks is)) ≡ 3 * length is
-unfolding saved
-length-saved samples marks [] = refl
-length-saved samples marks (i ∷ is) = let more = length-saved samples marks is in omega arith
-
-length-places : (cs : List Placed) → length (places cs) ≡ length cs
-length-places [] = refl
-length-places (c ∷ cs) = ap suc (length-places cs)
 
 -- stores that go on where others ended
 sets-append : {A : Type 0} (l : List A) (i : ℕ) (xs ys : List A) → sets (sets l i xs) (i + length xs) ys ≡ sets l i (xs ++ ys)
@@ -234,7 +227,7 @@ unfolding entry
 entry-words s mark cs =
     let three = threeWords (saved (s .samples) (s .marks) (places cs)) in
     let count : 3 * length cs ≡ length three =
-    sym (length-saved (s .samples) (s .marks) (places cs) ∙ ap (λ (k : ℕ). 3 * k) (length-places cs)) in
+    sym (simp (length-threeWords, length-saved, length-places)) in
     ap (λ (k : ℕ). sets (sets (s .journal) (s .used) three) (s .used + k) (length cs ∷ mark ∷ [])) count
     ∙ sets-append (s .journal) (s .used) three (length cs ∷ mark ∷ [])
     ∙ ap (λ (k : ℕ). sets (s .journal) (s .used) (three ++ (k ∷ mark ∷ []))) (sym (length-places cs))

@@ -1,15 +1,19 @@
 -- Refusals 1 to 3 and opening, line by line: the tests that failed before, the test that holds, and how the call ends.
 -- Assumes nothing.
 use mathlib.Core.Path.{_≡_, refl, sym, ap, _∙_}
-use mathlib.Core.List.{List, [], _∷_}
-use Prim.Native.Nat.{ℕ, zero, suc, _≤_, _<_}
+use mathlib.Core.Bool.{Bool, true, false}
+use mathlib.Core.List.{List}
+use mathlib.Core.Logic.{_⊎_, inl, inr}
+use Prim.Native.Nat.{ℕ, _≤_, _<_}
 use native.Mathlib.Omega.{arith}
 use native.Mathlib.Nat.{zero-add}
-use borrow.Author.Tests.{lt-ltb, le-ltb, eq-eqb, ne-eqb}
+use borrow.Author.Tests.{lt-ltb, le-ltb, eq-eqb, ne-eqb, eqb-true, ltb-false, not-false}
 use lib.ListN.{length, replicate, length-replicate}
 use lib.Seq.{sets, sets-eq, drop-length}
 use mathlib.Core.List.{append-nil}
-use Rattle.recording.specs.Recording.{State, state, ended, refused, mostSamples, fitting, opened}
+use Rattle.recording.specs.Recording.{State, state, ended, refused, mostSamples, differ, tooMany, overUsed, fitting, opened}
+use Rattle.recording.specs.Inner.{Fits}
+use Rattle.recording.specs.declared.Reason.{Reason}
 use Rattle.recording.specs.declared.Reason.the-variants.{Counts, TooMany, Used}
 use Rattle.recording.specs.declared.Answer.the-variants.{Done, Refused}
 
@@ -53,3 +57,40 @@ module _ (s : State) where
       unfolding opened
       opened-done marks journal em ej =
           rw (eq-eqb _ _ one, le-ltb _ _ two, em, ej, all-over (s .marks) 0, all-over (s .journal) 0) refl
+
+-- a test holds, or it does not
+abbrev pub EitherWay : Bool → Type 0
+EitherWay b = (b ≡ true) ⊎ (b ≡ false)
+
+pub truth : (b : Bool) → EitherWay b
+truth true = inl refl
+truth false = inr refl
+
+-- ---- Refusals 1 to 3 as facts
+
+-- none of them applies
+pub fits-done : {s : State} → Fits s → fitting s ≡ Done 0
+fits-done {s} f = sym (fitting-all s (f .counts) (f .few) (f .within))
+
+-- or one does
+pub fits-or-not : (s : State) → Fits s ⊎ ((why : Reason) × (fitting s ≡ Refused why))
+unfolding fitting
+fits-or-not s = one (truth (differ s)) (truth (tooMany s)) (truth (overUsed s))
+  where
+    one : EitherWay (differ s) → EitherWay (tooMany s) → EitherWay (overUsed s)
+        → Fits s ⊎ ((why : Reason) × (fitting s ≡ Refused why))
+    one (inl a) b c = inr (Counts, rw a)
+    one (inr a) (inl b) c = inr (TooMany, rw (a, b))
+    one (inr a) (inr b) (inl c) = inr (Used, rw (a, b, c))
+    one (inr a) (inr b) (inr c) =
+        inl (record { counts = eqb-true _ _ (not-false _ a); few = ltb-false _ _ b; within = ltb-false _ _ c })
+
+-- where the sizes are accepted, none applies
+pub accepted-fits : (s : State) (m : ℕ) → fitting s ≡ Done m → Fits s
+accepted-fits s m h = elim (fits-or-not s) [ inl f ↦ f | inr n ↦ never (n .0) (n .1) ]
+  where
+    never : (why : Reason) → fitting s ≡ Refused why → Fits s
+    never why e =
+        let both : Done m ≡ Refused why = sym h ∙ e in
+        let none : _≡_ {A = ℕ} 0 1 = cc in
+        absurd (omega arith)

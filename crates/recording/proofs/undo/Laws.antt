@@ -302,26 +302,6 @@ sound s m read h =
       bytes = tests .1;
     }
 
--- Accepted, so none of the three tests of the sizes found anything.
-none-found : (a b c : Bool) (m : ℕ)
-    → (if a then Refused Counts else if b then Refused TooMany else if c then Refused Used else Done 0) ≡ Done m
-    → (a ≡ false) × (b ≡ false) × (c ≡ false)
-none-found true b c m h = (cc, cc, cc)
-none-found false true c m h = (refl, cc, cc)
-none-found false false true m h = (refl, refl, cc)
-none-found false false false m h = (refl, refl, refl)
-
--- Where the tests of the sizes accept, none of refusals 1 to 3 applies.
-pub accepted-fits : (s : State) (m : ℕ) → fitting s ≡ Done m → Fits s
-unfolding fitting
-accepted-fits s m h =
-    let none = none-found (differ s) (tooMany s) (overUsed s) m h in
-    record {
-      counts = eqb-true _ _ (not-false _ (none .0));
-      few = ltb-false _ _ (none .1);
-      within = ltb-false _ _ (none .2);
-    }
-
 -- A sound entry can be given back to a recording whose sizes fit.
 pub restorable : (s : State) (m : ℕ) → Fits s → Sound s m
     → Restorable (s .samples) (s .marks) (s .journal) (s .used - entrySize m) m

@@ -6,7 +6,8 @@ use native.Mathlib.Omega.{arith}
 use borrow.Author.Needs.{needs}
 use Rattle.recording.specs.Recording.{State, state, lastCount}
 use Rattle.recording.specs.Inner.{Fits}
-use Rattle.recording.proofs.undo.Laws.{accepted-fits, Sound, sound, restorable}
+use Rattle.recording.proofs.open.Laws.{accepted-fits}
+use Rattle.recording.proofs.undo.Laws.{Sound, sound, restorable}
 use Rattle.recording.proofs.undo.Laws.{undone-unfit, undone-nothing, undone-malformed, undone-done}
 use Rattle.recording.proofs.undo.undo.Statement.{statement}
 use Rattle.recording.proofs.undo.undo.Tie as tie
