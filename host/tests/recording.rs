@@ -22,9 +22,9 @@ use recording::{limits, random, short};
 
 /// How many well-formed journals are undone to the raw words, how many are damaged in each way, and how many
 /// are made of any words.
-const BUILT: u64 = 20_000;
+const BUILT: u64 = 30_000;
 const DAMAGED: u64 = 10_000;
-const RANDOM: u64 = 400_000;
+const RANDOM: u64 = 300_000;
 /// How many undos there are at least.
 const UNDOS: u64 = 1_000_000;
 

@@ -20,11 +20,14 @@ impl Built {
 /// The mark of a repair, and the samples that it names with their new words.
 type Repair = (u8, Vec<(usize, u32)>);
 
-/// A number of samples: often 0, 1 or 2, at times some thousands.
+/// A number of samples: mostly a few, at times hundreds or thousands.
 pub fn size(draw: &mut Draw) -> usize {
-    let sizes = [1, 2, 3, 3, 8, 8, 60, 5000];
-    let size = sizes[draw.below(8) as usize];
-    draw.below(size) as usize
+    let sizes = match draw.below(64) {
+        0 => 5000,
+        1..=4 => 300,
+        _ => 12,
+    };
+    draw.below(sizes) as usize
 }
 
 /// Any words.
