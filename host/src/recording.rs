@@ -79,7 +79,7 @@ impl Clause {
         let samples = to.samples.len();
         match self {
             Clause::UsedIsOne => to.used == 1,
-            Clause::NothingNamed => to.last_m().map_or(false, |m| m == 0),
+            Clause::NothingNamed => to.last_m() == Some(0),
             Clause::MoreThanSamples => to.last_m().map_or(false, |m| m > samples),
             Clause::LongerThanUsed => to.last_m().map_or(false, |m| entry_words(m) > to.used),
             Clause::PlacePastEnd => to.last_named().iter().any(|named| named.place as usize >= samples),
@@ -120,10 +120,15 @@ pub fn in_range(word: u32) -> bool {
     x.is_finite() && x.abs() <= 65536.0
 }
 
+/// "The lowest number that applies is the answer." The numbers come in their order.
+fn first_of<const N: usize>(refusals: [(u32, bool); N]) -> Option<u32> {
+    refusals.into_iter().find(|(_, applies)| *applies).map(|(number, _)| number)
+}
+
 impl Recording {
     /// "Opening sets all marks and all journal words to 0 and used to 0. It gives refusals 1 and 2 only."
     pub fn open(&mut self) -> Answer {
-        if let Some(number) = self.first_of([(1, self.marks_differ()), (2, self.too_many_samples())]) {
+        if let Some(number) = first_of([(1, self.marks_differ()), (2, self.too_many_samples())]) {
             return Answer::Refused(number);
         }
         self.marks.fill(0);
@@ -190,12 +195,7 @@ impl Recording {
 
     /// Refusals 1 to 3, which every repair gives, and undo.
     fn refused_by_any_call(&self) -> Option<u32> {
-        self.first_of([(1, self.marks_differ()), (2, self.too_many_samples()), (3, self.used_exceeds_journal())])
-    }
-
-    /// "The lowest number that applies is the answer": the numbers come in their order.
-    fn first_of<const N: usize>(&self, refusals: [(u32, bool); N]) -> Option<u32> {
-        refusals.into_iter().find(|(_, applies)| *applies).map(|(number, _)| number)
+        first_of([(1, self.marks_differ()), (2, self.too_many_samples()), (3, self.used_exceeds_journal())])
     }
 
     /// Refusal 1: "marks and samples differ in number".

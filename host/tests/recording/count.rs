@@ -144,10 +144,6 @@ impl Count {
 
 fn described(model: &Recording, answer: Answer, number: u32, wrong: &[&str]) -> String {
     let Recording { samples, marks, journal, used } = model;
-    format!(
-        "model {answer:?}, library {number}, differing {wrong:?}; after it by the model: {} samples, {} marks, {} journal words, used {used}",
-        samples.len(),
-        marks.len(),
-        journal.len(),
-    )
+    let counts = format!("{} samples, {} marks, {} journal words", samples.len(), marks.len(), journal.len());
+    format!("of {counts}, used {used} after it: library {number}, model {answer:?}, differing {wrong:?}")
 }
