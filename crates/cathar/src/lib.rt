@@ -5,7 +5,7 @@ ghost use mathlib.Core.Path.{_≡_};
 ghost use Rattle.leaves.specs.Floats.{narrowed, rounded};
 ghost use Rattle.leaves.specs.Root.{Rooted};
 ghost use Rattle.recording.specs.Recording.{state, opened, undone};
-ghost use Rattle.cathar.specs.Exports.{Opens, Tells};
+ghost use Rattle.cathar.specs.Exports.{Tells, Gives};
 use recording::numbers::number_of;
 use recording::numbers::value_of;
 
@@ -18,7 +18,7 @@ pub extern "C" fn cathar_open(
     journal: &mut [u32],
     used: &mut usize,
 ) -> u32
-    ensures { λ r. ⌜ Opens (opened (state (now (samples .entry)) (now (marks .entry)) (now (journal .entry)) (now (used .entry)))) r
+    ensures { λ r. ⌜ Tells (opened (state (now (samples .entry)) (now (marks .entry)) (now (journal .entry)) (now (used .entry)))) r
         (state (now (samples .entry)) (now (marks .exit)) (now (journal .exit)) (now (used .exit))) ⌝ }
 {
     let answer = recording::open::open(samples, marks, journal, used);
@@ -35,7 +35,7 @@ pub extern "C" fn cathar_undo(
     used: &mut usize,
     value: &mut usize,
 ) -> u32
-    ensures { λ r. ⌜ Tells (undone (state (now (samples .entry)) (now (marks .entry)) (now (journal .entry)) (now (used .entry)))) r
+    ensures { λ r. ⌜ Gives (undone (state (now (samples .entry)) (now (marks .entry)) (now (journal .entry)) (now (used .entry)))) r
         (now (value .exit)) (state (now (samples .exit)) (now (marks .exit)) (now (journal .exit)) (now (used .exit))) ⌝ }
 {
     let answer = recording::undo::undo(samples, marks, journal, used);

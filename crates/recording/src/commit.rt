@@ -148,12 +148,13 @@ fn check_picked(work: &[u32], n: usize) -> Answer
 {
     let mut i: usize = 0;
     while i < n {
-        if work[n + i] != 0 {
-            if !in_range(work[i]) {
-                return Answer::Refused(Reason::Result(i));
+        let place = i;
+        i += 1;
+        if work[n + place] != 0 {
+            if !in_range(work[place]) {
+                return Answer::Refused(Reason::Result(place));
             }
         }
-        i += 1;
     }
     Answer::Done(0)
 }
@@ -166,10 +167,11 @@ fn count_picked(work: &[u32], n: usize) -> usize
     let mut m: usize = 0;
     let mut i: usize = 0;
     while i < n {
-        if work[n + i] != 0 {
+        let place = i;
+        i += 1;
+        if work[n + place] != 0 {
             m += 1;
         }
-        i += 1;
     }
     m
 }
@@ -187,11 +189,12 @@ fn save_picked(samples: &[u32], marks: &[u8], journal: &mut [u32], at: usize, wo
     let mut next = at;
     let mut i: usize = 0;
     while i < n {
-        if work[n + i] != 0 {
-            save(samples, marks, journal, next, i);
+        let place = i;
+        i += 1;
+        if work[n + place] != 0 {
+            save(samples, marks, journal, next, place);
             next += 3;
         }
-        i += 1;
     }
 }
 
@@ -204,11 +207,12 @@ fn write_picked(samples: &mut [u32], marks: &mut [u8], work: &[u32], mark: u8)
     let n = samples.len();
     let mut i: usize = 0;
     while i < n {
-        if work[n + i] != 0 {
-            samples[i] = work[i];
-            marks[i] = mark;
-        }
+        let place = i;
         i += 1;
+        if work[n + place] != 0 {
+            samples[place] = work[place];
+            marks[place] = mark;
+        }
     }
 }
 

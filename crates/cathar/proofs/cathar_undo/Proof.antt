@@ -1,0 +1,37 @@
+use Rattle.cathar.proofs.Exports.{gives}
+use borrow.Author.Needs.{needs}
+use Rattle.cathar.proofs.cathar_undo.Statement.{statement}
+use Rattle.cathar.proofs.cathar_undo.Tie as tie
+
+undo-requires : tie.Need-undo-requires
+undo-requires c κs = search needs
+
+value-of-requires : tie.Need-value-of-requires
+value-of-requires c κs = search needs
+
+number-of-requires : tie.Need-number-of-requires
+number-of-requires c κs = search needs
+
+same-length : tie.Need-same-length
+same-length c = search needs
+
+same-length-2 : tie.Need-same-length-2
+same-length-2 c = search needs
+
+same-length-3 : tie.Need-same-length-3
+same-length-3 c = search needs
+
+returns : tie.Need-returns
+returns c = gives _ _ _ _ _ (c .before .before .before .before .before .before .before .before .undo .ensures) (c .number-of .ensures) (c .before .value-of .ensures)
+
+pub cathar-undo-spec : {M : Type 1} → statement M
+cathar-undo-spec =
+    tie.close
+    (tie.spec
+    undo-requires
+    value-of-requires
+    number-of-requires
+    same-length
+    same-length-2
+    same-length-3
+    returns)

@@ -1,0 +1,58 @@
+use Prim.Native.Nat.{ℕ, _+_, _-_, _≤_}
+use native.Mathlib.Omega.{arith}
+use native.Mathlib.Nat.{add-zero, sub-zero}
+use mathlib.Core.Path.{_≡_, refl}
+use lib.ListN.{length, length-set, replicate}
+use lib.Seq.{sets}
+use Rattle.recording.proofs.clear.Laws.{run-more, all-stored}
+use Rattle.recording.proofs.clear.clear_words.Statement.{statement}
+use Rattle.recording.proofs.clear.clear_words.Tie as tie
+
+abbrev Inv-loop : tie.InvT-loop
+Inv-loop words₀ start count i₀ words i = (i ≤ count) × (length words ≡ length words₀) × (sets words (start + i) (replicate (count - i) 0) ≡ sets words₀ start (replicate count 0))
+
+abbrev μ-loop : tie.MeasureT-loop
+μ-loop words₀ start count i₀ words i = count - i
+
+loop-holds : tie.Need-loop-holds Inv-loop μ-loop
+loop-holds c = (omega arith, refl, simp (add-zero, sub-zero))
+
+add-words : tie.Need-add-words Inv-loop μ-loop
+add-words c = omega arith
+
+mul-words : tie.Need-mul-words Inv-loop μ-loop
+mul-words c = omega arith
+
+slice-write-words : tie.Need-slice-write-words Inv-loop μ-loop
+slice-write-words c = omega arith
+
+add-i : tie.Need-add-i Inv-loop μ-loop
+add-i c = omega arith
+
+loop-less : tie.Need-loop-less Inv-loop μ-loop
+loop-less c = omega arith
+
+loop-again : tie.Need-loop-again Inv-loop μ-loop
+loop-again c = (omega arith, simp length-set (c .before .loop .inv .1), run-more _ _ _ _ _ _ _ (c .loop-test .taken) (omega arith) (c .before .loop .inv .2))
+
+same-length : tie.Need-same-length Inv-loop μ-loop
+same-length c = c .before .loop .inv .1
+
+returns : tie.Need-returns Inv-loop μ-loop
+returns c = all-stored _ _ _ _ _ _ (c .loop-test .left) (c .before .loop .inv .2)
+
+pub clear-words-spec : {M : Type 1} → statement M
+clear-words-spec =
+    tie.close
+    (tie.spec
+    Inv-loop
+    μ-loop
+    loop-holds
+    add-words
+    mul-words
+    slice-write-words
+    add-i
+    loop-less
+    loop-again
+    same-length
+    returns)

@@ -1,0 +1,64 @@
+use Prim.Native.Nat.{ℕ, _+_, _-_, _*_, _≤_}
+use native.Mathlib.Omega.{arith}
+use borrow.Author.Needs.{needs}
+use mathlib.Core.Path.{_≡_, refl, sym, ap, _∙_}
+use native.Mathlib.Nat.{add-zero}
+use borrow.Author.Tests.{not-true, not-false}
+use lib.ListN.{length, drop}
+use Rattle.recording.specs.Recording.{ranged, span}
+use Rattle.recording.proofs.commit.Laws.{span-more, span-out, span-done}
+use Rattle.recording.proofs.commit.check_span.Statement.{statement}
+use Rattle.recording.proofs.commit.check_span.Tie as tie
+
+abbrev Inv-loop : tie.InvT-loop
+Inv-loop words start i₀ i = (i ≤ length words) × (ranged (span (start + i) (drop i words)) ≡ ranged (span start words))
+
+abbrev μ-loop : tie.MeasureT-loop
+μ-loop words start i₀ i = length words - i
+
+loop-holds : tie.Need-loop-holds Inv-loop μ-loop
+loop-holds c = (omega arith, simp add-zero)
+
+mul-in-range : tie.Need-mul-in-range Inv-loop μ-loop
+mul-in-range c = omega arith
+
+shared-slice-read-in-range : tie.Need-shared-slice-read-in-range Inv-loop μ-loop
+shared-slice-read-in-range c = omega arith
+
+in-range-requires : tie.Need-in-range-requires Inv-loop μ-loop
+in-range-requires c κs = search needs
+
+add-t9 : tie.Need-add-t9 Inv-loop μ-loop
+add-t9 c = omega arith
+
+returns : tie.Need-returns Inv-loop μ-loop
+returns c = sym (span-out _ _ _ (c .before .before .before .loop-test .taken) (sym (c .before .in-range .ensures) ∙ not-true _ (c .if1 .taken))) ∙ c .before .before .before .before .loop .inv .1
+
+add-i : tie.Need-add-i Inv-loop μ-loop
+add-i c = omega arith
+
+loop-less : tie.Need-loop-less Inv-loop μ-loop
+loop-less c = omega arith
+
+loop-again : tie.Need-loop-again Inv-loop μ-loop
+loop-again c = (omega arith, sym (span-more _ _ _ (c .before .before .before .loop-test .taken) (sym (c .before .in-range .ensures) ∙ not-false _ (c .if1 .left))) ∙ c .before .before .before .before .loop .inv .1)
+
+returns-2 : tie.Need-returns-2 Inv-loop μ-loop
+returns-2 c = sym (span-done _ _ _ (c .loop-test .left)) ∙ c .before .loop .inv .1
+
+pub check-span-spec : {M : Type 1} → statement M
+check-span-spec =
+    tie.close
+    (tie.spec
+    Inv-loop
+    μ-loop
+    loop-holds
+    mul-in-range
+    shared-slice-read-in-range
+    in-range-requires
+    add-t9
+    returns
+    add-i
+    loop-less
+    loop-again
+    returns-2)

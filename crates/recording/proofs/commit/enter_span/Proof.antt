@@ -1,0 +1,56 @@
+use Rattle.recording.proofs.commit.Laws.{span-none, span-room, span-entered}
+use borrow.Author.Needs.{needs}
+use Rattle.recording.proofs.commit.enter_span.Statement.{statement}
+use Rattle.recording.proofs.commit.enter_span.Tie as tie
+
+returns : tie.Need-returns
+returns c = λ words count. span-none _ _ _ _ words count (c .if1 .taken)
+
+sub-if2 : tie.Need-sub-if2
+sub-if2 c = search needs
+
+mul-if2 : tie.Need-mul-if2
+mul-if2 c = search needs
+
+add-if2 : tie.Need-add-if2
+add-if2 c = search needs
+
+returns-2 : tie.Need-returns-2
+returns-2 c = λ words count. span-room _ _ _ _ words count (c .before .before .if1 .left) (c .if2 .taken)
+
+save-span-requires : tie.Need-save-span-requires
+save-span-requires c κs = search needs
+
+set-marks-requires : tie.Need-set-marks-requires
+set-marks-requires c κs = search needs
+
+seal-requires : tie.Need-seal-requires
+seal-requires c κs = search needs
+
+same-length : tie.Need-same-length
+same-length c = search needs
+
+same-length-2 : tie.Need-same-length-2
+same-length-2 c = search needs
+
+returns-3 : tie.Need-returns-3
+returns-3 c = let room = c .before .before .before .before .before .before .before .before .before .before .before .before .before .before in
+    let seal = c .before .before .seal .ensures in
+    λ words count.
+    span-entered _ _ _ _ words count (room .before .before .if1 .left) _ _ _ _ (room .if2 .left) (c .before .before .before .before .before .before .before .set-marks .ensures) (c .before .before .before .before .before .before .before .before .before .before .before .save-span .ensures) (seal .0) (seal .1)
+
+pub enter-span-spec : {M : Type 1} → statement M
+enter-span-spec =
+    tie.close
+    (tie.spec
+    returns
+    sub-if2
+    mul-if2
+    add-if2
+    returns-2
+    save-span-requires
+    set-marks-requires
+    seal-requires
+    same-length
+    same-length-2
+    returns-3)

@@ -1,0 +1,2 @@
+-- Undo: the laws that the proofs of its functions apply.
+pub mod Laws
