@@ -46,12 +46,13 @@ pub struct Lent {
 }
 
 impl Lent {
-    /// The same words as the recording has.
+    /// The same words as the recording has. Around the journal stands 1, which could be an entry's place, m
+    /// or mark, so that a call that takes it for the journal's is found out too.
     pub fn new(recording: &Recording) -> Lent {
         Lent {
             samples: Part::new(&recording.samples, 0x5a5a_5a5a),
             marks: Part::new(&recording.marks, 0x5a),
-            journal: Part::new(&recording.journal, 0xa5a5_a5a5),
+            journal: Part::new(&recording.journal, 1),
             used: Part::new(&[recording.used], 0x5a5a_5a5a_5a5a_5a5a),
             value: Part::new(&[VALUE_BEFORE], 0xa5a5_a5a5_a5a5_a5a5),
         }
