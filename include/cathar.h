@@ -1,8 +1,12 @@
 /* The functions of libcathar.a, for programs on x86-64. Each is total: it asks nothing of its
- * argument, always returns, and touches no memory but its own. What each gives is proved, for every
- * argument, of the function of the same name in crates/cathar. */
+ * arguments but what C asks of a pointer, always returns, and touches no memory but its own and what is
+ * lent to it. What each gives and leaves in that memory is proved, for every argument, of the function
+ * of the same name in crates/cathar. */
 #ifndef CATHAR_H
 #define CATHAR_H
+
+#include <stddef.h>
+#include <stdint.h>
 
 #ifdef __cplusplus
 extern "C" {
@@ -30,6 +34,49 @@ float cathar_narrow(double x);
  *   magnitude below 1/2               the zero of the same sign
  *   magnitude from 2^23 on            x itself, +infinity and -infinity among them */
 float cathar_round(float x);
+
+/* A recording is memory that the caller lends to each call:
+ *   samples   n words, each the pattern of a float
+ *   marks     marks_n bytes, one for each sample: 0 measured, 1 gap by model, 2 gap by straight line,
+ *             3 cubic declip, 4 decrackle, 5 dequantize
+ *   journal   journal_n words
+ *   used      one number: how many of the journal's words are taken, from its start on
+ * An area and its length follow each other. Each area has at least the length given for it, and no two
+ * areas overlap, used and value among them.
+ *
+ * The journal holds one entry for each accepted repair that named a sample, the oldest first. An entry
+ * that names m samples takes 3m+2 words:
+ *   for each named sample, ascending, its place, its old word and its old mark;
+ *   then m;
+ *   then the mark that the repair set.
+ *
+ * Each call on a recording answers 0 where it was accepted, and else the number of the refusal. Where
+ * several apply, it is the lowest. A refusal changes nothing in samples, marks, journal and used.
+ *    1   marks and samples differ in number
+ *    2   more than 1,048,576 samples
+ *    3   used exceeds the journal's length
+ *   10   undo: used is 0
+ *   11   undo: the last entry is malformed */
+
+/* Opens a recording: sets all marks, all journal words and used to 0. What they held has no say, and the
+ * samples are only lent to be read.
+ * Refusals: 1, 2. */
+uint32_t cathar_open(const uint32_t *samples, size_t n, uint8_t *marks, size_t marks_n,
+                     uint32_t *journal, size_t journal_n, size_t *used);
+
+/* Takes back the last entry: each sample that it names gets its old word and its old mark again, used
+ * falls by 3m+2, and the freed journal words become 0. All else stays, journal words past used too.
+ * value receives m where it was accepted, and 0 where it was refused; what it held has no say.
+ * Refusals: 1, 2, 3, 10, 11. Refusal 11 is given where
+ *   used is 1,
+ *   m is 0 or more than n,
+ *   3m+2 exceeds used,
+ *   a place is not below n,
+ *   places do not strictly rise,
+ *   an old mark exceeds 255, or
+ *   the set mark is not 1 to 5. */
+uint32_t cathar_undo(uint32_t *samples, size_t n, uint8_t *marks, size_t marks_n,
+                     uint32_t *journal, size_t journal_n, size_t *used, size_t *value);
 
 #ifdef __cplusplus
 }

@@ -103,6 +103,7 @@ impl Tally {
     }
 }
 
-fn line(text: &mut String, name: &str, count: u64) {
+/// Adds the line of one count.
+pub fn line(text: &mut String, name: &str, count: u64) {
     writeln!(text, "  {name:<48}{count:>12}").expect("a String takes all");
 }

@@ -1,0 +1,181 @@
+//! Opening and undo against the model of the recording: every answer and value, and every byte of the lent
+//! memory, with what stands around each part of it.
+//!
+//! `CATHAR_SEED` sets the seed.
+mod recording {
+    pub mod built;
+    pub mod count;
+    pub mod damage;
+    pub mod lent;
+    pub mod limits;
+    pub mod random;
+    pub mod short;
+}
+
+use cathar_host::draw::{self, Draw};
+use cathar_host::recording::{Answer, Recording, MOST_SAMPLES};
+use recording::built::{build, marks, words, Built};
+use recording::count::Count;
+use recording::damage::Damage;
+use recording::lent::Lent;
+use recording::{limits, random, short};
+
+/// How many well-formed journals are undone to the raw words, how many are damaged in each way, and how many
+/// are made of any words.
+const BUILT: u64 = 30_000;
+const DAMAGED: u64 = 10_000;
+const RANDOM: u64 = 300_000;
+/// How many undos there are at least.
+const UNDOS: u64 = 1_000_000;
+
+/// The document's *quiet*: its raw words, and its words after the repair.
+const QUIET: [u32; 6] = [0x3080_0000, 0x3080_0000, 0, 0, 0x3080_0000, 0x3080_0000];
+const QUIET_REPAIRED: [u32; 6] = [0x3080_0000, 0x3080_0000, 0x8000_0000, 0, 0x3080_0000, 0x3080_0000];
+
+/// Both sides undo until the model refuses. That answer is handed back.
+fn undo_all(count: &mut Count, mut model: Recording) -> Answer {
+    let mut lent = Lent::new(&model);
+    loop {
+        let answer = count.undo(&mut model, &mut lent);
+        if answer.number() != 0 {
+            return answer;
+        }
+    }
+}
+
+/// Both sides undo each entry, and the model is then as it was before it; and then once more.
+fn undo_built(count: &mut Count, built: Built) {
+    let mut model = built.recording;
+    let mut lent = Lent::new(&model);
+    for before in built.before.iter().rev() {
+        count.undo(&mut model, &mut lent);
+        assert!(model == *before, "the model's undo is not the way back from its commit");
+    }
+    assert_eq!(count.undo(&mut model, &mut lent), Answer::Refused(10));
+}
+
+fn undo_damaged(count: &mut Count, draw: &mut Draw, damage: Damage) {
+    let mut left = DAMAGED;
+    while left > 0 {
+        let built = build(draw);
+        if !built.before.is_empty() {
+            let last = undo_all(count, damage.done(draw, &built));
+            assert!(damage != Damage::OldWord || last == Answer::Refused(10), "any old word is allowed");
+            left -= 1;
+        }
+    }
+}
+
+#[test]
+fn undos() {
+    let seed = draw::seed();
+    let mut draw = Draw::new(seed);
+    let mut count = Count::new("cathar_undo against the model", &[0, 1, 2, 3, 10, 11]);
+    count.begin("well-formed, to the raw words and once more");
+    for _ in 0..BUILT {
+        undo_built(&mut count, build(&mut draw));
+    }
+    for damage in Damage::ALL {
+        count.begin(damage.words());
+        undo_damaged(&mut count, &mut draw, damage);
+    }
+    count.begin("any words");
+    for _ in 0..RANDOM {
+        undo_all(&mut count, random::recording(&mut draw));
+    }
+    count.begin("all short journals");
+    short::each(&mut |recording| {
+        undo_all(&mut count, recording);
+    });
+    count.begin("several refusals apply, few samples");
+    limits::small(&mut |recording| {
+        undo_all(&mut count, recording);
+    });
+    count.begin("beside the most samples");
+    limits::large(&mut |recording| {
+        undo_all(&mut count, recording);
+    });
+    assert_eq!(undo_all(&mut count, limits::longest()), Answer::Refused(10));
+    count.close(seed);
+    count.close_clauses();
+    assert!(count.calls() >= UNDOS, "fewer undos than {UNDOS}");
+}
+
+fn open(count: &mut Count, mut model: Recording) -> Answer {
+    let mut lent = Lent::new(&model);
+    count.open(&mut model, &mut lent)
+}
+
+/// Each number of samples, of marks beside it and of journal words, and used within the journal and past it.
+fn open_any(count: &mut Count, draw: &mut Draw) {
+    for n in [0, 1, 2, 3, 100, 4000usize] {
+        for marks_n in [n, n + 1, n.saturating_sub(1)] {
+            for length in [0, 1, 2, 500] {
+                for used in [0, 1, length, length + 1, draw.word() as usize, usize::MAX] {
+                    let (samples, marks) = (words(draw, n), marks(draw, marks_n));
+                    open(count, Recording { samples, marks, journal: words(draw, length), used });
+                }
+            }
+        }
+    }
+}
+
+#[test]
+fn opens() {
+    let seed = draw::seed();
+    let mut draw = Draw::new(seed);
+    let mut count = Count::new("cathar_open against the model", &[0, 1, 2]);
+    count.begin("any words");
+    for _ in 0..10 {
+        open_any(&mut count, &mut draw);
+    }
+    count.begin("well-formed journals");
+    for _ in 0..1000 {
+        open(&mut count, build(&mut draw).recording);
+    }
+    count.begin("beside the most samples");
+    for (n, marks, number) in [
+        (MOST_SAMPLES, MOST_SAMPLES, 0),
+        (MOST_SAMPLES, MOST_SAMPLES + 1, 1),
+        (MOST_SAMPLES + 1, MOST_SAMPLES + 1, 2),
+        (MOST_SAMPLES + 1, MOST_SAMPLES, 1),
+    ] {
+        let answer = open(&mut count, limits::recording(n, marks, &[5, 6, 7], usize::MAX));
+        assert_eq!(answer.number(), number, "the model opens {n} samples with {marks} marks");
+    }
+    count.close(seed);
+}
+
+/// *quiet* by the document's figures: the model's journal, and both sides' undo.
+#[test]
+fn quiet() {
+    let opened = Recording { samples: QUIET.to_vec(), marks: vec![0; 6], journal: vec![0; 8], used: 0 };
+    let mut model = opened.clone();
+    assert_eq!(model.commit(1, &[(2, 0x8000_0000), (3, 0)]), Answer::Accepted(2));
+    assert_eq!(model.samples, QUIET_REPAIRED);
+    assert_eq!(model.marks, [0, 0, 1, 1, 0, 0]);
+    assert_eq!(model.journal, [2, 0, 0, 3, 0, 0, 2, 1]);
+    assert_eq!(model.used, 8);
+    let mut lent = Lent::new(&model);
+    assert_eq!((lent.undo(), lent.wrong(&opened, 2)), (0, vec![]));
+    assert_eq!((lent.undo(), lent.wrong(&opened, 0)), (10, vec![]));
+    assert_eq!(model.undo(), Answer::Accepted(2));
+    assert_eq!(model, opened);
+    assert_eq!(model.undo(), Answer::Refused(10));
+}
+
+/// What the document says of a repair's end, by the model: no room, naming nothing, a word not in range.
+#[test]
+fn commits() {
+    let opened = Recording { samples: QUIET.to_vec(), marks: vec![0; 6], journal: vec![0; 7], used: 0 };
+    let mut model = opened.clone();
+    assert_eq!(model.commit(1, &[(2, 0x8000_0000), (3, 0)]), Answer::Refused(9));
+    assert_eq!(model.commit(4, &[]), Answer::Accepted(0));
+    // 65,536 is in range; one step above it, an infinity and a NaN are not, and that comes before 9.
+    assert_eq!(model.commit(5, &[(0, 0x4780_0000), (1, 0x4780_0001), (4, 0xff80_0000)]), Answer::RefusedAt(8, 1));
+    assert_eq!(model.commit(5, &[(0, 0xc780_0000), (5, 0x7fc0_0000)]), Answer::RefusedAt(8, 5));
+    assert_eq!(model, opened);
+    assert_eq!(model.commit(5, &[(5, 0xc780_0000)]), Answer::Accepted(1));
+    assert_eq!(model.journal, [5, 0x3080_0000, 0, 1, 5, 0, 0]);
+    assert_eq!(model.commit(2, &[(5, 0)]), Answer::Refused(9));
+}

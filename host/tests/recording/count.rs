@@ -1,0 +1,149 @@
+//! The count of a comparison over many calls on recordings: what they were made on, what was answered, and
+//! where library and model differed.
+use super::lent::{Lent, VALUE_BEFORE};
+use cathar_host::recording::{Answer, Clause, Recording};
+use cathar_host::tally::line;
+use std::fmt::Write;
+
+/// How many differences are written out.
+const SHOWN: usize = 8;
+
+/// The numbers of samples that every comparison meets, each group by its last.
+const SIZES: [(&str, usize); 5] = [
+    ("on 0 samples", 0),
+    ("on 1 sample", 1),
+    ("on 2 samples", 2),
+    ("on 3 to 999 samples", 999),
+    ("on 1,000 samples or more", usize::MAX),
+];
+
+pub struct Count {
+    title: &'static str,
+    sources: Vec<(&'static str, u64)>,
+    sizes: [u64; SIZES.len()],
+    answers: Vec<(u32, u64)>,
+    /// For each clause how often it applied, and how often it alone did.
+    clauses: [[u64; 2]; Clause::ALL.len()],
+    differences: u64,
+    shown: Vec<String>,
+}
+
+impl Count {
+    /// Nothing counted yet. The numbers are all that the call can answer.
+    pub fn new(title: &'static str, numbers: &[u32]) -> Count {
+        Count {
+            title,
+            sources: Vec::new(),
+            sizes: [0; SIZES.len()],
+            answers: numbers.iter().map(|number| (*number, 0)).collect(),
+            clauses: [[0; 2]; Clause::ALL.len()],
+            differences: 0,
+            shown: Vec::new(),
+        }
+    }
+
+    /// The calls from here on are counted under this name.
+    pub fn begin(&mut self, source: &'static str) {
+        self.sources.push((source, 0));
+    }
+
+    pub fn calls(&self) -> u64 {
+        self.sources.iter().map(|(_, count)| count).sum()
+    }
+
+    /// Both sides open the recording. The answer is the model's.
+    pub fn open(&mut self, model: &mut Recording, lent: &mut Lent) -> Answer {
+        let answer = model.open();
+        let number = lent.open();
+        self.take(model, answer, number, lent.wrong(model, VALUE_BEFORE));
+        answer
+    }
+
+    /// Both sides take back the last entry. The answer is the model's.
+    pub fn undo(&mut self, model: &mut Recording, lent: &mut Lent) -> Answer {
+        let answer = model.undo();
+        let number = lent.undo();
+        self.take(model, answer, number, lent.wrong(model, answer.value()));
+        if answer.number() == 11 {
+            self.take_clauses(&model.malformed());
+        }
+        answer
+    }
+
+    /// Counts one call: the model after it, both sides' answers, and the lent parts that are not as the
+    /// model has them.
+    fn take(&mut self, model: &Recording, answer: Answer, number: u32, wrong: Vec<&str>) {
+        let size = SIZES.iter().position(|(_, last)| model.samples.len() <= *last).expect("the last takes all");
+        self.sizes[size] += 1;
+        self.sources.last_mut().expect("a source was begun").1 += 1;
+        let known = self.answers.iter_mut().find(|(known, _)| *known == answer.number());
+        known.unwrap_or_else(|| panic!("the model answers {answer:?}")).1 += 1;
+        if number != answer.number() || !wrong.is_empty() {
+            self.differences += 1;
+            if self.shown.len() < SHOWN {
+                self.shown.push(described(model, answer, number, &wrong));
+            }
+        }
+    }
+
+    fn take_clauses(&mut self, malformed: &[Clause]) {
+        for (clause, [met, alone]) in Clause::ALL.iter().zip(&mut self.clauses) {
+            *met += u64::from(malformed.contains(clause));
+            *alone += u64::from(malformed == [*clause]);
+        }
+    }
+
+    /// Prints the whole count, and panics where an answer or a size was never met or a call differed.
+    pub fn close(&self, seed: u64) {
+        print!("{}", self.report(seed));
+        for ((size, _), count) in SIZES.iter().zip(&self.sizes) {
+            assert!(*count > 0, "{}: no call {size}", self.title);
+        }
+        for (number, count) in &self.answers {
+            assert!(*count > 0, "{}: no answer {number}", self.title);
+        }
+        assert_eq!(self.differences, 0, "{}: differences", self.title);
+    }
+
+    /// Panics where a clause of refusal 11 was never met alone. One cannot be: more places than samples are
+    /// not all below the samples and rising, and where they are not all there, 3m+2 exceeds used.
+    pub fn close_clauses(&self) {
+        for (clause, [met, alone]) in Clause::ALL.iter().zip(&self.clauses) {
+            let words = clause.words();
+            assert!(*met > 0, "{}: never refused since {words}", self.title);
+            let never_alone = *clause == Clause::MoreThanSamples;
+            assert_eq!(*alone == 0, never_alone, "{}: refused {alone} times since {words}, alone", self.title);
+        }
+    }
+
+    fn report(&self, seed: u64) -> String {
+        let mut text = format!("{}, seed {:#x}\n", self.title, seed);
+        line(&mut text, "calls", self.calls());
+        for (source, count) in &self.sources {
+            line(&mut text, source, *count);
+        }
+        for ((size, _), count) in SIZES.iter().zip(&self.sizes) {
+            line(&mut text, size, *count);
+        }
+        for (number, count) in &self.answers {
+            line(&mut text, &format!("answered {number}"), *count);
+        }
+        for (clause, [met, alone]) in Clause::ALL.iter().zip(&self.clauses) {
+            if *met > 0 {
+                line(&mut text, &format!("11: {}", clause.words()), *met);
+                line(&mut text, "    and nothing else", *alone);
+            }
+        }
+        line(&mut text, "differences", self.differences);
+        for shown in &self.shown {
+            writeln!(text, "    {shown}").expect("a String takes all");
+        }
+        text
+    }
+}
+
+fn described(model: &Recording, answer: Answer, number: u32, wrong: &[&str]) -> String {
+    let Recording { samples, marks, journal, used } = model;
+    let counts = format!("{} samples, {} marks, {} journal words", samples.len(), marks.len(), journal.len());
+    format!("of {counts}, used {used} after it: library {number}, model {answer:?}, differing {wrong:?}")
+}
