@@ -1,6 +1,6 @@
--- Demand 3 and what follows from it, as specs/History.antt states them. A recording is reached from the raw one by
--- the repairs that survive, one commit after the other; a call leads from a reached recording to a reached one, since
--- an undo gives back the very state before the last commit. Assumes nothing.
+-- Demand 3, as specs/History.antt states it, and what follows, as specs/Consequences.antt does. A recording is reached
+-- from the raw one by the repairs that survive, one commit after the other; a call leads from a reached recording to a
+-- reached one, since an undo gives back the very state before the last commit. Assumes nothing.
 use mathlib.Core.Path.{_≡_, refl, sym, ap, _∙_}
 use mathlib.Core.Bool.{false}
 use mathlib.Core.List.{List, [], _∷_, _++_, map, map-append, reverse, reverse-cons, reverse-append}
@@ -10,7 +10,10 @@ use native.Mathlib.Omega.{arith}
 use lib.ListN.{length, getD, replicate, length-reverse}
 use Rattle.recording.specs.Answers.{value}
 use Rattle.recording.specs.Recording.{State, Ended, ended, Placed, made, committed, Plan, change, performed, undone, opened, differ, tooMany}
-use Rattle.recording.specs.History.{Repair, Call, repair, undo, did, run, surviving, survivorsOver, survivors, replay, fresh, Bytes, Keeps, Lawful, OpeningIsFresh, AfterAny, Demand3, AllName, SurvivorsStand, UndoingAll, MeasuredIsRaw, UnmadeIsRaw, FreeIsZero, Closing, closings, markOf, returned, EntriesAreSurvivors}
+use Rattle.recording.specs.History.{Repair, Call, repair, undo, did, run, surviving, survivorsOver, survivors, replay, fresh}
+use Rattle.recording.specs.History.{OpeningIsFresh, Bytes, Keeps, Lawful, AfterAny, Demand3}
+use Rattle.recording.specs.Consequences.{AllName, SurvivorsStand, UndoingAll, MeasuredIsRaw, UnmadeIsRaw, FreeIsZero}
+use Rattle.recording.specs.Consequences.{Closing, closings, markOf, returned, EntriesAreSurvivors}
 use Rattle.recording.specs.declared.Reason.the-variants.{Counts, TooMany}
 use Rattle.recording.specs.declared.Answer.{Answer}
 use Rattle.recording.specs.declared.Answer.the-variants.{Done, Refused}

@@ -1,5 +1,6 @@
 pub mod Answers
 pub mod Recording
 pub mod History
+pub mod Consequences
 pub mod Inner
 pub mod Rows
