@@ -13,7 +13,9 @@ use Rattle.recording.proofs.clear.clear_doubles.Statement.{statement}
 use Rattle.recording.proofs.clear.clear_doubles.Tie as tie
 
 abbrev Inv-loop : tie.InvT-loop
-Inv-loop work₀ needed i₀ work i = (i ≤ needed) × (length work ≡ length work₀) × (sets work i (replicate (needed - i) (fin false 0 (pos 0))) ≡ cleared (fin false 0 (pos 0)) needed work₀)
+Inv-loop work₀ needed i₀ work i =
+    (i ≤ needed) × (length work ≡ length work₀)
+    × (sets work i (replicate (needed - i) (fin false 0 (pos 0))) ≡ cleared (fin false 0 (pos 0)) needed work₀)
 
 abbrev μ-loop : tie.MeasureT-loop
 μ-loop work₀ needed i₀ work i = needed - i

@@ -9,7 +9,9 @@ use Rattle.recording.proofs.clear.clear_words.Statement.{statement}
 use Rattle.recording.proofs.clear.clear_words.Tie as tie
 
 abbrev Inv-loop : tie.InvT-loop
-Inv-loop words₀ start count i₀ words i = (i ≤ count) × (length words ≡ length words₀) × (sets words (start + i) (replicate (count - i) 0) ≡ sets words₀ start (replicate count 0))
+Inv-loop words₀ start count i₀ words i =
+    (i ≤ count) × (length words ≡ length words₀)
+    × (sets words (start + i) (replicate (count - i) 0) ≡ sets words₀ start (replicate count 0))
 
 abbrev μ-loop : tie.MeasureT-loop
 μ-loop words₀ start count i₀ words i = count - i

@@ -9,7 +9,9 @@ use Rattle.recording.proofs.clear.set_marks.Statement.{statement}
 use Rattle.recording.proofs.clear.set_marks.Tie as tie
 
 abbrev Inv-loop : tie.InvT-loop
-Inv-loop marks₀ start count mark i₀ marks i = (i ≤ count) × (length marks ≡ length marks₀) × (sets marks (start + i) (replicate (count - i) mark) ≡ sets marks₀ start (replicate count mark))
+Inv-loop marks₀ start count mark i₀ marks i =
+    (i ≤ count) × (length marks ≡ length marks₀)
+    × (sets marks (start + i) (replicate (count - i) mark) ≡ sets marks₀ start (replicate count mark))
 
 abbrev μ-loop : tie.MeasureT-loop
 μ-loop marks₀ start count mark i₀ marks i = count - i

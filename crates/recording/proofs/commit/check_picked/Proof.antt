@@ -41,19 +41,29 @@ in-range-requires : tie.Need-in-range-requires Inv-loop μ-loop
 in-range-requires c κs = search needs
 
 returns : tie.Need-returns Inv-loop μ-loop
-returns c = sym (pick-out _ _ _ (c .before .before .before .before .before .loop-test .taken) (c .before .before .before .if1 .taken) (sym (c .before .in-range .ensures) ∙ not-true _ (c .if2 .taken))) ∙ c .before .before .before .before .before .before .loop .inv .1
+returns c =
+    let named = c .before .before .before in
+    let turn = named .before .before in
+    let out = sym (c .before .in-range .ensures) ∙ not-true _ (c .if2 .taken) in
+    sym (pick-out _ _ _ (turn .loop-test .taken) (named .if1 .taken) out) ∙ turn .before .loop .inv .1
 
 loop-less : tie.Need-loop-less Inv-loop μ-loop
 loop-less c = omega arith
 
 loop-again : tie.Need-loop-again Inv-loop μ-loop
-loop-again c = (omega arith, sym (pick-in _ _ _ (c .before .before .before .before .before .loop-test .taken) (c .before .before .before .if1 .taken) (sym (c .before .in-range .ensures) ∙ not-false _ (c .if2 .left))) ∙ c .before .before .before .before .before .before .loop .inv .1)
+loop-again c =
+    let named = c .before .before .before in
+    let turn = named .before .before in
+    let right = sym (c .before .in-range .ensures) ∙ not-false _ (c .if2 .left) in
+    (omega arith, sym (pick-in _ _ _ (turn .loop-test .taken) (named .if1 .taken) right) ∙ turn .before .loop .inv .1)
 
 loop-less-2 : tie.Need-loop-less-2 Inv-loop μ-loop
 loop-less-2 c = omega arith
 
 loop-again-2 : tie.Need-loop-again-2 Inv-loop μ-loop
-loop-again-2 c = (omega arith, sym (ap ranged (pick-none _ _ _ (c .before .before .loop-test .taken) (c .if1 .left))) ∙ c .before .before .before .loop .inv .1)
+loop-again-2 c =
+    let turn = c .before .before in
+    (omega arith, sym (ap ranged (pick-none _ _ _ (turn .loop-test .taken) (c .if1 .left))) ∙ turn .before .loop .inv .1)
 
 returns-2 : tie.Need-returns-2 Inv-loop μ-loop
 unfolding ranged

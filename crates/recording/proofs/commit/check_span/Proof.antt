@@ -32,7 +32,10 @@ add-t9 : tie.Need-add-t9 Inv-loop μ-loop
 add-t9 c = omega arith
 
 returns : tie.Need-returns Inv-loop μ-loop
-returns c = sym (span-out _ _ _ (c .before .before .before .loop-test .taken) (sym (c .before .in-range .ensures) ∙ not-true _ (c .if1 .taken))) ∙ c .before .before .before .before .loop .inv .1
+returns c =
+    let turn = c .before .before .before in
+    let out = sym (c .before .in-range .ensures) ∙ not-true _ (c .if1 .taken) in
+    sym (span-out _ _ _ (turn .loop-test .taken) out) ∙ turn .before .loop .inv .1
 
 add-i : tie.Need-add-i Inv-loop μ-loop
 add-i c = omega arith
@@ -41,7 +44,10 @@ loop-less : tie.Need-loop-less Inv-loop μ-loop
 loop-less c = omega arith
 
 loop-again : tie.Need-loop-again Inv-loop μ-loop
-loop-again c = (omega arith, sym (span-more _ _ _ (c .before .before .before .loop-test .taken) (sym (c .before .in-range .ensures) ∙ not-false _ (c .if1 .left))) ∙ c .before .before .before .before .loop .inv .1)
+loop-again c =
+    let turn = c .before .before .before in
+    let right = sym (c .before .in-range .ensures) ∙ not-false _ (c .if1 .left) in
+    (omega arith, sym (span-more _ _ _ (turn .loop-test .taken) right) ∙ turn .before .loop .inv .1)
 
 returns-2 : tie.Need-returns-2 Inv-loop μ-loop
 returns-2 c = sym (span-done _ _ _ (c .loop-test .left)) ∙ c .before .loop .inv .1

@@ -1,8 +1,19 @@
 use mathlib.Core.Path.{refl}
+use Rattle.recording.specs.Recording.{State, state}
 use Rattle.recording.proofs.commit.Laws.{carried-out, span-refused, span-written}
 use borrow.Author.Needs.{needs}
 use Rattle.recording.proofs.commit.commit_span.Statement.{statement}
 use Rattle.recording.proofs.commit.commit_span.Tie as tie
+
+-- where the words were found in range, before the entry was made
+abbrev ranging : tie.After-enter-span → tie.After-enum-told
+ranging c = c .before .before .before .before .before
+
+-- the recording before the call
+abbrev recording : tie.After-enum-told → State
+recording c =
+    let a = c .before .before .before .before .before .before .before .args in
+    state (a .samples .now) (a .marks .now) (a .journal .now) (a .used .now)
 
 check-span-requires : tie.Need-check-span-requires
 check-span-requires c κs = search needs
@@ -35,8 +46,11 @@ same-length-3 : tie.Need-same-length-3
 same-length-3 c = search needs
 
 returns-2 : tie.Need-returns-2
-returns-2 c = span-refused _ _ _ _ _ refl _ _ _ _ _ _ (c .before .before .before .before .before .before .before .before .before .before .before .before .before .check-span .ensures) (c .before .before .before .before .before .before .before .before .before .before .before .enum-told .given .1) _ (c .enum-told4 .given .1)
-    (c .before .before .before .before .before .before .enter-span .ensures _ refl)
+returns-2 c =
+    let entering = c .before .before .before .before .before .before in
+    let told = ranging entering in
+    span-refused (recording told) _ _ _ _ refl _ _ _ _ _ _ (told .before .before .check-span .ensures) (told .enum-told .given .1)
+    _ (c .enum-told4 .given .1) (entering .enter-span .ensures _ refl)
 
 copy-words-requires : tie.Need-copy-words-requires
 copy-words-requires c κs = search needs
@@ -51,9 +65,12 @@ same-length-6 : tie.Need-same-length-6
 same-length-6 c = search needs
 
 returns-3 : tie.Need-returns-3
-returns-3 c = span-written _ _ _ _ _ refl _ _ _ _ _ _ (c .before .before .before .before .before .before .before .before .before .before .before .before .before .before .before .before .before .check-span .ensures) (c .before .before .before .before .before .before .before .before .before .before .before .before .before .before .before .enum-told .given .1) _ _ (c .before .before .before .before .enum-told3 .given .1)
-    (c .before .before .copy-words .ensures)
-    (c .before .before .before .before .before .before .before .before .before .before .enter-span .ensures _ refl)
+returns-3 c =
+    let done = c .before .before .before .before in
+    let entering = done .before .before .before .before .before .before in
+    let told = ranging entering in
+    span-written (recording told) _ _ _ _ refl _ _ _ _ _ _ (told .before .before .check-span .ensures) (told .enum-told .given .1)
+    _ _ (done .enum-told3 .given .1) (c .before .before .copy-words .ensures) (entering .enter-span .ensures _ refl)
 
 pub commit-span-spec : {M : Type 1} → statement M
 commit-span-spec =

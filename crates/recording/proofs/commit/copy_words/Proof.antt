@@ -10,7 +10,9 @@ use Rattle.recording.proofs.commit.copy_words.Statement.{statement}
 use Rattle.recording.proofs.commit.copy_words.Tie as tie
 
 abbrev Inv-loop : tie.InvT-loop
-Inv-loop samples₀ start words i₀ samples i = (i ≤ length words) × (length samples ≡ length samples₀) × (sets samples (start + i) (drop i words) ≡ sets samples₀ start words)
+Inv-loop samples₀ start words i₀ samples i =
+    (i ≤ length words) × (length samples ≡ length samples₀)
+    × (sets samples (start + i) (drop i words) ≡ sets samples₀ start words)
 
 abbrev μ-loop : tie.MeasureT-loop
 μ-loop samples₀ start words i₀ samples i = length words - i
@@ -40,7 +42,10 @@ loop-less : tie.Need-loop-less Inv-loop μ-loop
 loop-less c = omega arith
 
 loop-again : tie.Need-loop-again Inv-loop μ-loop
-loop-again c = (omega arith, simp length-set (c .before .before .loop .inv .1), copy-more _ _ _ _ _ _ 0 (c .before .loop-test .taken) (omega arith) (c .before .before .loop .inv .2))
+loop-again c =
+    let turn = c .before in
+    let inv = turn .before .loop .inv in
+    (omega arith, simp length-set (inv .1), copy-more _ _ _ _ _ _ 0 (turn .loop-test .taken) (omega arith) (inv .2))
 
 same-length : tie.Need-same-length Inv-loop μ-loop
 same-length c = c .before .loop .inv .1

@@ -43,13 +43,18 @@ loop-less : tie.Need-loop-less Inv-loop μ-loop
 loop-less c = omega arith
 
 loop-again : tie.Need-loop-again Inv-loop μ-loop
-loop-again c = (omega arith, omega arith, pick-count _ _ _ (c .before .before .loop-test .taken) _ _ (c .if1 .taken) (c .before .before .before .loop .inv .2))
+loop-again c =
+    let turn = c .before .before in
+    (omega arith, omega arith, pick-count _ _ _ (turn .loop-test .taken) _ _ (c .if1 .taken) (turn .before .loop .inv .2))
 
 loop-less-2 : tie.Need-loop-less-2 Inv-loop μ-loop
 loop-less-2 c = omega arith
 
 loop-again-2 : tie.Need-loop-again-2 Inv-loop μ-loop
-loop-again-2 c = (omega arith, omega arith, subst (Counts (c .before .before .before .loop .m) _) (pick-none _ _ _ (c .before .before .loop-test .taken) (c .if1 .left)) (c .before .before .before .loop .inv .2))
+loop-again-2 c =
+    let turn = c .before .before in
+    let none = pick-none _ _ _ (turn .loop-test .taken) (c .if1 .left) in
+    (omega arith, omega arith, subst (Counts (turn .before .loop .m) _) none (turn .before .loop .inv .2))
 
 returns : tie.Need-returns Inv-loop μ-loop
 returns c = rw add-zero at (subst (Counts (c .before .loop .m) _) (pick-end _ _ _ (c .loop-test .left)) (c .before .loop .inv .2))

@@ -3,6 +3,13 @@ use borrow.Author.Needs.{needs}
 use Rattle.recording.proofs.commit.enter_span.Statement.{statement}
 use Rattle.recording.proofs.commit.enter_span.Tie as tie
 
+-- where the samples were saved, before the entry was sealed, and where the room was found enough
+abbrev saving : tie.After-seal → tie.After-save-span
+saving c = c .before .before .before .before .before .before .before .before .before
+
+abbrev roomy : tie.After-seal → tie.Else2
+roomy c = saving c .before .before .before
+
 returns : tie.Need-returns
 returns c = λ words count. span-none _ _ _ _ words count (c .if1 .taken)
 
@@ -16,7 +23,8 @@ add-if2 : tie.Need-add-if2
 add-if2 c = search needs
 
 returns-2 : tie.Need-returns-2
-returns-2 c = λ words count. span-room _ _ _ _ words count (c .before .before .if1 .left) (c .if2 .taken)
+returns-2 c =
+    λ words count. span-room _ _ _ _ words count (c .before .before .if1 .left) (c .if2 .taken)
 
 save-span-requires : tie.Need-save-span-requires
 save-span-requires c κs = search needs
@@ -34,10 +42,14 @@ same-length-2 : tie.Need-same-length-2
 same-length-2 c = search needs
 
 returns-3 : tie.Need-returns-3
-returns-3 c = let room = c .before .before .before .before .before .before .before .before .before .before .before .before .before .before in
-    let seal = c .before .before .seal .ensures in
+returns-3 c =
+    let sealed = c .before .before in
+    let room = roomy sealed in
+    let marks = sealed .before .before .before .before .before .set-marks .ensures in
+    let entry = sealed .seal .ensures in
     λ words count.
-    span-entered _ _ _ _ words count (room .before .before .if1 .left) _ _ _ _ (room .if2 .left) (c .before .before .before .before .before .before .before .set-marks .ensures) (c .before .before .before .before .before .before .before .before .before .before .before .save-span .ensures) (seal .0) (seal .1)
+    span-entered _ _ _ _ words count (room .before .before .if1 .left) _ _ _ _ (room .if2 .left) marks
+    (saving sealed .save-span .ensures) (entry .0) (entry .1)
 
 pub enter-span-spec : {M : Type 1} → statement M
 enter-span-spec =

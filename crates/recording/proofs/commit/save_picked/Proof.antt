@@ -20,13 +20,19 @@ abbrev Saves : List ℕ → List ℕ → List ℕ → ℕ → List ℕ → List 
 Saves samples marks journal next whole left = sets journal next (threeWords (saved samples marks (places left))) ≡ whole
 
 abbrev Inv-loop : tie.InvT-loop
-Inv-loop samples marks journal₀ at work n next₀ i₀ journal next i = (i ≤ n) × (length journal ≡ length journal₀) × Fits-in next (length journal₀) (rest-picked work n i) × Saves samples marks journal next (sets journal₀ at (threeWords (saved samples marks (places (pickedBy work n))))) (rest-picked work n i)
+Inv-loop samples marks journal₀ at work n next₀ i₀ journal next i =
+    (i ≤ n) × (length journal ≡ length journal₀) × Fits-in next (length journal₀) (rest-picked work n i)
+    × Saves samples marks journal next (sets journal₀ at (threeWords (saved samples marks (places (pickedBy work n)))))
+    (rest-picked work n i)
 
 abbrev μ-loop : tie.MeasureT-loop
 μ-loop samples marks journal₀ at work n next₀ i₀ journal next i = n - i
 
 loop-holds : tie.Need-loop-holds Inv-loop μ-loop
-loop-holds c = let all = sym (picked-all _ _ (c .before .before .before .before .pre .1)) in (omega arith, refl, subst (Fits-in _ _) all (c .before .before .before .before .pre .0), subst (Saves _ _ _ _ _) all refl)
+loop-holds c =
+    let pre = c .before .before .before .before .pre in
+    let all = sym (picked-all _ _ (pre .1)) in
+    (omega arith, refl, subst (Fits-in _ _) all (pre .0), subst (Saves _ _ _ _ _) all refl)
 
 add-i : tie.Need-add-i Inv-loop μ-loop
 add-i c = omega arith
@@ -41,19 +47,33 @@ shared-slice-read-if1 : tie.Need-shared-slice-read-if1 Inv-loop μ-loop
 shared-slice-read-if1 c = omega arith
 
 save-requires : tie.Need-save-requires Inv-loop μ-loop
-save-requires c κs = let room = pick-room _ _ _ (c .before .before .before .loop-test .taken) _ _ (c .before .if1 .taken) (c .before .before .before .before .loop .inv .2) in (omega arith, omega arith, omega arith, omega arith)
+save-requires c κs =
+    let turn = c .before .before .before in
+    let room = pick-room _ _ _ (turn .loop-test .taken) _ _ (c .before .if1 .taken) (turn .before .loop .inv .2) in
+    (omega arith, omega arith, omega arith, omega arith)
 
 add-next : tie.Need-add-next Inv-loop μ-loop
-add-next c = let room = pick-room _ _ _ (c .before .before .before .before .before .before .loop-test .taken) _ _ (c .before .before .before .before .if1 .taken) (c .before .before .before .before .before .before .before .loop .inv .2) in omega arith
+add-next c =
+    let named = c .before .before .before .before in
+    let turn = named .before .before in
+    let room = pick-room _ _ _ (turn .loop-test .taken) _ _ (named .if1 .taken) (turn .before .loop .inv .2) in
+    omega arith
 
 loop-less : tie.Need-loop-less Inv-loop μ-loop
 loop-less c = omega arith
 
 loop-again : tie.Need-loop-again Inv-loop μ-loop
-loop-again c = let taken = c .before .before .before .before .if1 .taken in
-    let h = c .before .before .before .before .before .before .loop-test .taken in
-    let inv = c .before .before .before .before .before .before .before .loop .inv in
-    (omega arith, ap length (c .before .before .save .ensures) ∙ simp length-sets (inv .1), pick-room _ _ _ h _ _ taken (inv .2), pick-save _ _ _ h _ _ _ _ _ _ taken (c .before .before .save .ensures) (inv .3))
+loop-again c =
+    let saved = c .before .before .save .ensures in
+    let named = c .before .before .before .before in
+    let turn = named .before .before in
+    let h = turn .loop-test .taken in
+    let inv = turn .before .loop .inv in (
+      omega arith,
+      ap length saved ∙ simp length-sets (inv .1),
+      pick-room _ _ _ h _ _ (named .if1 .taken) (inv .2),
+      pick-save _ _ _ h _ _ _ _ _ _ (named .if1 .taken) saved (inv .3),
+    )
 
 loop-less-2 : tie.Need-loop-less-2 Inv-loop μ-loop
 loop-less-2 c = omega arith

@@ -12,7 +12,10 @@ use Rattle.recording.proofs.commit.save_span.Statement.{statement}
 use Rattle.recording.proofs.commit.save_span.Tie as tie
 
 abbrev Inv-loop : tie.InvT-loop
-Inv-loop samples marks journal₀ at start len i₀ journal i = (i ≤ len) × (length journal ≡ length journal₀) × (sets journal (at + 3 * i) (threeWords (saved samples marks (consecutive (start + i) (len - i)))) ≡ sets journal₀ at (threeWords (saved samples marks (consecutive start len))))
+Inv-loop samples marks journal₀ at start len i₀ journal i =
+    (i ≤ len) × (length journal ≡ length journal₀)
+    × (sets journal (at + 3 * i) (threeWords (saved samples marks (consecutive (start + i) (len - i))))
+    ≡ sets journal₀ at (threeWords (saved samples marks (consecutive start len))))
 
 abbrev μ-loop : tie.MeasureT-loop
 μ-loop samples marks journal₀ at start len i₀ journal i = len - i
@@ -39,8 +42,14 @@ loop-less : tie.Need-loop-less Inv-loop μ-loop
 loop-less c = omega arith
 
 loop-again : tie.Need-loop-again Inv-loop μ-loop
-loop-again c = let inv = c .before .before .before .before .before .loop .inv in
-    (omega arith, ap length (c .before .before .save .ensures) ∙ simp length-sets (inv .1), span-save _ _ _ _ _ _ _ _ _ (c .before .before .before .before .loop-test .taken) (c .before .before .save .ensures) (inv .2))
+loop-again c =
+    let saved = c .before .before .save .ensures in
+    let turn = c .before .before .before .before in
+    let inv = turn .before .loop .inv in (
+      omega arith,
+      ap length saved ∙ simp length-sets (inv .1),
+      span-save _ _ _ _ _ _ _ _ _ (turn .loop-test .taken) saved (inv .2),
+    )
 
 same-length : tie.Need-same-length Inv-loop μ-loop
 same-length c = c .before .loop .inv .1

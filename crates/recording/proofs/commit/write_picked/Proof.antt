@@ -18,13 +18,18 @@ abbrev Marks : ℕ → List ℕ → List ℕ → List Placed → Type 0
 Marks mark marks whole left = put (each mark (places left)) marks ≡ whole
 
 abbrev Inv-loop : tie.InvT-loop
-Inv-loop samples₀ marks₀ work mark n i₀ samples marks i = (i ≤ n) × (length samples ≡ length samples₀) × (length marks ≡ length marks₀) × Writes samples (put (pickedBy work n) samples₀) (rest-picked work n i) × Marks mark marks (put (each mark (places (pickedBy work n))) marks₀) (rest-picked work n i)
+Inv-loop samples₀ marks₀ work mark n i₀ samples marks i =
+    (i ≤ n) × (length samples ≡ length samples₀) × (length marks ≡ length marks₀)
+    × Writes samples (put (pickedBy work n) samples₀) (rest-picked work n i)
+    × Marks mark marks (put (each mark (places (pickedBy work n))) marks₀) (rest-picked work n i)
 
 abbrev μ-loop : tie.MeasureT-loop
 μ-loop samples₀ marks₀ work mark n i₀ samples marks i = n - i
 
 loop-holds : tie.Need-loop-holds Inv-loop μ-loop
-loop-holds c = let all = sym (picked-all _ _ (c .pre .0)) in (omega arith, refl, refl, subst (Writes _ _) all refl, subst (Marks _ _ _) all refl)
+loop-holds c =
+    let all = sym (picked-all _ _ (c .pre .0)) in
+    (omega arith, refl, refl, subst (Writes _ _) all refl, subst (Marks _ _ _) all refl)
 
 add-i : tie.Need-add-i Inv-loop μ-loop
 add-i c = omega arith
@@ -57,10 +62,17 @@ loop-less : tie.Need-loop-less Inv-loop μ-loop
 loop-less c = omega arith
 
 loop-again : tie.Need-loop-again Inv-loop μ-loop
-loop-again c = let turn = c .before in
-    let h = turn .before .before .loop-test .taken in
-    let inv = turn .before .before .before .loop .inv in
-    (omega arith, simp length-set (inv .1), simp length-set (inv .2), pick-write _ _ _ h _ _ (turn .if1 .taken) (inv .3), pick-mark _ _ _ h _ _ _ (turn .if1 .taken) (inv .4))
+loop-again c =
+    let named = c .before in
+    let turn = named .before .before in
+    let h = turn .loop-test .taken in
+    let inv = turn .before .loop .inv in (
+      omega arith,
+      simp length-set (inv .1),
+      simp length-set (inv .2),
+      pick-write _ _ _ h _ _ (named .if1 .taken) (inv .3),
+      pick-mark _ _ _ h _ _ _ (named .if1 .taken) (inv .4),
+    )
 
 loop-less-2 : tie.Need-loop-less-2 Inv-loop μ-loop
 loop-less-2 c = omega arith
