@@ -1,7 +1,7 @@
 -- An exported function, from what the call under it ensures: `ended a s` is the rule's end of the call, and the result is the
 -- number of the answer a. Assumes nothing.
 use Prim.Native.Nat.{ℕ}
-use mathlib.Core.Path.{_≡_, sym, ap, _∙_}
+use mathlib.Core.Path.{_≡_, ap, _∙_}
 use Rattle.recording.specs.Answers.{number, value}
 use Rattle.recording.specs.Recording.{State, Ended, ended}
 use Rattle.recording.specs.declared.Answer.{Answer}

@@ -1,18 +1,16 @@
 -- How undo ends where the last entry passes every test, and where there is none. Assumes nothing.
 use mathlib.Core.Path.{_≡_, refl, _∙_}
-use mathlib.Core.Bool.{Bool, true, false}
+use mathlib.Core.Bool.{true, false}
 use mathlib.Core.List.{List}
-use mathlib.Core.Logic.{_⊎_, inl, inr}
+use mathlib.Core.Logic.{inl, inr}
 use Prim.Native.Nat.{ℕ, _-_, _≤_, _<_}
 use native.Mathlib.Omega.{arith}
 use lib.ListN.{length, replicate}
 use lib.Seq.{sets}
 use lib.Dec.{eqb}
-use borrow.Author.Tests.{eq-eqb, ne-eqb, le-ltb, eqb-true, ltb-false, not-false}
-use Rattle.recording.specs.Recording.{State, ended, Saved, differ, tooMany, overUsed, fitting, made, entrySize, lastCount, lastMark, lastSaved, placePast, notRising, markPast, malformed, oldWords, oldMarks, put, state, takenBack, undone}
+use borrow.Author.Tests.{eq-eqb, ne-eqb, le-ltb}
+use Rattle.recording.specs.Recording.{State, ended, Saved, fitting, made, entrySize, lastCount, lastMark, lastSaved, placePast, notRising, markPast, malformed, oldWords, oldMarks, put, state, takenBack, undone}
 use Rattle.recording.specs.Inner.{Fits}
-use Rattle.recording.specs.declared.Reason.{Reason}
-use Rattle.recording.specs.declared.Reason.the-variants.{Counts, TooMany, Used}
 use Rattle.recording.specs.declared.Answer.the-variants.{Done}
 use Rattle.recording.proofs.open.Laws.{fits-done, fits-or-not}
 

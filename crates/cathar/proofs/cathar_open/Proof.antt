@@ -1,3 +1,4 @@
+-- `cathar::cathar_open` meets its contract: it tells what opening ends in. Assumes nothing.
 use Rattle.cathar.proofs.Exports.{tells}
 use borrow.Author.Needs.{needs}
 use Rattle.cathar.proofs.cathar_open.Statement.{statement}

@@ -1,3 +1,4 @@
+-- `cathar::cathar_undo` meets its contract: it tells what undo ends in. Assumes nothing.
 use Rattle.cathar.proofs.Exports.{gives}
 use borrow.Author.Needs.{needs}
 use Rattle.cathar.proofs.cathar_undo.Statement.{statement}

@@ -2,7 +2,7 @@
 -- Assumes nothing.
 use mathlib.Core.Path.{_≡_, refl, sym, ap, _∙_}
 use mathlib.Core.Bool.{Bool, true, false, not, cond}
-use mathlib.Core.List.{List, [], _∷_, _++_, map}
+use mathlib.Core.List.{List, [], _∷_, _++_}
 use Prim.Native.Nat.{ℕ, zero, suc, _+_, _-_, _*_, _≤_, _<_}
 use native.Mathlib.Omega.{arith}
 use native.Mathlib.Nat.{add-zero, sub-zero}
@@ -143,7 +143,8 @@ module _ (work : List ℕ) (n i : ℕ) (h : i < n) where
       ap (pickedFrom work n i) left ∙ rw (ne-eqb _ _ e) refl
 
   -- its word is in range, or is the first that is not
-  pub pick-in : (getD work (n + i) 0 ≡ 0 → ⊥) → inRange (getD work i 0) ≡ true → ranged (rest-picked work n i) ≡ ranged (rest-picked work n (i + 1))
+  pub pick-in : (getD work (n + i) 0 ≡ 0 → ⊥) → inRange (getD work i 0) ≡ true
+      → ranged (rest-picked work n i) ≡ ranged (rest-picked work n (i + 1))
   unfolding ranged
   pick-in e r = ap ranged (pick-one e) ∙ rw r refl
 

@@ -10,15 +10,15 @@ use native.Mathlib.Nat.{sub-zero}
 use lib.ListN.{length, getD, set, length-set, replicate}
 use lib.Seq.{sets}
 use lib.Dec.{leb, ltb, eqb, leb·suc-zero, leb·suc-suc}
-use borrow.Author.Tests.{lt-ltb, le-ltb, le-leb, lt-leb, eq-eqb, ne-eqb, ltb-false, leb-false, eqb-true, not-false}
-use Rattle.recording.specs.Recording.{State, state, ended, refused, if_then_else_}
-use Rattle.recording.specs.Recording.{differ, tooMany, overUsed, fitting}
+use borrow.Author.Tests.{lt-ltb, le-ltb, le-leb, lt-leb, eq-eqb, ne-eqb, ltb-false, leb-false}
+use Rattle.recording.specs.Recording.{State, state, ended, refused}
+use Rattle.recording.specs.Recording.{fitting}
 use Rattle.recording.specs.Recording.{Saved, savedAt, placePast, notRising, markPast, put, oldWords, oldMarks}
 use Rattle.recording.specs.Recording.{entrySize, lastCount, lastMark, lastSaved, made, malformed}
 use Rattle.recording.specs.Recording.{takenBack, undone}
 use Rattle.recording.specs.Inner.{anyWrong, Fits, Restorable}
 use Rattle.recording.specs.declared.Reason.{Reason}
-use Rattle.recording.specs.declared.Reason.the-variants.{Counts, TooMany, Used, Nothing, Malformed}
+use Rattle.recording.specs.declared.Reason.the-variants.{Nothing, Malformed}
 use Rattle.recording.specs.declared.Answer.{Answer}
 use Rattle.recording.specs.declared.Answer.the-variants.{Done, Refused}
 

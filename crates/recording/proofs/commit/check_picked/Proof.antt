@@ -1,9 +1,10 @@
-use Prim.Native.Nat.{ℕ, _+_, _-_, _*_, _≤_}
+-- `recording::commit::check_picked` meets its contract. The loop's invariant: the test of what is left gives the answer of
+-- the whole. The measure is how many places are left. Assumes nothing.
+use Prim.Native.Nat.{_-_, _≤_}
 use native.Mathlib.Omega.{arith}
 use borrow.Author.Needs.{needs}
-use mathlib.Core.Path.{_≡_, refl, sym, ap, _∙_}
+use mathlib.Core.Path.{_≡_, sym, ap, _∙_}
 use borrow.Author.Tests.{not-true, not-false}
-use lib.ListN.{length}
 use Rattle.recording.specs.Recording.{ranged}
 use Rattle.recording.specs.Inner.{pickedBy}
 use Rattle.recording.proofs.commit.Laws.{rest-picked, pick-end, pick-none, pick-in, pick-out, picked-all}

@@ -1,7 +1,9 @@
-use Prim.Native.Nat.{ℕ, _+_, _-_, _*_, _≤_}
+-- `recording::commit::check_span` meets its contract. The loop's invariant: the test of what is left gives the answer of
+-- the whole. The measure is how many words are left. Assumes nothing.
+use Prim.Native.Nat.{_+_, _-_, _≤_}
 use native.Mathlib.Omega.{arith}
 use borrow.Author.Needs.{needs}
-use mathlib.Core.Path.{_≡_, refl, sym, ap, _∙_}
+use mathlib.Core.Path.{_≡_, sym, _∙_}
 use native.Mathlib.Nat.{add-zero}
 use borrow.Author.Tests.{not-true, not-false}
 use lib.ListN.{length, drop}

@@ -1,3 +1,5 @@
+-- `recording::commit::commit_span` meets its contract: refused by the range test, refused by the entry, or entered and
+-- written. Assumes nothing.
 use mathlib.Core.Path.{refl}
 use Rattle.recording.specs.Recording.{State, state}
 use Rattle.recording.proofs.commit.Laws.{carried-out, span-refused, span-written}

@@ -1,3 +1,5 @@
+-- `recording::commit::enter_span` meets its contract: each way out is a line of the rule, whatever words come to stand in
+-- the span. Assumes nothing.
 use Rattle.recording.proofs.commit.Laws.{span-none, span-room, span-entered}
 use borrow.Author.Needs.{needs}
 use Rattle.recording.proofs.commit.enter_span.Statement.{statement}

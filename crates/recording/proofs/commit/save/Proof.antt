@@ -1,3 +1,4 @@
+-- `recording::commit::save` meets its contract: three stores, one after the other. Assumes nothing.
 use native.Mathlib.Omega.{arith}
 use lib.ListN.{length-set}
 use Rattle.recording.proofs.commit.Laws.{one-saved}

@@ -1,5 +1,5 @@
+-- `recording::commit::seal` meets its contract: two stores, one after the other. Assumes nothing.
 use native.Mathlib.Omega.{arith}
-use mathlib.Core.Path.{_≡_, refl}
 use lib.ListN.{length-set}
 use Rattle.recording.proofs.commit.Laws.{two-words}
 use borrow.Author.Needs.{needs}

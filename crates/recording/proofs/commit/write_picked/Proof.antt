@@ -1,6 +1,7 @@
-use Prim.Native.Nat.{ℕ, _+_, _-_, _*_, _≤_}
+-- `recording::commit::write_picked` meets its contract. The measure of its loop is how many places are left. Assumes
+-- nothing.
+use Prim.Native.Nat.{ℕ, _-_, _≤_}
 use native.Mathlib.Omega.{arith}
-use borrow.Author.Needs.{needs}
 use mathlib.Core.Path.{_≡_, refl, sym, subst}
 use mathlib.Core.List.{List}
 use lib.ListN.{length, length-set}

@@ -1,3 +1,4 @@
+-- `recording::open::check_sizes` meets its contract: each way out is a line of the table. Assumes nothing.
 use Rattle.recording.proofs.open.Laws.{fitting-counts, fitting-too-many, fitting-used, fitting-all}
 use Rattle.recording.proofs.open.check_sizes.Statement.{statement}
 use Rattle.recording.proofs.open.check_sizes.Tie as tie

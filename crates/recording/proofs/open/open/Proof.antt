@@ -1,3 +1,5 @@
+-- `recording::open::open` meets its contract: each way out is a line of the rule, and runs of 0 over all marks and words
+-- are what it leaves. Assumes nothing.
 use Rattle.recording.proofs.open.Laws.{opened-counts, opened-too-many, opened-done}
 use borrow.Author.Needs.{needs}
 use Rattle.recording.proofs.open.open.Statement.{statement}
