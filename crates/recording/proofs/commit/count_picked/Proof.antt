@@ -54,9 +54,11 @@ loop-less-2 c = omega arith
 
 loop-again-2 : tie.Need-loop-again-2 Inv-loop μ-loop
 loop-again-2 c =
-    let turn = c .before .before in
-    let none = pick-none _ _ _ (turn .loop-test .taken) (c .if1 .left) in
-    (omega arith, omega arith, subst (Counts (turn .before .loop .m) _) none (turn .before .loop .inv .2))
+    let turn = c .before .before in (
+      omega arith,
+      omega arith,
+      subst (Counts (turn .before .loop .m) _) (pick-none _ _ _ (turn .loop-test .taken) (c .if1 .left)) (turn .before .loop .inv .2),
+    )
 
 returns : tie.Need-returns Inv-loop μ-loop
 returns c = rw add-zero at (subst (Counts (c .before .loop .m) _) (pick-end _ _ _ (c .loop-test .left)) (c .before .loop .inv .2))

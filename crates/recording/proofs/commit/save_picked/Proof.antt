@@ -2,10 +2,10 @@
 -- nothing.
 use Prim.Native.Nat.{ℕ, _+_, _-_, _*_, _≤_}
 use native.Mathlib.Omega.{arith}
-use mathlib.Core.Path.{_≡_, refl, sym, ap, _∙_, subst}
+use mathlib.Core.Path.{_≡_, refl, sym, subst}
 use mathlib.Core.List.{List}
 use lib.ListN.{length}
-use lib.Seq.{sets, length-sets}
+use lib.Seq.{sets}
 use Rattle.recording.specs.Recording.{Placed, places, saved, threeWords}
 use Rattle.recording.specs.Inner.{pickedBy}
 use Rattle.recording.proofs.commit.Laws.{rest-picked, pick-end, pick-none, pick-room, pick-save, picked-all}
@@ -31,9 +31,12 @@ abbrev μ-loop : tie.MeasureT-loop
 
 loop-holds : tie.Need-loop-holds Inv-loop μ-loop
 loop-holds c =
-    let pre = c .before .before .before .before .pre in
-    let all = sym (picked-all _ _ (pre .1)) in
-    (omega arith, refl, subst (Fits-in _ _) all (pre .0), subst (Saves _ _ _ _ _) all refl)
+    let pre = c .before .before .before .before .pre in (
+      omega arith,
+      refl,
+      subst (Fits-in _ _) (sym (picked-all _ _ (pre .1))) (pre .0),
+      subst (Saves _ _ _ _ _) (sym (picked-all _ _ (pre .1))) refl,
+    )
 
 add-i : tie.Need-add-i Inv-loop μ-loop
 add-i c = omega arith
@@ -71,7 +74,7 @@ loop-again c =
     let h = turn .loop-test .taken in
     let inv = turn .before .loop .inv in (
       omega arith,
-      ap length saved ∙ simp length-sets (inv .1),
+      omega arith,
       pick-room _ _ _ h _ _ (named .if1 .taken) (inv .2),
       pick-save _ _ _ h _ _ _ _ _ _ (named .if1 .taken) saved (inv .3),
     )
@@ -80,9 +83,14 @@ loop-less-2 : tie.Need-loop-less-2 Inv-loop μ-loop
 loop-less-2 c = omega arith
 
 loop-again-2 : tie.Need-loop-again-2 Inv-loop μ-loop
-loop-again-2 c = let none = pick-none _ _ _ (c .before .before .loop-test .taken) (c .if1 .left) in
-    let inv = c .before .before .before .loop .inv in
-    (omega arith, inv .1, subst (Fits-in _ _) none (inv .2), subst (Saves _ _ _ _ _) none (inv .3))
+loop-again-2 c =
+    let h = c .before .before .loop-test .taken in
+    let inv = c .before .before .before .loop .inv in (
+      omega arith,
+      inv .1,
+      subst (Fits-in _ _) (pick-none _ _ _ h (c .if1 .left)) (inv .2),
+      subst (Saves _ _ _ _ _) (pick-none _ _ _ h (c .if1 .left)) (inv .3),
+    )
 
 same-length : tie.Need-same-length Inv-loop μ-loop
 same-length c = c .before .loop .inv .1

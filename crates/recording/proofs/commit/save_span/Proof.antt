@@ -2,10 +2,10 @@
 -- The measure is how many samples are left. Assumes nothing.
 use Prim.Native.Nat.{_+_, _-_, _*_, _≤_}
 use native.Mathlib.Omega.{arith}
-use mathlib.Core.Path.{_≡_, refl, sym, ap, _∙_}
+use mathlib.Core.Path.{_≡_, refl, sym, _∙_}
 use native.Mathlib.Nat.{add-zero, sub-zero}
 use lib.ListN.{length}
-use lib.Seq.{sets, length-sets}
+use lib.Seq.{sets}
 use Rattle.recording.specs.Recording.{saved, threeWords}
 use Rattle.recording.specs.Inner.{consecutive}
 use Rattle.recording.proofs.commit.Laws.{span-save, span-saved}
@@ -48,7 +48,7 @@ loop-again c =
     let turn = c .before .before .before .before in
     let inv = turn .before .loop .inv in (
       omega arith,
-      ap length saved ∙ simp length-sets (inv .1),
+      omega arith,
       span-save _ _ _ _ _ _ _ _ _ (turn .loop-test .taken) saved (inv .2),
     )
 

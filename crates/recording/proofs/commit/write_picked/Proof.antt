@@ -28,9 +28,13 @@ abbrev μ-loop : tie.MeasureT-loop
 μ-loop samples₀ marks₀ work mark n i₀ samples marks i = n - i
 
 loop-holds : tie.Need-loop-holds Inv-loop μ-loop
-loop-holds c =
-    let all = sym (picked-all _ _ (c .pre .0)) in
-    (omega arith, refl, refl, subst (Writes _ _) all refl, subst (Marks _ _ _) all refl)
+loop-holds c = (
+  omega arith,
+  refl,
+  refl,
+  subst (Writes _ _) (sym (picked-all _ _ (c .pre .0))) refl,
+  subst (Marks _ _ _) (sym (picked-all _ _ (c .pre .0))) refl,
+)
 
 add-i : tie.Need-add-i Inv-loop μ-loop
 add-i c = omega arith
@@ -79,9 +83,15 @@ loop-less-2 : tie.Need-loop-less-2 Inv-loop μ-loop
 loop-less-2 c = omega arith
 
 loop-again-2 : tie.Need-loop-again-2 Inv-loop μ-loop
-loop-again-2 c = let none = pick-none _ _ _ (c .before .before .loop-test .taken) (c .if1 .left) in
-    let inv = c .before .before .before .loop .inv in
-    (omega arith, inv .1, inv .2, subst (Writes _ _) none (inv .3), subst (Marks _ _ _) none (inv .4))
+loop-again-2 c =
+    let h = c .before .before .loop-test .taken in
+    let inv = c .before .before .before .loop .inv in (
+      omega arith,
+      inv .1,
+      inv .2,
+      subst (Writes _ _) (pick-none _ _ _ h (c .if1 .left)) (inv .3),
+      subst (Marks _ _ _) (pick-none _ _ _ h (c .if1 .left)) (inv .4),
+    )
 
 same-length : tie.Need-same-length Inv-loop μ-loop
 same-length c = c .before .loop .inv .1
