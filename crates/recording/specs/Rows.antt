@@ -6,8 +6,8 @@ use mathlib.Core.Path.{_≡_, refl}
 use mathlib.Core.List.{List, [], _∷_}
 use lib.ListN.{replicate}
 use Rattle.recording.specs.Answers.{number, value}
-use Rattle.recording.specs.Recording.{State, Ended, Plan, change, span, performed, undone, measured, gapByModel}
-use Rattle.recording.specs.History.{fresh}
+use Rattle.recording.specs.Recording.{State, Ended, Plan, change, span, performed, undone, measured, gapByModel, decrackle, dequantize}
+use Rattle.recording.specs.History.{Repair, repair, undo, survivors, fresh}
 
 -- 2^-30 is the word 30800000
 unfoldable pub rawWords : List ℕ
@@ -50,3 +50,33 @@ recordingShould =
 pub recording-table : recordingRows ≡ recordingShould
 unfolding recordingRows recordingShould
 recording-table = refl
+
+-- ---- Survivors of a short history
+
+unfoldable pub gap : Repair
+unfolding quietPlan
+gap samples = quietPlan
+
+unfoldable pub nothing : Repair
+nothing samples = change decrackle []
+
+unfoldable pub first : Repair
+unfolding span
+first samples = change dequantize (span 0 (0 ∷ []))
+
+-- one that names nothing and one that is undone do not survive, nor one that finds no room (8 words and 5 are needed)
+pub gap-survives : survivors (repair gap ∷ repair nothing ∷ repair first ∷ undo ∷ []) (quiet 13) ≡ gap ∷ []
+unfolding survivors quiet gap nothing first
+gap-survives = refl
+
+pub no-room-survives-not : survivors (repair gap ∷ repair first ∷ []) (quiet 12) ≡ gap ∷ []
+unfolding survivors quiet gap first
+no-room-survives-not = refl
+
+pub both-survive : survivors (repair gap ∷ repair first ∷ []) (quiet 13) ≡ gap ∷ first ∷ []
+unfolding survivors quiet gap first
+both-survive = refl
+
+pub none-survives : survivors (repair gap ∷ undo ∷ undo ∷ undo ∷ []) (quiet 13) ≡ []
+unfolding survivors quiet gap
+none-survives = refl
