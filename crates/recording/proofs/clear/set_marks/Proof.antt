@@ -34,7 +34,12 @@ loop-less : tie.Need-loop-less Inv-loop μ-loop
 loop-less c = omega arith
 
 loop-again : tie.Need-loop-again Inv-loop μ-loop
-loop-again c = (omega arith, simp length-set (c .before .loop .inv .1), run-more _ _ _ _ _ _ _ (c .loop-test .taken) (omega arith) (c .before .loop .inv .2))
+loop-again c =
+    let start = c .before .before .args .start in
+    let i = c .before .loop .i in
+    let next : start + (i + 1) ≡ start + i + 1 = omega arith in
+    let inv = c .before .loop .inv in
+    (omega arith, simp length-set (inv .1), run-more _ _ _ _ _ _ _ (c .loop-test .taken) next (inv .2))
 
 same-length : tie.Need-same-length Inv-loop μ-loop
 same-length c = c .before .loop .inv .1
