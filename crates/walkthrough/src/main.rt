@@ -5,6 +5,8 @@ ghost use Prim.Native.Nat.{_+_};
 ghost use lib.ListN.{length};
 ghost use Rattle.recording.specs.Recording.{state, ended, performed, workAfter};
 ghost use Rattle.walkthrough.specs.Plans.{spanPlan, pickedPlan};
+use leaves::words::INFINITY32;
+use leaves::words::NAN32;
 use leaves::words::word_of_f64;
 use recording::Answer;
 use recording::Reason;
@@ -18,11 +20,30 @@ use recording::open::check_sizes;
 use recording::open::open;
 use recording::undo::undo;
 
-// 2^-30, the sample around the gap of *quiet*.
+// Words of samples: 2^-30, which stands around the gap of *quiet*, and some that are plain numbers.
 const SOFT: u32 = 0x3080_0000;
 
+const MINUS_ZERO: u32 = 0x8000_0000;
+
+const MINUS_ONE: u32 = 0xbf80_0000;
+
+const HALF: u32 = 0x3f00_0000;
+
+const ONE: u32 = 0x3f80_0000;
+
+const TWO: u32 = 0x4000_0000;
+
+const THREE: u32 = 0x4040_0000;
+
+const FOUR: u32 = 0x4080_0000;
+
+// 65,536, the largest that is in range, and the next word.
+const LARGEST: u32 = 0x4780_0000;
+
+const TOO_LARGE: u32 = 0x4780_0001;
+
 // What stands in lent memory that nobody has written yet.
-const LEFT_OVER: u32 = 0xdead_beef;
+const LEFT: u32 = 0xdead_beef;
 
 // Repairs the samples from `start` on with words that the caller brings.
 fn repair_span(
@@ -183,79 +204,48 @@ fn walk_undo(samples: &mut [u32], marks: &mut [u8], journal: &mut [u32], used: &
     show(b"undo", answer, samples, marks, journal, *used);
 }
 
-// *Quiet*, opened over what was left in the lent memory, with the words of its gap.
+// Three gaps of *quiet*: two that are turned away, and its own, with the words that document 01 gives.
+fn quiet_gaps(samples: &mut [u32], marks: &mut [u8], journal: &mut [u32], used: &mut usize) {
+    let none: [u32; 0] = [];
+    let words = [MINUS_ZERO, 0];
+    walk_span(b"gap of length 0", samples, marks, journal, used, 2, &none);
+    walk_span(
+        b"gap past the end",
+        samples,
+        marks,
+        journal,
+        used,
+        5,
+        &words,
+    );
+    walk_span(b"gap at 2", samples, marks, journal, used, 2, &words);
+}
+
+// *Quiet*, opened over what was left in the lent memory, repaired and taken back.
 fn quiet(journal: &mut [u32]) {
     let mut samples = [SOFT, SOFT, 0, 0, SOFT, SOFT];
     let mut marks = [7u8; 6];
     let mut used: usize = 99;
-    let none: [u32; 0] = [];
-    let words = [0x8000_0000u32, 0];
     walk_open(b"open", &samples, &mut marks, journal, &mut used);
-    walk_span(
-        b"gap of length 0",
-        &mut samples,
-        &mut marks,
-        journal,
-        &mut used,
-        2,
-        &none,
-    );
-    walk_span(
-        b"gap past the end",
-        &mut samples,
-        &mut marks,
-        journal,
-        &mut used,
-        5,
-        &words,
-    );
-    walk_span(
-        b"gap at 2",
-        &mut samples,
-        &mut marks,
-        journal,
-        &mut used,
-        2,
-        &words,
-    );
+    quiet_gaps(&mut samples, &mut marks, journal, &mut used);
     walk_undo(&mut samples, &mut marks, journal, &mut used);
     walk_undo(&mut samples, &mut marks, journal, &mut used);
 }
 
-// Two repairs that fill a journal of 16 words: of samples 0, 2 and 3, and of 2 again. The word beside
-// sample 1 is a NaN's, and is not looked at, since the workspace does not name this sample.
-fn pick_two(samples: &mut [u32], marks: &mut [u8], journal: &mut [u32], used: &mut usize) {
-    let mut three = [
-        0xbf80_0000,
-        0x7fc0_0000,
-        0x3f00_0000,
-        0,
-        1,
-        0,
-        0xffff_ffff,
-        2,
-        LEFT_OVER,
-    ];
+// Two repairs that fill a journal of 16 words: of samples 0, 2 and 3, and of 2 again. Any word but 0
+// names a sample, and what stands for sample 1, which none names, is not looked at.
+fn pick_twice(samples: &mut [u32], marks: &mut [u8], journal: &mut [u32], used: &mut usize) {
+    let mut three = [MINUS_ONE, NAN32, HALF, 0, 1, 0, 0xffff_ffff, 2, LEFT];
     walk_picked(b"0, 2 and 3", samples, marks, journal, used, &mut three, 4);
-    let mut again = [0, 0, 0x8000_0000, 0, 0, 0, 1, 0, LEFT_OVER];
-    walk_picked(b"2 again", samples, marks, journal, used, &mut again, 5);
+    let mut one = [0, 0, MINUS_ZERO, 0, 0, 0, 1, 0, LEFT];
+    walk_picked(b"2 again", samples, marks, journal, used, &mut one, 5);
 }
 
-// What a full journal leaves to answer. 65,536 is in range, and the next word is not.
-fn pick_more(samples: &mut [u32], marks: &mut [u8], journal: &mut [u32], used: &mut usize) {
-    let mut far = [
-        0x7fc0_0000,
-        0x4780_0000,
-        0x4780_0001,
-        0x7f80_0000,
-        0,
-        1,
-        1,
-        1,
-        LEFT_OVER,
-    ];
+// What a full journal does not matter to: a result out of range, and nothing named.
+fn pick_roomless(samples: &mut [u32], marks: &mut [u8], journal: &mut [u32], used: &mut usize) {
+    let mut far = [NAN32, LARGEST, TOO_LARGE, INFINITY32, 0, 1, 1, 1, LEFT];
     walk_picked(
-        b"2 and 3 out of range, no room",
+        b"2 and 3 out of range",
         samples,
         marks,
         journal,
@@ -263,7 +253,7 @@ fn pick_more(samples: &mut [u32], marks: &mut [u8], journal: &mut [u32], used: &
         &mut far,
         4,
     );
-    let mut none = [SOFT, SOFT, SOFT, SOFT, 0, 0, 0, 0, LEFT_OVER];
+    let mut none = [SOFT, SOFT, SOFT, SOFT, 0, 0, 0, 0, LEFT];
     walk_picked(
         b"nothing named",
         samples,
@@ -273,11 +263,15 @@ fn pick_more(samples: &mut [u32], marks: &mut [u8], journal: &mut [u32], used: &
         &mut none,
         4,
     );
-    let mut one = [SOFT, SOFT, SOFT, SOFT, 0, 1, 0, 0, LEFT_OVER];
+}
+
+// What is too small: the journal, and then the workspace.
+fn pick_small(samples: &mut [u32], marks: &mut [u8], journal: &mut [u32], used: &mut usize) {
+    let mut one = [SOFT, SOFT, SOFT, SOFT, 0, 1, 0, 0, LEFT];
     walk_picked(b"1, no room", samples, marks, journal, used, &mut one, 4);
-    let mut short = [LEFT_OVER; 7];
+    let mut short = [LEFT; 7];
     walk_picked(
-        b"workspace of 7 words",
+        b"workspace of 7",
         samples,
         marks,
         journal,
@@ -287,61 +281,52 @@ fn pick_more(samples: &mut [u32], marks: &mut [u8], journal: &mut [u32], used: &
     );
 }
 
-// Four samples, 1 to 4, repaired as workspaces say and taken back.
+// Four samples repaired as workspaces say, and taken back.
 fn picked() {
-    let mut samples = [0x3f80_0000, 0x4000_0000, 0x4040_0000, 0x4080_0000];
+    let mut samples = [ONE, TWO, THREE, FOUR];
     let mut marks = [7u8; 4];
-    let mut journal = [LEFT_OVER; 16];
+    let mut journal = [LEFT; 16];
     let mut used: usize = 99;
     walk_open(b"open", &samples, &mut marks, &mut journal, &mut used);
-    pick_two(&mut samples, &mut marks, &mut journal, &mut used);
-    pick_more(&mut samples, &mut marks, &mut journal, &mut used);
+    pick_twice(&mut samples, &mut marks, &mut journal, &mut used);
+    pick_roomless(&mut samples, &mut marks, &mut journal, &mut used);
+    pick_small(&mut samples, &mut marks, &mut journal, &mut used);
     walk_undo(&mut samples, &mut marks, &mut journal, &mut used);
     walk_undo(&mut samples, &mut marks, &mut journal, &mut used);
 }
 
-// Sizes that do not fit one another, two at once first.
+// A mark too few, where used exceeds the journal's length too: the lower number is the answer.
+fn few_marks(samples: &mut [u32], journal: &mut [u32], used: &mut usize) {
+    let mut marks = [7u8];
+    walk_open(b"open", samples, &mut marks, journal, used);
+    walk_span(b"gap at 0", samples, &mut marks, journal, used, 0, &[0]);
+    walk_undo(samples, &mut marks, journal, used);
+}
+
+// Sizes that do not fit one another.
 fn sizes() {
-    let mut samples = [0x3f80_0000, 0xbf80_0000];
-    let mut few = [7u8];
+    let mut samples = [ONE, MINUS_ONE];
     let mut marks = [7u8, 8];
-    let mut journal = [1, 0x4000_0000, 255, 1, 5];
+    let mut journal = [1, TWO, 255, 1, 5];
     let mut used: usize = 6;
-    let words = [0u32];
-    walk_open(
-        b"open, a mark too few",
-        &samples,
-        &mut few,
-        &mut journal,
-        &mut used,
-    );
+    few_marks(&mut samples, &mut journal, &mut used);
     walk_span(
-        b"gap, a mark too few",
-        &mut samples,
-        &mut few,
-        &mut journal,
-        &mut used,
-        0,
-        &words,
-    );
-    walk_undo(&mut samples, &mut few, &mut journal, &mut used);
-    walk_span(
-        b"gap, used past the journal",
+        b"gap at 0",
         &mut samples,
         &mut marks,
         &mut journal,
         &mut used,
         0,
-        &words,
+        &[0],
     );
     walk_undo(&mut samples, &mut marks, &mut journal, &mut used);
 }
 
-// Journals that no repair wrote: used is 1; an entry that could have been written; an old mark of 256.
+// Journals that no repair wrote: used is 1; an entry that a repair could have written; a mark of 256.
 fn foreign() {
-    let mut samples = [0x3f80_0000, 0xbf80_0000];
+    let mut samples = [ONE, MINUS_ONE];
     let mut marks = [7u8, 8];
-    let mut journal = [1, 0x4000_0000, 255, 1, 5];
+    let mut journal = [1, TWO, 255, 1, 5];
     let mut used: usize = 1;
     walk_undo(&mut samples, &mut marks, &mut journal, &mut used);
     used = 5;
@@ -360,8 +345,8 @@ fn doubles() {
 }
 
 fn main() {
-    let mut eight = [LEFT_OVER; 8];
-    let mut seven = [LEFT_OVER; 7];
+    let mut eight = [LEFT; 8];
+    let mut seven = [LEFT; 7];
     io::write_all(1, b"Quiet, with a journal of 8 words\n");
     quiet(&mut eight);
     io::write_all(1, b"Quiet, with a journal of 7 words\n");

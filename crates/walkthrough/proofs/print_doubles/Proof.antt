@@ -1,3 +1,4 @@
+-- `print_doubles` is safe and ends: each index is below 3. Assumes nothing.
 use Prim.Native.Nat.{_≤_, _-_}
 use borrow.Author.Needs.{needs}
 use Rattle.walkthrough.proofs.print_doubles.Statement.{statement}

@@ -1,3 +1,4 @@
+-- `print_marks` is safe and ends: each index is below the number of marks, and a mark fits. Assumes nothing.
 use Prim.Native.Nat.{_≤_, _-_}
 use native.Mathlib.Omega.{arith}
 use lib.ListN.{length}

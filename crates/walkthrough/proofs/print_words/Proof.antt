@@ -1,3 +1,4 @@
+-- `print_words` is safe and ends: each index is below the number of words, and a word fits. Assumes nothing.
 use Prim.Native.Nat.{_≤_, _-_}
 use native.Mathlib.Omega.{arith}
 use lib.ListN.{length}

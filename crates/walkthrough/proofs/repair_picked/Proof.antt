@@ -51,9 +51,10 @@ same-length-3 c = search needs
 
 returns : tie.Need-returns
 returns c =
-    let at = c .before .before in
-    (unfit (recording at) _ _ (at .check-sizes .ensures) _ (c .enum-told2 .given .1),
-    unfit-keeps (recording at) _ (at .check-sizes .ensures) _ (c .enum-told2 .given .1) (needed at) _)
+    let at = c .before .before in (
+      unfit (recording at) _ _ (at .check-sizes .ensures) _ (c .enum-told2 .given .1),
+      unfit-keeps (recording at) _ (at .check-sizes .ensures) _ (c .enum-told2 .given .1) (needed at) _,
+    )
 
 add-if1 : tie.Need-add-if1
 add-if1 c = search needs
@@ -100,9 +101,10 @@ returns-3 c =
     let call = c .before .before .before .before .before .before .before .before .before .before in
     let test = call .before .before .before .before .before .before in
     let at = test .before in
-    let s = recording (at .before .before) in
-    (call .commit-picked .ensures ∙ work-enough s _ _ (test .if1 .left) ∙ accepted at _,
-    commit-clears s _ _ _ _ (call .commit-picked .ensures) (needed (at .before .before)) _ _ (c .before .before .clear-words .ensures))
+    let s = recording (at .before .before) in (
+      call .commit-picked .ensures ∙ work-enough s _ _ (test .if1 .left) ∙ accepted at _,
+      commit-clears s _ _ _ _ (call .commit-picked .ensures) (needed (at .before .before)) _ _ (c .before .before .clear-words .ensures),
+    )
 
 pub repair-picked-spec : {M : Type 1} → statement M
 repair-picked-spec =
