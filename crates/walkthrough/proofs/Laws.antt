@@ -10,7 +10,8 @@ use lib.Dec.{ltb, eqb}
 use lib.ListN.{length, replicate}
 use lib.Seq.{sets}
 use Rattle.leaves.specs.Floats.{inRange}
-use Rattle.recording.specs.Recording.{State, Ended, ended, refused, differ, tooMany, overUsed, fitting, Placed, entrySize, entered, ranged, Plan, change, span, carried, performed, clears, workAfter}
+use Rattle.recording.specs.Recording.{State, Ended, ended, refused, differ, tooMany, overUsed, fitting, clears, workAfter}
+use Rattle.recording.specs.Recording.{Placed, entrySize, entered, ranged, Plan, change, span, carried, performed}
 use Rattle.recording.specs.Inner.{pickedBy}
 use Rattle.recording.specs.declared.Reason.{Reason}
 use Rattle.recording.specs.declared.Reason.the-variants.{Gap, Workspace, Result}
