@@ -53,12 +53,12 @@ enters-ends {s} {mark} {cs} e =
     rw (fits-done (e .fits), e .in-range, ne-eqb (length cs) 0 (λ (z : length cs ≡ 0). omega arith))
     (rw (le-ltb (length (s .journal) - s .used) (entrySize (length cs)) (omega arith)) refl)
 
--- every result is in range, or one is refused
-ranged-or-not : (cs : List Placed) → (ranged cs ≡ Done 0) ⊎ ((why : Reason) × (ranged cs ≡ Refused why))
+-- every result is in range, or one is refused with its place
+pub ranged-ends : (cs : List Placed) → (ranged cs ≡ Done 0) ⊎ ((place : ℕ) × (ranged cs ≡ Refused (Result place)))
 unfolding ranged
-ranged-or-not [] = inl refl
-ranged-or-not (c ∷ cs) =
-    elim (truth (inRange (c .value))) [ inl t ↦ rw t (ranged-or-not cs) | inr f ↦ inr (Result (c .place), rw f) ]
+ranged-ends [] = inl refl
+ranged-ends (c ∷ cs) =
+    elim (truth (inRange (c .value))) [ inl t ↦ rw t (ranged-ends cs) | inr f ↦ inr (c .place, rw f) ]
 
 -- the three ways in which a repair ends
 pub data Ending (s : State) (p : Plan) : Type 0 where
@@ -73,9 +73,9 @@ ending s p k = elim (fits-or-not s) [ inl f ↦ planned f p k | inr n ↦ turned
     planned : Fits s → (p : Plan) → Keeps (length (s .samples)) p → Ending s p
     planned f (refuse why) k = turned-away why (rw (fits-done f))
     planned f (change mark cs) k =
-        elim (ranged-or-not cs) [
+        elim (ranged-ends cs) [
           | inl g ↦ sized g (truth (eqb (length cs) 0)) (truth (ltb free (entrySize (length cs))))
-          | inr n ↦ turned-away (n .0) (rw (fits-done f, n .1))
+          | inr n ↦ turned-away (Result (n .0)) (rw (fits-done f, n .1))
         ]
       where
         free : ℕ

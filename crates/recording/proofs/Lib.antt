@@ -4,4 +4,5 @@ pub mod Journal
 pub mod Tests
 pub mod Entering
 pub mod UndoCommit
+pub mod Performing
 pub mod History

@@ -8,7 +8,8 @@ use borrow.Author.Needs.{needs}
 use Rattle.recording.specs.Recording.{State, state, Plan, carried, performed}
 use Rattle.recording.specs.Inner.{Fits}
 use Rattle.recording.proofs.open.Laws.{accepted-fits}
-use Rattle.walkthrough.proofs.Laws.{unfit, fit, work-short, work-enough, unfit-keeps, commit-clears}
+use Rattle.recording.proofs.Performing.{unfit, fit, unfit-keeps, commit-clears}
+use Rattle.walkthrough.proofs.Laws.{work-short, work-enough}
 use Rattle.walkthrough.proofs.repair_picked.Statement.{statement}
 use Rattle.walkthrough.proofs.repair_picked.Tie as tie
 
@@ -53,7 +54,7 @@ returns : tie.Need-returns
 returns c =
     let at = c .before .before in (
       unfit (recording at) _ _ (at .check-sizes .ensures) _ (c .enum-told2 .given .1),
-      unfit-keeps (recording at) _ (at .check-sizes .ensures) _ (c .enum-told2 .given .1) (needed at) _,
+      unfit-keeps 0 (recording at) _ (at .check-sizes .ensures) _ (c .enum-told2 .given .1) (needed at) _,
     )
 
 add-if1 : tie.Need-add-if1
@@ -103,7 +104,7 @@ returns-3 c =
     let at = test .before in
     let s = recording (at .before .before) in (
       call .commit-picked .ensures ∙ work-enough s _ _ (test .if1 .left) ∙ accepted at _,
-      commit-clears s _ _ _ _ (call .commit-picked .ensures) (needed (at .before .before)) _ _ (c .before .before .clear-words .ensures),
+      commit-clears 0 s _ _ _ _ (call .commit-picked .ensures) (needed (at .before .before)) _ _ (c .before .before .clear-words .ensures),
     )
 
 pub repair-picked-spec : {M : Type 1} → statement M

@@ -6,7 +6,8 @@ use borrow.Author.Needs.{needs}
 use Rattle.recording.specs.Recording.{State, state, Plan, carried, performed}
 use Rattle.recording.specs.Inner.{Fits}
 use Rattle.recording.proofs.open.Laws.{accepted-fits}
-use Rattle.walkthrough.proofs.Laws.{unfit, fit, gap-empty, gap-outside, gap-past, gap-within}
+use Rattle.recording.proofs.Performing.{unfit, fit}
+use Rattle.walkthrough.proofs.Laws.{gap-empty, gap-outside, gap-past, gap-within}
 use Rattle.walkthrough.proofs.repair_span.Statement.{statement}
 use Rattle.walkthrough.proofs.repair_span.Tie as tie
 
