@@ -12,13 +12,15 @@ use lib.Dec.{leb, ltb, eqb}
 use borrow.Author.Tests.{ne-eqb, le-ltb, leb-true, eqb-false, ltb-false}
 use Rattle.leaves.proofs.Lists.{read-before, read-after}
 use Rattle.leaves.specs.Floats.{inRange}
-use Rattle.recording.specs.Recording.{State, ended, Placed, places, each, made, entrySize, entry, committed, entered, ranged, Plan, refuse, change, carried, performed}
+use Rattle.recording.specs.Recording.{State, ended, Placed, places, each, made, entrySize, entry, committed}
+use Rattle.recording.specs.Recording.{entered, ranged, Plan, refuse, change, carried, performed}
 use Rattle.recording.specs.History.{Ascending, Bytes, Keeps}
 use Rattle.recording.specs.Inner.{Fits}
 use Rattle.recording.specs.declared.Reason.{Reason}
 use Rattle.recording.specs.declared.Reason.the-variants.{Result, Room}
 use Rattle.recording.specs.declared.Answer.the-variants.{Done, Refused}
-use Rattle.recording.proofs.Put.{Among, among-or-not, among-below, put-elsewhere, put-each, places-each, length-places}
+use Rattle.recording.proofs.Put.{Among, among-or-not, among-below, put-elsewhere, put-each, places-each}
+use Rattle.recording.proofs.Put.{length-places}
 use Rattle.recording.proofs.Journal.{length-entry}
 use Rattle.recording.proofs.open.Laws.{EitherWay, truth, fits-done, fits-or-not}
 

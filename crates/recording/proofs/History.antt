@@ -9,10 +9,13 @@ use Prim.Native.Nat.{ℕ, zero, suc, _-_, _≤_, _<_}
 use native.Mathlib.Omega.{arith}
 use lib.ListN.{length, getD, replicate, length-reverse}
 use Rattle.recording.specs.Answers.{value}
-use Rattle.recording.specs.Recording.{State, Ended, ended, Placed, made, committed, Plan, change, performed, undone, opened, differ, tooMany}
-use Rattle.recording.specs.History.{Repair, Call, repair, undo, did, run, surviving, survivorsOver, survivors, replay, fresh}
+use Rattle.recording.specs.Recording.{State, Ended, ended, Placed, made, committed, Plan, change, performed}
+use Rattle.recording.specs.Recording.{undone, opened, differ, tooMany}
+use Rattle.recording.specs.History.{Repair, Call, repair, undo, did, run, surviving, survivorsOver, survivors}
+use Rattle.recording.specs.History.{replay, fresh}
 use Rattle.recording.specs.History.{OpeningIsFresh, Bytes, Keeps, Lawful, AfterAny, Demand3}
-use Rattle.recording.specs.Consequences.{AllName, SurvivorsStand, UndoingAll, MeasuredIsRaw, UnmadeIsRaw, FreeIsZero}
+use Rattle.recording.specs.Consequences.{AllName, SurvivorsStand, UndoingAll, MeasuredIsRaw, UnmadeIsRaw}
+use Rattle.recording.specs.Consequences.{FreeIsZero}
 use Rattle.recording.specs.Consequences.{Closing, closings, markOf, returned, EntriesAreSurvivors}
 use Rattle.recording.specs.declared.Reason.the-variants.{Counts, TooMany}
 use Rattle.recording.specs.declared.Answer.{Answer}
@@ -20,7 +23,8 @@ use Rattle.recording.specs.declared.Answer.the-variants.{Done, Refused}
 use Rattle.recording.proofs.Journal.{all-zero}
 use Rattle.recording.proofs.open.Laws.{EitherWay, truth}
 use Rattle.recording.proofs.Tests.{undone-idle}
-use Rattle.recording.proofs.Entering.{Enters, SameAt, Sound, Ending, unnamed, turned-away, enters, ending, enters-ends, after-sound, after-unmade, after-earlier, after-used}
+use Rattle.recording.proofs.Entering.{Enters, SameAt, Sound, Ending, unnamed, turned-away, enters, ending}
+use Rattle.recording.proofs.Entering.{enters-ends, after-sound, after-unmade, after-earlier, after-used}
 use Rattle.recording.proofs.UndoCommit.{undo-commit, last-count, last-mark, last-begin}
 
 -- ---- The relation

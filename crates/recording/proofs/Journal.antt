@@ -11,7 +11,8 @@ use lib.Seq.{sets, length-sets, getD-append-add, getD-at, ext-getD}
 use borrow.Author.Tests.{lt-leb, le-ltb}
 use Rattle.leaves.proofs.Numbers.{lt-or-ge}
 use Rattle.leaves.proofs.Lists.{read-before, read-within, read-after}
-use Rattle.recording.specs.Recording.{State, Placed, Saved, places, saved, threeWords, entrySize, entry, savedAt, placePast, notRising, markPast}
+use Rattle.recording.specs.Recording.{State, Placed, Saved, places, saved, threeWords, entrySize, entry, savedAt}
+use Rattle.recording.specs.Recording.{placePast, notRising, markPast}
 use Rattle.recording.specs.History.{Ascending, Bytes}
 
 -- ---- Sizes

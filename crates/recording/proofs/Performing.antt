@@ -8,7 +8,8 @@ use Prim.Native.Nat.{ℕ, _-_}
 use native.Mathlib.Omega.{arith}
 use lib.Dec.{ltb, eqb}
 use lib.ListN.{length}
-use Rattle.recording.specs.Recording.{State, Ended, ended, differ, tooMany, overUsed, fitting, cleared, clears, workAfter}
+use Rattle.recording.specs.Recording.{State, Ended, ended, differ, tooMany, overUsed, fitting, cleared, clears}
+use Rattle.recording.specs.Recording.{workAfter}
 use Rattle.recording.specs.Recording.{Placed, entrySize, entered, ranged, Plan, change, carried, performed}
 use Rattle.recording.specs.declared.Reason.{Reason}
 use Rattle.recording.specs.declared.Answer.{Answer}

@@ -9,7 +9,9 @@ use lib.ListN.{length, replicate}
 use lib.Seq.{sets}
 use lib.Dec.{eqb}
 use borrow.Author.Tests.{eq-eqb, ne-eqb, le-ltb}
-use Rattle.recording.specs.Recording.{State, ended, Saved, fitting, made, entrySize, lastCount, lastMark, lastSaved, placePast, notRising, markPast, malformed, oldWords, oldMarks, put, state, takenBack, undone}
+use Rattle.recording.specs.Recording.{State, ended, Saved, fitting, made, entrySize, lastCount, lastMark}
+use Rattle.recording.specs.Recording.{lastSaved, placePast, notRising, markPast, malformed, oldWords, oldMarks}
+use Rattle.recording.specs.Recording.{put, state, takenBack, undone}
 use Rattle.recording.specs.Inner.{Fits}
 use Rattle.recording.specs.declared.Answer.the-variants.{Done}
 use Rattle.recording.proofs.open.Laws.{fits-done, fits-or-not}

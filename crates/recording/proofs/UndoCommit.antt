@@ -5,11 +5,15 @@ use Prim.Native.Nat.{ℕ, _+_, _-_, _*_, _≤_, _<_}
 use native.Mathlib.Omega.{arith}
 use lib.ListN.{length, getD, replicate, length-replicate}
 use lib.Seq.{sets, length-sets}
-use Rattle.recording.specs.Recording.{State, state, ended, Placed, places, put, saved, savedAt, oldWords, oldMarks, entrySize, entry, committed, lastCount, lastMark, lastSaved, undone}
+use Rattle.recording.specs.Recording.{State, state, ended, Placed, places, put, saved, savedAt, oldWords}
+use Rattle.recording.specs.Recording.{oldMarks, entrySize, entry, committed, lastCount, lastMark, lastSaved}
+use Rattle.recording.specs.Recording.{undone}
 use Rattle.recording.specs.Inner.{Fits}
 use Rattle.recording.specs.declared.Answer.the-variants.{Done}
-use Rattle.recording.proofs.Put.{length-put, length-places, ascending-count, put-back, marks-back, words-kept, marks-kept}
-use Rattle.recording.proofs.Journal.{length-entry, entry-count, entry-mark, entry-saved, stored-back, all-zero, none-past, rising, all-bytes}
+use Rattle.recording.proofs.Put.{length-put, length-places, ascending-count, put-back, marks-back, words-kept}
+use Rattle.recording.proofs.Put.{marks-kept}
+use Rattle.recording.proofs.Journal.{length-entry, entry-count, entry-mark, entry-saved, stored-back, all-zero}
+use Rattle.recording.proofs.Journal.{none-past, rising, all-bytes}
 use Rattle.recording.proofs.Entering.{Enters, Sound}
 use Rattle.recording.proofs.Tests.{Sealed, sealed-undone}
 

@@ -1,7 +1,8 @@
 -- What document 01 says of an answer: its number, and the value that goes with it. Definitions only.
 use Prim.Native.Nat.{ℕ}
 use Rattle.recording.specs.declared.Reason.{Reason}
-use Rattle.recording.specs.declared.Reason.the-variants.{Counts, TooMany, Used, Setting, Gap, Workspace, Read, Result, Room, Nothing, Malformed}
+use Rattle.recording.specs.declared.Reason.the-variants.{Counts, TooMany, Used, Setting, Gap, Workspace, Read}
+use Rattle.recording.specs.declared.Reason.the-variants.{Result, Room, Nothing, Malformed}
 use Rattle.recording.specs.declared.Answer.{Answer}
 use Rattle.recording.specs.declared.Answer.the-variants.{Done, Refused}
 

@@ -6,7 +6,8 @@ use mathlib.Core.Path.{_≡_, refl}
 use mathlib.Core.List.{List, [], _∷_}
 use lib.ListN.{replicate}
 use Rattle.recording.specs.Answers.{number, value}
-use Rattle.recording.specs.Recording.{State, Ended, Plan, change, span, performed, undone, measured, gapByModel, decrackle, dequantize}
+use Rattle.recording.specs.Recording.{State, Ended, Plan, change, span, performed, undone, measured, gapByModel}
+use Rattle.recording.specs.Recording.{decrackle, dequantize}
 use Rattle.recording.specs.History.{Repair, repair, undo, survivors, fresh}
 
 -- 2^-30 is the word 30800000

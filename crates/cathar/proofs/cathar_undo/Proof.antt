@@ -23,7 +23,9 @@ same-length-3 : tie.Need-same-length-3
 same-length-3 c = search needs
 
 returns : tie.Need-returns
-returns c = gives _ _ _ _ _ (c .before .before .before .before .before .before .before .before .undo .ensures) (c .number-of .ensures) (c .before .value-of .ensures)
+returns c =
+    let end = c .before .before .before .before .before .before .before .before .undo .ensures in
+    gives _ _ _ _ _ end (c .number-of .ensures) (c .before .value-of .ensures)
 
 pub cathar-undo-spec : {M : Type 1} → statement M
 cathar-undo-spec =

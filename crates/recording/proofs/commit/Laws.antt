@@ -12,7 +12,8 @@ use lib.Dec.{eqb}
 use lib.ListN.{length, set, getD, take, drop, replicate, drop-of-length-le}
 use lib.Seq.{sets, drop-cons}
 use Rattle.leaves.specs.Floats.{inRange}
-use Rattle.recording.specs.Recording.{State, state, ended, refused, Placed, places, put, each, saved, threeWords, entrySize, entry, committed, entered, ranged, change, span, picked, carried}
+use Rattle.recording.specs.Recording.{State, state, ended, refused, Placed, places, put, each, saved, threeWords}
+use Rattle.recording.specs.Recording.{entrySize, entry, committed, entered, ranged, change, span, picked, carried}
 use Rattle.recording.specs.Inner.{consecutive, flags, pickedBy, pickedFrom, filled}
 use Rattle.recording.proofs.Put.{length-places}
 use Rattle.recording.proofs.Journal.{length-saved, length-threeWords}

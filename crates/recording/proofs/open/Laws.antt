@@ -11,7 +11,8 @@ use borrow.Author.Tests.{lt-ltb, le-ltb, eq-eqb, ne-eqb, eqb-true, ltb-false, no
 use lib.ListN.{length, replicate, length-replicate}
 use lib.Seq.{sets, sets-eq, drop-length}
 use mathlib.Core.List.{append-nil}
-use Rattle.recording.specs.Recording.{State, state, ended, refused, mostSamples, differ, tooMany, overUsed, fitting, opened}
+use Rattle.recording.specs.Recording.{State, state, ended, refused, mostSamples, differ, tooMany, overUsed}
+use Rattle.recording.specs.Recording.{fitting, opened}
 use Rattle.recording.specs.Inner.{Fits}
 use Rattle.recording.specs.declared.Reason.{Reason}
 use Rattle.recording.specs.declared.Reason.the-variants.{Counts, TooMany, Used}

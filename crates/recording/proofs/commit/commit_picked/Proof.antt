@@ -1,7 +1,8 @@
 -- `recording::commit::commit_picked` meets its contract: refused by the range test, nothing named, no room, or saved,
 -- written and sealed. Assumes nothing.
 use mathlib.Core.Path.{sym, _∙_}
-use Rattle.recording.proofs.commit.Laws.{carried-out, carried-on, picked-few, entered-none, entered-room, entered-done}
+use Rattle.recording.proofs.commit.Laws.{carried-out, carried-on, picked-few, entered-none, entered-room}
+use Rattle.recording.proofs.commit.Laws.{entered-done}
 use Prim.Native.Nat.{_≤_}
 use native.Mathlib.Omega.{arith}
 use native.Mathlib.Nat.{le-trans}
