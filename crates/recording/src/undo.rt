@@ -1,6 +1,5 @@
 // Undo: the last entry of the journal is taken back.
 ghost use mathlib.Core.Path.{_≡_};
-ghost use mathlib.Core.Bool.{false};
 ghost use Prim.Native.Nat.{_+_, _*_, _≤_, _<_};
 ghost use lib.ListN.{length};
 ghost use Rattle.recording.specs.Recording.{state, ended, savedAt, put, oldWords, oldMarks, malformed, undone};

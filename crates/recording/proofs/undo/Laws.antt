@@ -1,9 +1,9 @@
 -- Undo: the saved samples of an entry, tested and given back one at a time, and one law for each way out of the tests
 -- and of the call. Assumes nothing.
-use mathlib.Core.Path.{_≡_, refl, sym, ap, _∙_}
+use mathlib.Core.Path.{_≡_, refl, sym, ap, _∙_, subst}
 use mathlib.Core.Bool.{Bool, true, false, not, _||_, or-assoc, true≢false}
 use mathlib.Core.List.{List, [], _∷_}
-use Prim.Native.Nat.{ℕ, suc, _+_, _-_, _*_, _≤_, _<_}
+use Prim.Native.Nat.{ℕ, zero, suc, _+_, _-_, _*_, _≤_, _<_}
 use native.Mathlib.Omega.{arith}
 use native.Mathlib.Numerals.{add-one}
 use native.Mathlib.Nat.{sub-zero}
@@ -275,6 +275,40 @@ module _ (n : ℕ) (journal : List ℕ) (used : ℕ) (wrong : Bool)
 
       pub not-malformed : lastMark journal used ≤ 5 → false ≡ malformed n journal used
       not-malformed h = rw (two, right, le-leb 1 _ first, le-leb _ 5 h) refl
+
+-- ---- the clause that follows from the others
+
+-- Saved samples whose places rise and lie below n are so few that the rest of n holds them from the first place on.
+rising-fit : (n : ℕ) (t : Saved) (ts : List Saved) → placePast n (t ∷ ts) ≡ false → notRising (t ∷ ts) ≡ false
+    → t .place + length (t ∷ ts) ≤ n
+unfolding placePast notRising
+rising-fit n t [] below rises =
+    let first : t .place < n = leb-false n (t .place) (neither (leb n (t .place)) false below .0) in
+    omega arith
+rising-fit n t (u ∷ ts) below rises =
+    let next : t .place < u .place = leb-false (u .place) (t .place) (neither (leb (u .place) (t .place)) (notRising (u ∷ ts)) rises .0) in
+    let rest = rising-fit n u ts (neither (leb n (t .place)) (placePast n (u ∷ ts)) below .1)
+    (neither (leb (u .place) (t .place)) (notRising (u ∷ ts)) rises .1) in
+    omega arith
+
+length-savedAt : (journal : List ℕ) (i m : ℕ) → length (savedAt journal i m) ≡ m
+unfolding savedAt
+length-savedAt journal i zero = refl
+length-savedAt journal i (suc m) = ap suc (length-savedAt journal (i + 3) m)
+
+-- So m is no more than the samples wherever the two clauses on places do not apply: the clause on m beside the samples
+-- refuses nothing that they do not.
+pub few-if-rising : (n : ℕ) (journal : List ℕ) (used : ℕ) → placePast n (lastSaved journal used) ≡ false
+    → notRising (lastSaved journal used) ≡ false → lastCount journal used ≤ n
+unfolding lastSaved
+few-if-rising n journal used below rises =
+    let m = lastCount journal used in
+    let begin = used - entrySize m in
+    subst (λ (k : ℕ). k ≤ n) (length-savedAt journal begin m) (all (savedAt journal begin m) below rises)
+  where
+    all : (ts : List Saved) → placePast n ts ≡ false → notRising ts ≡ false → length ts ≤ n
+    all [] p r = omega arith
+    all (t ∷ ts) p r = let fits = rising-fit n t ts p r in omega arith
 
 -- ---- undo
 
