@@ -1,7 +1,7 @@
 /* The functions of libcathar.a, for programs on x86-64. Each is total: it asks nothing of its
  * arguments but what C asks of a pointer, always returns, and touches no memory but its own and what is
  * lent to it. What each gives and leaves in that memory is proved, for every argument, of the function
- * of the same name in crates/cathar. */
+ * of the same name in crates/cathar. Of the C library they call memset and nothing else. */
 #ifndef CATHAR_H
 #define CATHAR_H
 
