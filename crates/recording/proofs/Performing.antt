@@ -1,16 +1,18 @@
--- What the proof of a repair cites, whatever its plan: how refusals 1 to 3 and a commit end it, and what they leave in its
--- workspace, of words or of doubles. Assumes nothing.
+-- What the proof of a repair cites, whatever its plan: how refusals 1 to 3 and a commit end it, what they leave in its
+-- workspace, of words or of doubles, and that the places it names ascend. Assumes nothing.
 use mathlib.Core.Path.{_≡_, refl, sym, ap, _∙_}
-use mathlib.Core.Bool.{true, false}
-use mathlib.Core.List.{List}
+use mathlib.Core.Bool.{Bool, true, false, cond}
+use mathlib.Core.List.{List, [], _∷_}
 use mathlib.Core.Logic.{inl, inr}
-use Prim.Native.Nat.{ℕ, _-_}
+use Prim.Native.Nat.{ℕ, _+_, _-_, _≤_}
 use native.Mathlib.Omega.{arith}
 use lib.Dec.{ltb, eqb}
-use lib.ListN.{length}
+use lib.ListN.{length, take, drop, length-take}
 use Rattle.recording.specs.Recording.{State, Ended, ended, differ, tooMany, overUsed, fitting, cleared, clears}
 use Rattle.recording.specs.Recording.{workAfter}
-use Rattle.recording.specs.Recording.{Placed, entrySize, entered, ranged, Plan, change, carried, performed}
+use Rattle.recording.specs.Recording.{Placed, entrySize, entered, ranged, Plan, change, span, picked, carried, performed}
+use Rattle.recording.specs.History.{Ascending}
+use Rattle.recording.specs.Inner.{flags, pickedBy}
 use Rattle.recording.specs.declared.Reason.{Reason}
 use Rattle.recording.specs.declared.Answer.{Answer}
 use Rattle.recording.specs.declared.Answer.the-variants.{Done, Refused}
@@ -78,3 +80,30 @@ commit-clears nought s mark cs a after e n work next done =
     let answer : a ≡ carried s (change mark cs) .answer = ap (λ (x : Ended). x .answer) e in
     let clear : clears a ≡ true = rw answer (carried-clears s mark cs) in
     rw clear done
+
+-- ---- Named places ascend
+
+-- those of a span that ends within n
+pub span-ascends : (n least i : ℕ) (ws : List ℕ) → least ≤ i → i + length ws ≤ n → Ascending n least (span i ws)
+unfolding span
+span-ascends n least i [] h k = tt
+span-ascends n least i (w ∷ ws) h k = (h, omega arith, span-ascends n (i + 1) (i + 1) ws (omega arith) (omega arith))
+
+-- those that are picked out of n
+one-or-none : (n least : ℕ) (b : Bool) (c : Placed) (cs : List Placed) → Ascending n least (c ∷ cs) → Ascending n least cs
+    → Ascending n least (cond b (c ∷ cs) cs)
+one-or-none n least true c cs one none = one
+one-or-none n least false c cs one none = none
+
+pub picked-ascends : (n least i : ℕ) (bs : List Bool) (ws : List ℕ) → least ≤ i → i + length ws ≤ n → Ascending n least (picked i bs ws)
+unfolding picked
+picked-ascends n least i [] ws h k = tt
+picked-ascends n least i (b ∷ bs) [] h k = tt
+picked-ascends n least i (b ∷ bs) (w ∷ ws) h k =
+    one-or-none n least b _ _ (h, omega arith, picked-ascends n (i + 1) (i + 1) bs ws (omega arith) (omega arith))
+    (picked-ascends n least (i + 1) bs ws (omega arith) (omega arith))
+
+pub pickedBy-ascends : (work : List ℕ) (n : ℕ) → Ascending n 0 (pickedBy work n)
+unfolding pickedBy
+pickedBy-ascends work n =
+    picked-ascends n 0 0 (flags (take n (drop n work))) (take n work) (omega arith) (simp length-take (omega arith))

@@ -89,9 +89,12 @@ abbrev pub Keeps : ℕ → Plan → Type 0
 Keeps n (refuse why) = Unit {0}
 Keeps n (change mark cs) = (made mark ≡ true) × Ascending n 0 cs
 
+abbrev pub LawfulRepair : Repair → Type 0
+LawfulRepair r = (samples : List ℕ) → Keeps (length samples) (r samples)
+
 abbrev pub Lawful : List Call → Type 0
 Lawful [] = Unit {0}
-Lawful (repair r ∷ cs) = ((samples : List ℕ) → Keeps (length samples) (r samples)) × Lawful cs
+Lawful (repair r ∷ cs) = LawfulRepair r × Lawful cs
 Lawful (undo ∷ cs) = Lawful cs
 
 -- ---- The demand
