@@ -32,7 +32,10 @@ pub span-lawful : (start : ℕ) (words : List ℕ) (mark : ℕ) → made mark �
     → LawfulRepair (λ samples. spanPlan (length samples) start words mark)
 unfolding spanPlan
 span-lawful start words mark m samples =
-    elim (truth (gapWrong n start (length words))) [ inl wrong ↦ rw wrong tt | inr right ↦ rw right (m, span-ascends n 0 start words (omega arith) (gap-inside n start (length words) right)) ]
+    elim (truth (gapWrong n start (length words))) [
+      | inl wrong ↦ rw wrong tt
+      | inr right ↦ rw right (m, span-ascends n 0 start words (omega arith) (gap-inside n start (length words) right))
+    ]
   where
     n : ℕ
     n = length samples
