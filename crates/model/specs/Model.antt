@@ -45,11 +45,6 @@ unfoldable pub each : (ℕ → Float) → ℕ → ℕ → List Float
 each f i zero = []
 each f i (suc n) = f i ∷ each f (i + 1) n
 
--- n numbers, each worked out from those before it
-unfoldable pub grown : (List Float → Float) → ℕ → List Float
-grown next zero = []
-grown next (suc n) = let before = grown next n in before ++ (next before ∷ [])
-
 -- ---- estimate_ar_known
 
 -- "Everything in it outside the gap is known"
@@ -164,11 +159,15 @@ unfolding cellAt
 cells b p i zero band = band
 cells b p i (suc d) band = cells b p i d (band ++ (cellAt b p band i d ∷ []))
 
--- the band of len rows
-unfoldable pub factored : List Float → ℕ → ℕ → List Float
+-- the n rows from the i-th on, behind those that stand in the band
+unfoldable pub rows : List Float → ℕ → ℕ → ℕ → List Float → List Float
 unfolding cells
-factored b p zero = []
-factored b p (suc i) = cells b p i (p + 1) (factored b p i)
+rows b p i zero band = band
+rows b p i (suc n) band = rows b p (i + 1) n (cells b p i (p + 1) band)
+
+unfoldable pub factored : List Float → ℕ → ℕ → List Float
+unfolding rows
+factored b p len = rows b p 0 len []
 
 -- "forward .. solves": y[i], with those before it in y
 unfoldable pub forwardAt : List Float → List Float → ℕ → List Float → Float
@@ -177,9 +176,11 @@ forwardAt band rhs p y =
     let i = length y in
     less (λ k. mat p band i k *₆₄ at y k) (i - p) (i - (i - p)) (at rhs i) /₆₄ mat p band i i
 
-unfoldable pub forward : List Float → List Float → ℕ → ℕ → List Float
-unfolding grown forwardAt
-forward band rhs p len = grown (forwardAt band rhs p) len
+-- the next n, behind those that stand in y
+unfoldable pub forward : List Float → List Float → ℕ → ℕ → List Float → List Float
+unfolding forwardAt
+forward band rhs p zero y = y
+forward band rhs p (suc n) y = forward band rhs p n (y ++ (forwardAt band rhs p y ∷ []))
 
 -- "back solves": x[i], with those from i + 1 on in x
 unfoldable pub backwardAt : List Float → List Float → ℕ → ℕ → ℕ → List Float → Float
@@ -198,7 +199,7 @@ unfoldable pub solveBanded : List Float → List Float → ℕ → ℕ → List 
 unfolding factored forward backward
 solveBanded b rhs p len =
     let band = factored b p len in
-    backward band (forward band rhs p len) p len len []
+    backward band (forward band rhs p len []) p len len []
 
 -- ---- The passes
 

@@ -84,7 +84,7 @@ fn forward_at(band: &[f64], rhs: &[f64], p: usize, y: &[f64]) -> f64
 pub fn forward_solve(work: &mut [f64], band: usize, rhs: usize, y: usize, len: usize, p: usize)
     requires { ⌜ (band + len * (p + 1) ≤ rhs) × (rhs + len ≤ y) × (y + len ≤ length (now work)) × (1 ≤ p) × (p ≤ 128) × (len ≤ 2048) ⌝ }
     ensures { λ _. ⌜ now (work .exit)
-        ≡ sets (now (work .entry)) y (forward (area (now (work .entry)) band (len * (p + 1))) (area (now (work .entry)) rhs len) p len) ⌝ }
+        ≡ sets (now (work .entry)) y (forward (area (now (work .entry)) band (len * (p + 1))) (area (now (work .entry)) rhs len) p len []) ⌝ }
 {
     let mut i: usize = 0;
     while i < len {
