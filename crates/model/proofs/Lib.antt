@@ -1,0 +1,2 @@
+-- Laws that the stages of the model share.
+pub mod Parts
