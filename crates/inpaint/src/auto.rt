@@ -41,21 +41,26 @@ fn whole_part(x: f32) -> u64
     }
 }
 
-// The longest run that is repaired.
-fn longest_run(max_gap_ms: f32, rate: u32) -> usize
+// The longest run that is repaired, of a limit in milliseconds at a rate.
+fn longest_run(millis: f32, rate: u32) -> usize
     requires { ⌜ rate ≤ 16777216 ⌝ }
-    ensures { λ r. ⌜ r ≡ limit max_gap_ms rate ⌝ }
+    ensures { λ r. ⌜ r ≡ limit millis rate ⌝ }
 {
-    let product = max_gap_ms / 1000.0 * count_as_f32(rate as usize);
+    let product = millis / 1000.0 * count_as_f32(rate as usize);
     whole_part(larger32(product, 1.0)) as usize
 }
 
-// Whether the settings are allowed: a finite number less itself is 0, and no other is.
-fn settings_allowed(rate: u32, max_gap_ms: f32) -> bool
-    ensures { λ r. ⌜ r ≡ allowed rate max_gap_ms ⌝ }
+// Whether the settings are allowed: a rate that an f32 holds, and a limit between the infinities, which
+// a NaN is not.
+fn settings_allowed(rate: u32, millis: f32) -> bool
+    ensures { λ r. ⌜ r ≡ allowed rate millis ⌝ }
 {
-    if rate <= MOST_RATE {
-        max_gap_ms - max_gap_ms == 0.0
+    if MOST_RATE < rate {
+        return false;
+    }
+    let infinity: f32 = 1.0 / 0.0;
+    if millis < infinity {
+        -infinity < millis
     } else {
         false
     }
@@ -136,15 +141,15 @@ fn check_scan(
     journal: &[u32],
     used: usize,
     rate: u32,
-    max_gap_ms: f32,
+    millis: f32,
 ) -> Answer
-    ensures { λ r. ⌜ r ≡ scannable rate max_gap_ms (state (now (samples .entry)) (now (marks .entry)) (now (journal .entry)) used) ⌝ }
+    ensures { λ r. ⌜ r ≡ scannable rate millis (state (now (samples .entry)) (now (marks .entry)) (now (journal .entry)) used) ⌝ }
 {
     let sized = check_sizes(samples, marks, journal, used);
     let Answer::Done(_) = sized else {
         return sized;
     };
-    if settings_allowed(rate, max_gap_ms) {
+    if settings_allowed(rate, millis) {
         Answer::Done(0)
     } else {
         Answer::Refused(Reason::Setting)
@@ -173,15 +178,15 @@ pub fn inpaint_auto(
     journal: &mut [u32],
     used: &mut usize,
     rate: u32,
-    max_gap_ms: f32,
+    millis: f32,
     work: &mut [f64],
 ) -> Scanned
     ensures { λ r. ⌜ scan (r .qualified) (r .repaired) (r .refused)
         (state (now (samples .exit)) (now (marks .exit)) (now (journal .exit)) (now (used .exit))) (now (work .exit))
-        ≡ automatic rate max_gap_ms (now (work .entry))
+        ≡ automatic rate millis (now (work .entry))
         (state (now (samples .entry)) (now (marks .entry)) (now (journal .entry)) (now (used .entry))) ⌝ }
 {
-    let checked = check_scan(samples, marks, journal, *used, rate, max_gap_ms);
+    let checked = check_scan(samples, marks, journal, *used, rate, millis);
     let Answer::Done(_) = checked else {
         return Scanned {
             qualified: 0,
@@ -189,7 +194,7 @@ pub fn inpaint_auto(
             refused: number_of(checked),
         };
     };
-    let most = longest_run(max_gap_ms, rate);
+    let most = longest_run(millis, rate);
     let n = samples.len();
     let mut qualified: usize = 0;
     let mut repaired: usize = 0;
