@@ -7,8 +7,11 @@ use Prim.Native.Nat.{ℕ, zero, suc, _+_, _-_, _≤_, _<_}
 use native.Mathlib.Omega.{arith}
 use lib.ListN.{length, getD}
 use lib.Ieee.{Float, add, sub}
-use Rattle.leaves.specs.Arithmetic.{_+₆₄_, _-₆₄_}
-use Rattle.model.specs.Model.{plus, less, plusWhere, each}
+use lib.Ieee.{binary64, mul, neg, ofBits}
+use lib.Dec.{leb}
+use borrow.Author.Tests.{lt-ltb, le-ltb}
+use Rattle.leaves.specs.Arithmetic.{_+₆₄_, _-₆₄_, _*₆₄_, at, nought}
+use Rattle.model.specs.Model.{plus, less, plusWhere, each, known, lagSum, shortfall, coefAt}
 
 -- ---- Lists given place by place
 
@@ -126,3 +129,29 @@ module _ (test : ℕ → Bool) (f : ℕ → Float) (i n : ℕ) (s whole : Float)
   pub where-done : n ≤ i → plusWhere test f i (n - i) s ≡ whole → s ≡ whole
   unfolding plusWhere
   where-done h rest = let none : n - i ≡ 0 = omega arith in sym (ap (λ (m : ℕ). plusWhere test f i m s) none) ∙ rest
+
+-- ---- Where the loops begin
+
+-- the word 0 is that of +0
+pub no-sum : ofBits binary64 0 ≡ nought
+unfolding ofBits
+no-sum = refl
+
+pub coef-start : (a : List Float) (p j : ℕ)
+    → plus (λ k. at a k *₆₄ at a (k + j)) 0 (p + 1 - j - 0) (ofBits binary64 0) ≡ coefAt a p j
+unfolding coefAt
+coef-start a p j =
+    let none : p + 1 - j - 0 ≡ p + 1 - j = omega arith in
+    rw (none, no-sum) refl
+
+pub shortfall-start : (a r : List Float) (i : ℕ) → plus (λ j. at a j *₆₄ at r (i - j)) 1 (i - 1) (at r i) ≡ shortfall a r i
+unfolding shortfall
+shortfall-start a r i = refl
+
+-- ---- Known places
+
+pub known-before : (g len i : ℕ) → i < g → true ≡ known g len i
+known-before g len i h = rw lt-ltb refl
+
+pub known-else : (g len i : ℕ) → g ≤ i → leb (g + len) i ≡ known g len i
+known-else g len i h = rw le-ltb refl
