@@ -1,17 +1,17 @@
--- The sums of the model: a turn and the end of a sum, that sums agree where what they sum agrees, and lists given place by
--- place. Assumes nothing.
+-- The sums of the model: a turn and the end of a sum, that sums agree where what they sum agrees, and lists given place
+-- by place. Assumes nothing.
 use mathlib.Core.Path.{_≡_, refl, sym, ap, _∙_}
-use mathlib.Core.Bool.{Bool, true, false, cond}
+use mathlib.Core.Bool.{Bool, true, false, _&&_, cond}
 use mathlib.Core.List.{List, [], _∷_, _++_}
-use Prim.Native.Nat.{ℕ, zero, suc, _+_, _-_, _≤_, _<_}
+use Prim.Native.Nat.{ℕ, zero, suc, _+_, _-_, _*_, _≤_, _<_, min}
 use native.Mathlib.Omega.{arith}
+use native.Mathlib.Nat.{mul-le-mul-left}
 use lib.ListN.{length, getD}
-use lib.Ieee.{Float, add, sub}
-use lib.Ieee.{binary64, mul, neg, ofBits}
+use lib.Ieee.{Float, binary64, neg, ofBits}
 use lib.Dec.{leb}
 use borrow.Author.Tests.{lt-ltb, le-ltb}
 use Rattle.leaves.specs.Arithmetic.{_+₆₄_, _-₆₄_, _*₆₄_, at, nought}
-use Rattle.model.specs.Model.{plus, less, plusWhere, each, known, lagSum, shortfall, coefAt}
+use Rattle.model.specs.Model.{plus, less, plusWhere, each, known, lagSum, shortfall, coefAt, rightSide}
 
 -- ---- Lists given place by place
 
@@ -49,7 +49,8 @@ pub each-agree : (f f' : ℕ → Float) (i n : ℕ) → ((k : ℕ) → i ≤ k �
 unfolding each
 each-agree f f' i zero same = refl
 each-agree f f' i (suc n) same =
-    rw (same i (omega arith) (omega arith), each-agree f f' (i + 1) n (λ k l h. same k (omega arith) (omega arith))) refl
+    let rest = each-agree f f' (i + 1) n (λ k l h. same k (omega arith) (omega arith)) in
+    rw (same i (omega arith) (omega arith), rest) refl
 
 -- ---- Sums agree where the functions, and the tests, agree on the places summed
 
@@ -76,9 +77,8 @@ pub plusWhere-agree : (test test' : ℕ → Bool) (f f' : ℕ → Float) (i n : 
 unfolding plusWhere
 plusWhere-agree test test' f f' i zero s tests same = refl
 plusWhere-agree test test' f f' i (suc n) s tests same =
-    let tests' : (k : ℕ) → i + 1 ≤ k → k < i + 1 + n → test k ≡ test' k = λ k l h. tests k (omega arith) (omega arith) in
-    let same' : (k : ℕ) → i + 1 ≤ k → k < i + 1 + n → f k ≡ f' k = λ k l h. same k (omega arith) (omega arith) in
-    plusWhere-agree test test' f f' (i + 1) n (cond (test i) (s +₆₄ f i) s) tests' same'
+    let rest = plusWhere-agree test test' f f' (i + 1) n (cond (test i) (s +₆₄ f i) s) in
+    rest (λ k l h. tests k (omega arith) (omega arith)) (λ k l h. same k (omega arith) (omega arith))
     ∙ ap (λ (x : Float). plusWhere test' f' (i + 1) n (cond (test i) (s +₆₄ x) s)) (same i (omega arith) (omega arith))
     ∙ ap (λ (b : Bool). plusWhere test' f' (i + 1) n (cond b (s +₆₄ f' i) s)) (tests i (omega arith) (omega arith))
 
@@ -130,24 +130,6 @@ module _ (test : ℕ → Bool) (f : ℕ → Float) (i n : ℕ) (s whole : Float)
   unfolding plusWhere
   where-done h rest = let none : n - i ≡ 0 = omega arith in sym (ap (λ (m : ℕ). plusWhere test f i m s) none) ∙ rest
 
--- ---- Where the loops begin
-
--- the word 0 is that of +0
-pub no-sum : ofBits binary64 0 ≡ nought
-unfolding ofBits
-no-sum = refl
-
-pub coef-start : (a : List Float) (p j : ℕ)
-    → plus (λ k. at a k *₆₄ at a (k + j)) 0 (p + 1 - j - 0) (ofBits binary64 0) ≡ coefAt a p j
-unfolding coefAt
-coef-start a p j =
-    let none : p + 1 - j - 0 ≡ p + 1 - j = omega arith in
-    rw (none, no-sum) refl
-
-pub shortfall-start : (a r : List Float) (i : ℕ) → plus (λ j. at a j *₆₄ at r (i - j)) 1 (i - 1) (at r i) ≡ shortfall a r i
-unfolding shortfall
-shortfall-start a r i = refl
-
 -- ---- Known places
 
 pub known-before : (g len i : ℕ) → i < g → true ≡ known g len i
@@ -155,3 +137,69 @@ known-before g len i h = rw lt-ltb refl
 
 pub known-else : (g len i : ℕ) → g ≤ i → leb (g + len) i ≡ known g len i
 known-else g len i h = rw le-ltb refl
+
+-- whether place i and the one that is `lag` before it are both known, and their product
+abbrev pub pair-known : ℕ → ℕ → ℕ → ℕ → Bool
+pair-known g len lag i = known g len i && known g len (i - lag)
+
+abbrev pub pair : List Float → ℕ → ℕ → Float
+pair seg lag i = at seg i *₆₄ at seg (i - lag)
+
+-- a and b are what the tests are to say, r and q what they gave
+pub both-known : {a b r q : Bool} → r ≡ a → r ≡ true → q ≡ b → q ≡ true → (a && b) ≡ true
+both-known er hr eq hq = rw (← er, hr, ← eq, hq) refl
+
+pub second-unknown : {a b r q : Bool} → r ≡ a → r ≡ true → q ≡ b → q ≡ false → (a && b) ≡ false
+second-unknown er hr eq hq = rw (← er, hr, ← eq, hq) refl
+
+pub first-unknown : {a r : Bool} (b : Bool) → r ≡ a → r ≡ false → (a && b) ≡ false
+first-unknown b er hr = rw (← er, hr) refl
+
+-- ---- Where the loops begin and end
+
+-- the word 0 is that of +0
+pub no-sum : ofBits binary64 0 ≡ nought
+unfolding ofBits
+no-sum = refl
+
+pub lag-start : (seg : List Float) (g len lag : ℕ)
+    → plusWhere (pair-known g len lag) (pair seg lag) lag (length seg - lag) (ofBits binary64 0) ≡ lagSum seg g len lag
+unfolding lagSum
+lag-start seg g len lag = rw no-sum refl
+
+pub shortfall-start : (a r : List Float) (i : ℕ)
+    → plus (λ j. at a j *₆₄ at r (i - j)) 1 (i - 1) (at r i) ≡ shortfall a r i
+unfolding shortfall
+shortfall-start a r i = refl
+
+pub coef-start : (a : List Float) (p j : ℕ)
+    → plus (λ k. at a k *₆₄ at a (k + j)) 0 (p + 1 - j - 0) (ofBits binary64 0) ≡ coefAt a p j
+unfolding coefAt
+coef-start a p j = let all : p + 1 - j - 0 ≡ p + 1 - j = omega arith in rw (all, no-sum) refl
+
+-- what place x contributes to the right side of the gap's place c
+abbrev pub before-gap : List Float → List Float → ℕ → ℕ → Float
+before-gap seg b c x = at b (c - x) *₆₄ at seg x
+
+abbrev pub behind-gap : List Float → List Float → ℕ → ℕ → Float
+behind-gap seg b c x = at b (x - c) *₆₄ at seg x
+
+pub before-start : (f : ℕ → Float) (x low g : ℕ) → x ≡ low
+    → plus f x (g - x) (ofBits binary64 0) ≡ plus f low (g - low) nought
+before-start f x low g e = rw (e, no-sum) refl
+
+pub right-end : (seg b : List Float) (g len p i high : ℕ) (before s : Float)
+    → high ≡ min (g + i + p + 1) (length seg)
+    → before ≡ plus (before-gap seg b (g + i)) (g + i - p) (g - (g + i - p)) nought
+    → s ≡ plus (behind-gap seg b (g + i)) (g + len) (high - (g + len)) before
+    → neg s ≡ rightSide seg g len b p i
+unfolding rightSide
+right-end seg b g len p i high before s top e es = rw (es, e, top) refl
+
+pub column-start : (f : ℕ → Float) (i high : ℕ) (s : Float)
+    → less f (i + 1) (high + 1 - (i + 1)) s ≡ less f (i + 1) (high - i) s
+column-start f i high s = let all : high + 1 - (i + 1) ≡ high - i = omega arith in rw all refl
+
+-- the rows of the band lie one behind the other
+pub row-below : {k high : ℕ} (p : ℕ) → k ≤ high → p * (k + 1) ≤ p * (high + 1)
+row-below p h = mul-le-mul-left p (omega arith)

@@ -1,9 +1,8 @@
--- `model::sums::coef_at` meets its contract. The loop's invariant: adding what is left gives the whole. The measure is how
--- many products are left. Assumes nothing.
+-- `model::sums::coef_at` meets its contract. The loop's invariant: adding what is left gives the whole. The measure is
+-- how many products are left. Assumes nothing.
 use Prim.Native.Nat.{_+_, _-_}
 use native.Mathlib.Omega.{arith}
 use mathlib.Core.Path.{_≡_}
-use lib.Ieee.{mul}
 use Rattle.leaves.specs.Arithmetic.{_*₆₄_, at}
 use Rattle.model.specs.Model.{plus, coefAt}
 use Rattle.model.proofs.sums.Laws.{plus-turn, plus-done, coef-start}

@@ -1,9 +1,6 @@
 -- `model::sums::is_known` meets its contract: its tests are those of `known`. Assumes nothing.
-use mathlib.Core.Path.{sym}
-use mathlib.Core.Bool.{_||_}
-use borrow.Author.Tests.{lt-ltb, le-ltb}
-use Rattle.model.proofs.sums.Laws.{known-before, known-else}
 use borrow.Author.Needs.{needs}
+use Rattle.model.proofs.sums.Laws.{known-before, known-else}
 use Rattle.model.proofs.sums.is_known.Statement.{statement}
 use Rattle.model.proofs.sums.is_known.Tie as tie
 

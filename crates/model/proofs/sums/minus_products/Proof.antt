@@ -3,7 +3,6 @@
 use Prim.Native.Nat.{_+_, _-_}
 use native.Mathlib.Omega.{arith}
 use mathlib.Core.Path.{_≡_, refl}
-use lib.Ieee.{mul}
 use Rattle.leaves.specs.Arithmetic.{_*₆₄_, at}
 use Rattle.model.specs.Model.{less}
 use Rattle.model.proofs.sums.Laws.{less-turn, less-done}
@@ -12,7 +11,8 @@ use Rattle.model.proofs.sums.minus_products.Tie as tie
 
 abbrev Inv-loop : tie.InvT-loop
 Inv-loop l x m y from to s left₀ k₀ left k =
-    less (λ n. at l (x + n) *₆₄ at m (y + n)) k (to - k) left ≡ less (λ n. at l (x + n) *₆₄ at m (y + n)) from (to - from) s
+    less (λ n. at l (x + n) *₆₄ at m (y + n)) k (to - k) left
+    ≡ less (λ n. at l (x + n) *₆₄ at m (y + n)) from (to - from) s
 
 abbrev μ-loop : tie.MeasureT-loop
 μ-loop l x m y from to s left₀ k₀ left k = to - k

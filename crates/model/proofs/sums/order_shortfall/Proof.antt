@@ -1,9 +1,8 @@
--- `model::sums::order_shortfall` meets its contract. The loop's invariant: adding what is left gives the whole. The measure
--- is how many products are left. Assumes nothing.
-use Prim.Native.Nat.{_-_, _≤_}
+-- `model::sums::order_shortfall` meets its contract. The loop's invariant: adding what is left gives the whole. The
+-- measure is how many products are left. Assumes nothing.
+use Prim.Native.Nat.{_-_}
 use native.Mathlib.Omega.{arith}
 use mathlib.Core.Path.{_≡_}
-use lib.Ieee.{mul}
 use Rattle.leaves.specs.Arithmetic.{_*₆₄_, at}
 use Rattle.model.specs.Model.{plus, shortfall}
 use Rattle.model.proofs.sums.Laws.{plus-turn, plus-done, shortfall-start}
