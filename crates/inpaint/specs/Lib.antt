@@ -1,3 +1,4 @@
 pub mod Gap
 pub mod Auto
 pub mod Inner
+pub mod Rows
