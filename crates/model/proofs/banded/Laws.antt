@@ -4,7 +4,7 @@ use mathlib.Core.Path.{_≡_, refl, sym, ap, _∙_}
 use mathlib.Core.List.{List, [], _∷_, _++_}
 use Prim.Native.Nat.{ℕ, zero, suc, _+_, _-_, _*_, _≤_, _<_, min}
 use native.Mathlib.Omega.{arith}
-use native.Mathlib.Nat.{zero-add, mul-add, mul-one, mul-comm, mul-le-mul-left, mul-le-mul-right}
+use native.Mathlib.Nat.{zero-add, zero-mul, sub-zero, mul-add, mul-one, mul-comm, mul-le-mul-left, mul-le-mul-right}
 use borrow.Author.Tests.{lt-ltb, le-ltb, eq-eqb, ne-eqb}
 use lib.Ieee.{Float, binary64, ofBits}
 use lib.ListN.{length, set, take, drop, length-append}
@@ -12,7 +12,7 @@ use lib.Seq.{sets, sets-eq, length-sets}
 use Rattle.leaves.specs.Arithmetic.{_+₆₄_, _*₆₄_, _/₆₄_, nought, near, at}
 use Rattle.leaves.specs.Floats.{larger}
 use Rattle.leaves.specs.Root.{root}
-use Rattle.model.specs.Model.{micro, pico, less, mat, laid, cellAt, cells, rows, forwardAt, forward, backwardAt, backward}
+use Rattle.model.specs.Model.{micro, pico, less, mat, laid, cellAt, cells, rows, factored, forwardAt, forward, backwardAt, backward}
 use Rattle.model.specs.Areas.{area}
 use Rattle.model.proofs.Parts.{take-sets, drop-sets, store-next, store-before, part-length, part-of-sets}
 use Rattle.model.proofs.Parts.{part-before-sets, part-grows, own-part}
@@ -45,6 +45,25 @@ pub row-in : (i n p : ℕ) → i < n → p * (i + 1) + i < n * (p + 1)
 row-in i n p h =
     let much : p * (i + 1) ≤ p * n = mul-le-mul-left p (omega arith) in
     omega (arith, mul-comm p n, mul-add n p 1, mul-one n)
+
+positive : (n : ℕ) → (n ≡ 0 → ⊥) → 0 < n
+positive zero h = absurd (h refl)
+positive (suc n) h = omega arith
+
+-- the stretches that a place d before the diagonal of row i reads, with n places before it in the band
+module _ (i d n p : ℕ) (h : d ≤ i) (hd : d ≤ p) (count : n ≡ i * (p + 1) + (p - d)) where
+  pub cell-row : p * (i + 1) + (i - d) ≤ n
+  cell-row = omega (arith, row-end i p)
+
+  pub cell-other : p * (i - d + 1) + (i - d) ≤ n
+  cell-other =
+      let much : p * (i - d + 1) ≤ p * (i + 1) = mul-le-mul-left p (omega arith) in
+      omega (arith, row-end i p)
+
+  pub cell-pivot : (d ≡ 0 → ⊥) → p * (i - d + 1) + (i - d) < n
+  cell-pivot z =
+      let some : 0 < d = positive d z in
+      omega (arith, row-in (i - d) i p (omega arith))
 
 -- ---- laid
 
@@ -98,6 +117,12 @@ lent-area w from n = let count : from + n - from ≡ n = omega arith in ap (λ (
 
 pub lent-length : (w : List Float) (from n : ℕ) → from + n ≤ length w → length (lent w from n) ≡ n
 lent-length w from n h = ap length (lent-area w from n) ∙ part-length w from n h
+
+-- the band has p + 1 places for each of a lent list
+pub lent-rows : (w : List Float) (band from len p : ℕ) → band + len * (p + 1) ≤ length w → from + len ≤ length w
+    → length (lent w band (len * (p + 1))) ≡ length (lent w from len) * (p + 1)
+lent-rows w band from len p hb hf =
+    lent-length w band (len * (p + 1)) hb ∙ sym (ap (λ (n : ℕ). n * (p + 1)) (lent-length w from len hf))
 
 -- a part before a run of stores is lent as it was
 lent-before : (w₀ w l : List Float) (d from n : ℕ) → w ≡ sets w₀ d l → from + n ≤ d → lent w from n ≡ area w₀ from n
@@ -197,7 +222,19 @@ length-cells b p i (suc n) l =
     let rest : length (cells b p i n next) ≡ length next + n = length-cells b p i n next in
     omega arith
 
--- ---- One turn of the factor, and its end
+-- ---- The factor before its first row, one turn of it, and its end
+
+pub none-stored : (w : List Float) (band p : ℕ) → w ≡ sets w band (area w band (0 * (p + 1)))
+none-stored w band p = rw zero-mul refl
+
+pub rows-start : (b w : List Float) (band p len : ℕ) → rows b p 0 (len - 0) (area w band (0 * (p + 1))) ≡ factored b p len
+unfolding factored
+rows-start b w band p len = rw (zero-mul, sub-zero) refl
+
+pub row-room : (band len p i n : ℕ) → i < len → band + len * (p + 1) ≤ n → band + (i + 1) * (p + 1) ≤ n
+row-room band len p i n h k =
+    let room : (i + 1) * (p + 1) ≤ len * (p + 1) = mul-le-mul-right (p + 1) (omega arith) in
+    omega arith
 
 module _ (w₀ w : List Float) (b band len p i : ℕ) (whole : List Float) (e : w ≡ sets w₀ band (area w band (i * (p + 1)))) where
   module _ (v : List Float) (h : i < len) (hb : b + (p + 1) ≤ band) (hw : band + len * (p + 1) ≤ length w) (same : length w ≡ length w₀)
@@ -248,7 +285,15 @@ module _ (w₀ w : List Float) (b band len p i : ℕ) (whole : List Float) (e : 
       let all : l ≡ whole = sym (ap (λ (n : ℕ). rows (area w₀ b (p + 1)) p i n l) none) ∙ rest in
       e ∙ ap (λ (z : List Float). sets w₀ band z) all
 
--- ---- One turn of the back solve, and its end
+-- ---- The back solve before its first turn, one turn of it, and its end
+
+pub none-solved : (w : List Float) (x len : ℕ) → w ≡ sets w (x + len) (area w (x + len) (len - len))
+none-solved w x len = let none : len - len ≡ 0 = omega arith in rw none refl
+
+pub back-start : (b y w : List Float) (x p len : ℕ) → backward b y p len len (area w (x + len) (len - len)) ≡ backward b y p len len []
+back-start b y w x p len =
+    let none : len - len ≡ 0 = omega arith in
+    ap (λ (n : ℕ). backward b y p len len (take n (drop (x + len) w))) none
 
 -- what is lent of the results that stand
 pub lent-results : (w : List Float) (x i len : ℕ) → 0 < i → i ≤ len
@@ -257,6 +302,14 @@ lent-results w x i len h hi =
     let count : x + len - (x + (i - 1 + 1)) ≡ len - i = omega arith in
     let place : x + (i - 1 + 1) ≡ x + i = omega arith in
     rw (count, place) refl
+
+pub lent-results-length : (w : List Float) (y x i len : ℕ) → 0 < i → i ≤ len → y + len ≤ length w → x + len ≤ length w
+    → length (take (x + len - (x + (i - 1 + 1))) (drop (x + (i - 1 + 1)) w)) ≡ length (lent w y len) - (i - 1 + 1)
+lent-results-length w y x i len h hi hy hx =
+    let count : length (area w (x + i) (len - i)) ≡ len - i = part-length w (x + i) (len - i) (omega arith) in
+    let same : length (take (x + len - (x + (i - 1 + 1))) (drop (x + (i - 1 + 1)) w)) ≡ length (area w (x + i) (len - i)) =
+    ap length (lent-results w x i len h hi) in
+    omega (arith, lent-length w y len hy)
 
 module _ (w₀ w : List Float) (band y x len p i : ℕ) (whole : List Float) (e : w ≡ sets w₀ (x + i) (area w (x + i) (len - i))) where
   module _ (v : Float) (h : 0 < i) (hi : i ≤ len) (hx : x + len ≤ length w) (same : length w ≡ length w₀) where
