@@ -125,7 +125,7 @@ lent-rows w band from len p hb hf =
     lent-length w band (len * (p + 1)) hb ∙ sym (ap (λ (n : ℕ). n * (p + 1)) (lent-length w from len hf))
 
 -- a part before a run of stores is lent as it was
-lent-before : (w₀ w l : List Float) (d from n : ℕ) → w ≡ sets w₀ d l → from + n ≤ d → lent w from n ≡ area w₀ from n
+pub lent-before : (w₀ w l : List Float) (d from n : ℕ) → w ≡ sets w₀ d l → from + n ≤ d → lent w from n ≡ area w₀ from n
 lent-before w₀ w l d from n e h =
     lent-area w from n ∙ ap (λ (z : List Float). area z from n) e ∙ part-before-sets w₀ l d from n h
 
@@ -140,13 +140,13 @@ run-grows w₀ w d c v h e =
     ∙ store-next w₀ (area w d c) d v
     ∙ ap (λ (l : List Float). sets w₀ d l) (sym (part-grows w d c v h))
 
-run-before : (w₀ w l : List Float) (a d : ℕ) (v : Float) → suc a ≡ d → w ≡ sets w₀ d l → set w a v ≡ sets w₀ a (v ∷ l)
+pub run-before : (w₀ w l : List Float) (a d : ℕ) (v : Float) → suc a ≡ d → w ≡ sets w₀ d l → set w a v ≡ sets w₀ a (v ∷ l)
 run-before w₀ w l a d v n e =
     ap (λ (z : List Float). set z a v) e
     ∙ store-before w₀ l a d v (omega arith)
     ∙ ap (λ (k : ℕ). sets (set w₀ a v) k l) (sym n)
 
-run-over : (w l m : List Float) (d : ℕ) → length l ≤ length m → d + length m ≤ length w → sets (sets w d l) d m ≡ sets w d m
+pub run-over : (w l m : List Float) (d : ℕ) → length l ≤ length m → d + length m ≤ length w → sets (sets w d l) d m ≡ sets w d m
 run-over w l m d h k =
     sets-eq m (sets w d l) d (rw length-sets k)
     ∙ ap (λ (z : List Float). (z ++ m) ++ drop (d + length m) (sets w d l)) (take-sets w l d d (omega arith))
@@ -213,7 +213,7 @@ module _ (w₀ w : List Float) (b band p i c left : ℕ) (whole : List Float) (e
       e ∙ ap (λ (l : List Float). sets w₀ band l) all
 
 -- a row adds its places
-length-cells : (b : List Float) (p i n : ℕ) (l : List Float) → length (cells b p i n l) ≡ length l + n
+pub length-cells : (b : List Float) (p i n : ℕ) (l : List Float) → length (cells b p i n l) ≡ length l + n
 unfolding cells
 length-cells b p i zero l = omega arith
 length-cells b p i (suc n) l =
@@ -236,7 +236,7 @@ row-room band len p i n h k =
     let room : (i + 1) * (p + 1) ≤ len * (p + 1) = mul-le-mul-right (p + 1) (omega arith) in
     omega arith
 
-module _ (w₀ w : List Float) (b band len p i : ℕ) (whole : List Float) (e : w ≡ sets w₀ band (area w band (i * (p + 1)))) where
+module _ (w₀ w : List Float) (b band len p i : ℕ) (e : w ≡ sets w₀ band (area w band (i * (p + 1)))) where
   module _ (v : List Float) (h : i < len) (hb : b + (p + 1) ≤ band) (hw : band + len * (p + 1) ≤ length w) (same : length w ≡ length w₀)
       (ev : v ≡ sets w band (cells (area w b (p + 1)) p i (p + 1) (area w band (i * (p + 1)))))
       where
@@ -257,6 +257,9 @@ module _ (w₀ w : List Float) (b band len p i : ℕ) (whole : List Float) (e : 
         ap (λ (z : List Float). area z band ((i + 1) * (p + 1))) ev
         ∙ part-of-sets w row band ((i + 1) * (p + 1)) count (omega (arith, room))
 
+    pub row-length : length v ≡ length w₀
+    row-length = ap length ev ∙ length-sets w band row ∙ same
+
     pub row-stored : v ≡ sets w₀ band (area v band ((i + 1) * (p + 1)))
     row-stored =
         ev
@@ -264,10 +267,11 @@ module _ (w₀ w : List Float) (b band len p i : ℕ) (whole : List Float) (e : 
         ∙ run-over w₀ (area w band (i * (p + 1))) row band (omega (arith, count, before, row-more i p)) (omega (arith, count, room))
         ∙ ap (λ (l : List Float). sets w₀ band l) (sym grown)
 
-    pub rows-turn : rows (area w₀ b (p + 1)) p i (len - i) (area w band (i * (p + 1))) ≡ whole
+    pub rows-turn : (whole : List Float)
+        → rows (area w₀ b (p + 1)) p i (len - i) (area w band (i * (p + 1))) ≡ whole
         → rows (area w₀ b (p + 1)) p (i + 1) (len - (i + 1)) (area v band ((i + 1) * (p + 1))) ≡ whole
     unfolding rows
-    rows-turn rest =
+    rows-turn whole rest =
         let bs = area w₀ b (p + 1) in
         let l = area w band (i * (p + 1)) in
         let left : len - i ≡ suc (len - (i + 1)) = omega arith in
@@ -277,9 +281,11 @@ module _ (w₀ w : List Float) (b band len p i : ℕ) (whole : List Float) (e : 
         ∙ sym (ap (λ (n : ℕ). rows bs p i n l) left)
         ∙ rest
 
-  pub rows-done : len ≤ i → rows (area w₀ b (p + 1)) p i (len - i) (area w band (i * (p + 1))) ≡ whole → w ≡ sets w₀ band whole
+  pub rows-done : (whole : List Float) → len ≤ i
+      → rows (area w₀ b (p + 1)) p i (len - i) (area w band (i * (p + 1))) ≡ whole
+      → w ≡ sets w₀ band whole
   unfolding rows
-  rows-done h rest =
+  rows-done whole h rest =
       let l = area w band (i * (p + 1)) in
       let none : len - i ≡ 0 = omega arith in
       let all : l ≡ whole = sym (ap (λ (n : ℕ). rows (area w₀ b (p + 1)) p i n l) none) ∙ rest in
@@ -311,7 +317,7 @@ lent-results-length w y x i len h hi hy hx =
     ap length (lent-results w x i len h hi) in
     omega (arith, lent-length w y len hy)
 
-module _ (w₀ w : List Float) (band y x len p i : ℕ) (whole : List Float) (e : w ≡ sets w₀ (x + i) (area w (x + i) (len - i))) where
+module _ (w₀ w : List Float) (x len i : ℕ) (e : w ≡ sets w₀ (x + i) (area w (x + i) (len - i))) where
   module _ (v : Float) (h : 0 < i) (hi : i ≤ len) (hx : x + len ≤ length w) (same : length w ≡ length w₀) where
     back-run : set w (x + (i - 1)) v ≡ sets w₀ (x + (i - 1)) (v ∷ area w (x + i) (len - i))
     back-run = run-before w₀ w (area w (x + i) (len - i)) (x + (i - 1)) (x + i) v (omega arith) e
@@ -326,7 +332,7 @@ module _ (w₀ w : List Float) (band y x len p i : ℕ) (whole : List Float) (e 
     pub back-stored : set w (x + (i - 1)) v ≡ sets w₀ (x + (i - 1)) (area (set w (x + (i - 1)) v) (x + (i - 1)) (len - (i - 1)))
     back-stored = back-run ∙ ap (λ (l : List Float). sets w₀ (x + (i - 1)) l) (sym back-grown)
 
-    pub back-turn : band + len * (p + 1) ≤ x → y + len ≤ x
+    pub back-turn : (band y p : ℕ) (whole : List Float) → band + len * (p + 1) ≤ x → y + len ≤ x
         → v ≡ backwardAt (lent w band (len * (p + 1))) (lent w y len) p (length (lent w y len)) (i - 1)
             (take (x + len - (x + (i - 1 + 1))) (drop (x + (i - 1 + 1)) w))
         → backward (area w₀ band (len * (p + 1))) (area w₀ y len) p len i (area w (x + i) (len - i)) ≡ whole
@@ -334,7 +340,7 @@ module _ (w₀ w : List Float) (band y x len p i : ℕ) (whole : List Float) (e 
             (area (set w (x + (i - 1)) v) (x + (i - 1)) (len - (i - 1)))
         ≡ whole
     unfolding backward
-    back-turn hb hy ev rest =
+    back-turn band y p whole hb hy ev rest =
         let b = area w₀ band (len * (p + 1)) in
         let ys = area w₀ y len in
         let l = area w (x + i) (len - i) in
@@ -353,11 +359,11 @@ module _ (w₀ w : List Float) (band y x len p i : ℕ) (whole : List Float) (e 
         ∙ sym (ap (λ (n : ℕ). backward b ys p len n l) one)
         ∙ rest
 
-  pub back-done : i ≤ 0
+  pub back-done : (band y p : ℕ) (whole : List Float) → i ≤ 0
       → backward (area w₀ band (len * (p + 1))) (area w₀ y len) p len i (area w (x + i) (len - i)) ≡ whole
       → w ≡ sets w₀ x whole
   unfolding backward
-  back-done h rest =
+  back-done band y p whole h rest =
       let none : i ≡ 0 = omega arith in
       let there : x + i ≡ x = omega arith in
       let l = area w (x + i) (len - i) in

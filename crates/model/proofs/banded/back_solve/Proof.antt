@@ -12,9 +12,6 @@ use Rattle.model.proofs.banded.Laws.{lent-rows, lent-length, lent-resul
 use Rattle.model.proofs.banded.Laws.{back-stored, back-turn, back-done}
 use Rattle.model.proofs.banded.back_solve.Statement.{statement}
 use Rattle.model.proofs.banded.back_solve.Tie as tie
-use Rattle.model.proofs.banded.back_solve.Reads as reads
-use Rattle.model.proofs.banded.back_solve.Lts as lts
-use Rattle.model.proofs.banded.backward_at.Reads as backward-at-reads
 
 abbrev Inv-loop : tie.InvT-loop
 Inv-loop work₀ band y x len p i₀ work i = (i ≤ len) × (length work ≡ length work₀) × (work ≡ sets work₀ (x + i) (area work (x + i) (len - i)))
@@ -123,11 +120,13 @@ loop-again c =
     let loop = c .before .before .before .before .before .before .loop in
     let inv = loop .inv in
     let taken = c .before .before .before .before .before .loop-test .taken in
+    let x = args .x in
+    let len = args .len in
     (
       omega arith,
       simp length-set (inv .1),
-      back-stored _ _ (args .band) (args .y) (args .x) (args .len) (args .p) (loop .i) [] (inv .2) _ taken (inv .0) (omega arith) (inv .1),
-      back-turn _ _ (args .band) (args .y) (args .x) (args .len) (args .p) (loop .i) _ (inv .2) _ taken (inv .0) (omega arith) (inv .1)
+      back-stored _ _ x len (loop .i) (inv .2) _ taken (inv .0) (omega arith) (inv .1),
+      back-turn _ _ x len (loop .i) (inv .2) _ taken (inv .0) (omega arith) (inv .1) (args .band) (args .y) (args .p) _
       (omega arith) (omega arith) (c .backward-at .ensures) (inv .3),
     )
 
@@ -138,7 +137,8 @@ returns : tie.Need-returns Inv-loop μ-loop
 returns c =
     let args = c .before .before .before .args in
     let loop = c .before .loop in
-    back-done _ _ (args .band) (args .y) (args .x) (args .len) (args .p) (loop .i) _ (loop .inv .2) (c .loop-test .left) (loop .inv .3)
+    back-done _ _ (args .x) (args .len) (loop .i) (loop .inv .2) (args .band) (args .y) (args .p) _ (c .loop-test .left)
+    (loop .inv .3)
 
 pub back-solve-spec : {M : Type 1} → statement M
 back-solve-spec =

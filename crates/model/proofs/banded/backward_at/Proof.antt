@@ -6,10 +6,6 @@ use lib.ListN.{length}
 use Rattle.model.proofs.banded.Laws.{row-in, backward-place}
 use Rattle.model.proofs.banded.backward_at.Statement.{statement}
 use Rattle.model.proofs.banded.backward_at.Tie as tie
-use Rattle.model.proofs.banded.backward_at.Reads as reads
-use Rattle.model.proofs.banded.backward_at.Lts as lts
-use Rattle.model.proofs.sums.least.Reads as least-reads
-use Rattle.model.proofs.sums.minus_column.Reads as minus-column-reads
 
 add-least : tie.Need-add-least
 add-least c = search needs

@@ -2,18 +2,14 @@
 -- rows that are left give the whole. The measure is how many are left. Assumes nothing.
 use Prim.Native.Nat.{_+_, _-_, _*_, _≤_}
 use native.Mathlib.Omega.{arith}
-use mathlib.Core.Path.{_≡_, refl, ap, _∙_}
-use mathlib.Core.List.{[]}
+use mathlib.Core.Path.{_≡_, refl}
 use lib.ListN.{length}
-use lib.Seq.{sets, length-sets}
+use lib.Seq.{sets}
 use Rattle.model.specs.Model.{rows, factored}
 use Rattle.model.specs.Areas.{area}
-use Rattle.model.proofs.banded.Laws.{row-room, none-stored, rows-start, row-stored, rows-turn, rows-done}
+use Rattle.model.proofs.banded.Laws.{row-room, none-stored, rows-start, row-length, row-stored, rows-turn, rows-done}
 use Rattle.model.proofs.banded.factor.Statement.{statement}
 use Rattle.model.proofs.banded.factor.Tie as tie
-use Rattle.model.proofs.banded.factor.Reads as reads
-use Rattle.model.proofs.banded.factor.Lts as lts
-use Rattle.model.proofs.banded.factor_row.Reads as factor-row-reads
 
 abbrev Inv-loop : tie.InvT-loop
 Inv-loop work₀ b band len p i₀ work i = (i ≤ len) × (length work ≡ length work₀) × (work ≡ sets work₀ band (area work band (i * (p + 1))))
@@ -52,12 +48,15 @@ loop-again c =
     let inv = loop .inv in
     let taken = c .before .before .before .before .loop-test .taken in
     let row = c .before .before .factor-row .ensures in
+    let b = args .b in
+    let band = args .band in
+    let len = args .len in
+    let p = args .p in
     (
       omega arith,
-      ap length row ∙ simp length-sets (inv .1),
-      row-stored _ _ (args .b) (args .band) (args .len) (args .p) (loop .i) [] (inv .2) _ taken (omega arith) (omega arith) (inv .1) row,
-      rows-turn _ _ (args .b) (args .band) (args .len) (args .p) (loop .i) _ (inv .2) _ taken (omega arith) (omega arith) (inv .1) row
-      (inv .3),
+      row-length _ _ b band len p (loop .i) (inv .2) _ taken (omega arith) (omega arith) (inv .1) row,
+      row-stored _ _ b band len p (loop .i) (inv .2) _ taken (omega arith) (omega arith) (inv .1) row,
+      rows-turn _ _ b band len p (loop .i) (inv .2) _ taken (omega arith) (omega arith) (inv .1) row _ (inv .3),
     )
 
 same-length : tie.Need-same-length Inv-loop μ-loop
@@ -67,7 +66,8 @@ returns : tie.Need-returns Inv-loop μ-loop
 returns c =
     let args = c .before .before .before .args in
     let loop = c .before .loop in
-    rows-done _ _ (args .b) (args .band) (args .len) (args .p) (loop .i) _ (loop .inv .2) (c .loop-test .left) (loop .inv .3)
+    rows-done _ _ (args .b) (args .band) (args .len) (args .p) (loop .i) (loop .inv .2) _ (c .loop-test .left)
+    (loop .inv .3)
 
 pub factor-spec : {M : Type 1} → statement M
 factor-spec =

@@ -11,9 +11,6 @@ use Rattle.model.proofs.Parts.{own-part}
 use Rattle.model.proofs.banded.Laws.{row-more, lent-length, run-grows, cells-turn, cells-done}
 use Rattle.model.proofs.banded.factor_row.Statement.{statement}
 use Rattle.model.proofs.banded.factor_row.Tie as tie
-use Rattle.model.proofs.banded.factor_row.Reads as reads
-use Rattle.model.proofs.banded.factor_row.Lts as lts
-use Rattle.model.proofs.banded.cell_at.Reads as cell-at-reads
 
 abbrev Inv-loop : tie.InvT-loop
 Inv-loop work₀ b band p i c₀ left₀ work c left = (c + left ≡ i * (p + 1) + (p + 1)) × (left ≤ p + 1) × (length work ≡ length work₀)
@@ -110,8 +107,8 @@ loop-again c =
       omega arith,
       simp length-set (inv .2),
       run-grows _ _ (args .band) (loop .c) _ (omega arith) (inv .3),
-      cells-turn _ _ (args .b) (args .band) (args .p) (args .i) (loop .c) (loop .left) _ (inv .3) _ taken (omega arith) (omega arith)
-      (c .cell-at .ensures) (inv .4),
+      cells-turn _ _ (args .b) (args .band) (args .p) (args .i) (loop .c) (loop .left) _ (inv .3) _ taken (omega arith)
+      (omega arith) (c .cell-at .ensures) (inv .4),
     )
 
 same-length : tie.Need-same-length Inv-loop μ-loop
@@ -121,7 +118,8 @@ returns : tie.Need-returns Inv-loop μ-loop
 returns c =
     let args = c .before .before .before .args in
     let loop = c .before .loop in
-    cells-done _ _ (args .b) (args .band) (args .p) (args .i) (loop .c) (loop .left) _ (loop .inv .3) (c .loop-test .left) (loop .inv .4)
+    cells-done _ _ (args .b) (args .band) (args .p) (args .i) (loop .c) (loop .left) _ (loop .inv .3)
+    (c .loop-test .left) (loop .inv .4)
 
 pub factor-row-spec : {M : Type 1} → statement M
 factor-row-spec =

@@ -5,8 +5,6 @@ use borrow.Author.Needs.{needs}
 use Rattle.model.proofs.banded.Laws.{row-in, forward-place}
 use Rattle.model.proofs.banded.forward_at.Statement.{statement}
 use Rattle.model.proofs.banded.forward_at.Tie as tie
-use Rattle.model.proofs.banded.forward_at.Reads as reads
-use Rattle.model.proofs.banded.forward_at.Lts as lts
 
 add-row : tie.Need-add-row
 add-row c = search needs

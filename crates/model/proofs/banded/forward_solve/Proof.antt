@@ -12,9 +12,6 @@ use Rattle.model.specs.Areas.{area}
 use Rattle.model.proofs.banded.Laws.{lent-rows, lent-length, run-grows, forward-turn, forward-done}
 use Rattle.model.proofs.banded.forward_solve.Statement.{statement}
 use Rattle.model.proofs.banded.forward_solve.Tie as tie
-use Rattle.model.proofs.banded.forward_solve.Reads as reads
-use Rattle.model.proofs.banded.forward_solve.Lts as lts
-use Rattle.model.proofs.banded.forward_at.Reads as forward-at-reads
 
 abbrev Inv-loop : tie.InvT-loop
 Inv-loop work₀ band rhs y len p i₀ work i = (i ≤ len) × (length work ≡ length work₀) × (work ≡ sets work₀ y (area work y i))
@@ -79,7 +76,7 @@ part-forward-at-end-3 : tie.Need-part-forward-at-end-3 Inv-loop μ-loop
 part-forward-at-end-3 c = omega arith
 
 forward-at-requires : tie.Need-forward-at-requires Inv-loop μ-loop
-forward-at-requires c κs = 
+forward-at-requires c κs =
     let w = c .before .before .before .before .before .loop .work in
     let args = c .before .before .before .before .before .before .before .args in
     let rows = lent-rows w (args .band) (args .rhs) (args .len) (args .p) (omega arith) (omega arith) in
@@ -103,7 +100,7 @@ loop-less : tie.Need-loop-less Inv-loop μ-loop
 loop-less c = omega arith
 
 loop-again : tie.Need-loop-again Inv-loop μ-loop
-loop-again c = 
+loop-again c =
     let inv = c .before .before .before .before .before .before .loop .inv in
     let taken = c .before .before .before .before .before .loop-test .taken in
     (
