@@ -8,13 +8,15 @@ use native.Mathlib.Omega.{arith}
 use native.Mathlib.Numerals.{add-one}
 use borrow.Author.Tests.{lt-ltb, le-ltb, eq-eqb, ne-eqb}
 use lib.Dec.{ltb}
-use lib.ListN.{length, set, getD, take, drop, replicate}
-use lib.Seq.{sets, length-sets, getD-take, drop-cons}
-use lib.Ieee.{Float, nan, binary64, add, mul, ofBits}
-use Rattle.leaves.specs.Arithmetic.{_+₆₄_, _*₆₄_, nought, one, at}
-use Rattle.model.specs.Model.{each, unit, lagSum, lags, raisedAt, raised}
-use Rattle.model.specs.Areas.{area}
-use Rattle.model.proofs.Parts.{take-sets, store-next, part-before-sets, part-behind-sets, part-length}
+use lib.ListN.{length, set, take, drop, replicate, length-replicate}
+use lib.Seq.{sets, length-sets, getD-take, getD-drop, drop-cons}
+use lib.Ieee.{Float, nan, binary64, add, sub, mul, div, neg, lt, le, ofBits}
+use Rattle.leaves.specs.Arithmetic.{_+₆₄_, _-₆₄_, _*₆₄_, _/₆₄_, nought, one, at}
+use Rattle.leaves.specs.Floats.{magnitude}
+use Rattle.model.specs.Model.{micro, pico, each, unit, lagSum, lags, raisedAt, raised, shortfall, orders, levinson}
+use Rattle.model.specs.Areas.{area, Only}
+use Rattle.model.proofs.Parts.{take-sets, store-next, part-of-sets, part-before-sets, part-behind-sets}
+use Rattle.model.proofs.Parts.{part-length, only-sets, only-then, only-before}
 use Rattle.model.proofs.sums.Laws.{each-next, length-each}
 
 -- ---- The literals of the code
@@ -26,6 +28,14 @@ zero-word = refl
 pub one-word : ofBits binary64 4607182418800017408 ≡ one
 unfolding ofBits
 one-word = refl
+
+pub pico-word : ofBits binary64 4427486594234968593 ≡ pico
+unfolding ofBits pico
+pico-word = refl
+
+pub micro-word : ofBits binary64 4517329193108106637 ≡ micro
+unfolding ofBits micro
+micro-word = refl
 
 -- ---- A loop that stores f 0, f 1, .. from place d on
 
@@ -64,6 +74,12 @@ fill-at w₀ w l d k e h =
     ∙ sym (getD-take d (sets w₀ d l) k nan h)
     ∙ ap (λ (z : List Float). at z k) (take-sets w₀ l d d (omega arith))
     ∙ getD-take d w₀ k nan h
+
+-- the first place of an area
+pub area-first : (w : List Float) (from n : ℕ) → 0 < n → at (area w from n) 0 ≡ at w from
+area-first w from n h =
+    let here : from + 0 ≡ from = omega arith in
+    getD-take n (drop from w) 0 nan h ∙ getD-drop from w 0 nan ∙ ap (at w) here
 
 -- ---- The lags
 
@@ -158,3 +174,114 @@ unfolding raised
 raise-done w₀ w copy a p i j k h e ev =
     let count : length (area w₀ a (p + 1)) ≡ p + 1 = part-length w₀ a (p + 1) h in
     fill-done w₀ w copy j (length (area w₀ a (p + 1))) (raisedAt (area w₀ a (p + 1)) i k) ev (e ∙ sym count)
+
+-- ---- An order in the workspace: worked out at `copy`, then copied to a
+
+module _ (w w₁ w₂ : List Float) (copy a p i : ℕ) (k : Float) (h : copy + (p + 1) ≤ a) (room : a + (p + 1) ≤ length w)
+    (e₁ : w₁ ≡ sets w copy (raised (area w a (p + 1)) i k)) (e₂ : w₂ ≡ sets w₁ a (area w₁ copy (p + 1))) where
+  count-raised : length (raised (area w a (p + 1)) i k) ≡ p + 1
+  unfolding raised
+  count-raised =
+      length-each (raisedAt (area w a (p + 1)) i k) 0 (length (area w a (p + 1))) ∙ part-length w a (p + 1) room
+
+  count-copy : length w₁ ≡ length w
+  count-copy = ap length e₁ ∙ length-sets w copy (raised (area w a (p + 1)) i k)
+
+  count-copied : length (area w₁ copy (p + 1)) ≡ p + 1
+  count-copied = part-length w₁ copy (p + 1) (rw count-copy (omega arith))
+
+  order-area : area w₂ a (p + 1) ≡ raised (area w a (p + 1)) i k
+  order-area =
+      ap (λ (z : List Float). area z a (p + 1)) e₂
+      ∙ part-of-sets w₁ (area w₁ copy (p + 1)) a (p + 1) count-copied (rw count-copy room)
+      ∙ ap (λ (z : List Float). area z copy (p + 1)) e₁
+      ∙ part-of-sets w (raised (area w a (p + 1)) i k) copy (p + 1) count-raised (omega arith)
+
+  order-only : (end : ℕ) → a + (p + 1) ≤ end → Only copy end w w₂
+  order-only end le =
+      let first : Only copy end w w₁ =
+      rw e₁ (only-sets w (raised (area w a (p + 1)) i k) copy copy end (omega arith) (rw count-raised (omega arith))) in
+      let then : Only copy end w₁ w₂ =
+      rw e₂ (only-sets w₁ (area w₁ copy (p + 1)) a copy end (omega arith) (rw count-copied le)) in
+      only-then copy end w w₁ w₂ first then
+
+pub order-stands : (w w₁ w₂ : List Float) (copy a p i end : ℕ) (k : Float) → copy + (p + 1) ≤ a → a + (p + 1) ≤ length w
+    → a + (p + 1) ≤ end
+    → w₁ ≡ sets w copy (raised (area w a (p + 1)) i k)
+    → w₂ ≡ sets w₁ a (area w₁ copy (p + 1))
+    → (area w₂ a (p + 1) ≡ raised (area w a (p + 1)) i k) × Only copy end w w₂
+order-stands w w₁ w₂ copy a p i end k h room le e₁ e₂ = (
+  order-area w w₁ w₂ copy a p i k h room e₁ e₂,
+  order-only w w₁ w₂ copy a p i k h room e₁ e₂ end le,
+)
+
+-- ---- Levinson's recursion
+
+-- a choice, by what its test found
+choose-true : {A : Type 0} (b : Bool) (x y : A) → b ≡ true → cond b x y ≡ x
+choose-true b x y e = rw e refl
+
+choose-false : {A : Type 0} (b : Bool) (x y : A) → b ≡ false → cond b x y ≡ y
+choose-false b x y e = rw e refl
+
+-- what the order i has to make up for, from the areas of the workspace as they stand
+pub shortfall-here : (w₀ w : List Float) (r copy a p end m n i : ℕ) (acc : Float) → m ≡ p + 1 → n ≡ p + 1 → r + (p + 1) ≤ copy
+    → Only copy end w₀ w
+    → acc ≡ shortfall (area w a m) (area w r n) i
+    → acc ≡ shortfall (area w a (p + 1)) (area w₀ r (p + 1)) i
+shortfall-here w₀ w r copy a p end m n i acc em en h o e =
+    e
+    ∙ ap (λ (k : ℕ). shortfall (area w a k) (area w r n) i) em
+    ∙ ap (λ (l : List Float). shortfall (area w a (p + 1)) l i) (ap (area w r) en ∙ only-before copy end r (p + 1) w₀ w o h)
+
+-- the orders from i on, by the tests of a turn: none is left, e is too small, e ends it, or one order more
+module _ (r a : List Float) (e : Float) (i p : ℕ) (whole : List Float) (rest : orders r a e i (p + 1 - i) ≡ whole) where
+  pub orders-done : p < i → a ≡ whole
+  unfolding orders
+  orders-done h = let none : p + 1 - i ≡ 0 = omega arith in sym (ap (orders r a e i) none) ∙ rest
+
+  module _ (acc size k next : Float) (h : i ≤ p) (es : size ≡ magnitude e) (ea : acc ≡ shortfall a r i)
+      (ek : k ≡ neg acc /₆₄ e) (en : next ≡ e *₆₄ (ofBits binary64 4607182418800017408 -₆₄ k *₆₄ k)) where
+    one-order : orders r a e i (p + 1 - i)
+        ≡ cond (lt size (ofBits binary64 4427486594234968593)) a
+        (cond (le next (ofBits binary64 0)) (raised a i k) (orders r (raised a i k) next (i + 1) (p + 1 - (i + 1))))
+    unfolding orders
+    one-order =
+        let left : p + 1 - i ≡ suc (p + 1 - (i + 1)) = omega arith in
+        rw (left, en, ek, ea, es, one-word, pico-word, zero-word) refl
+
+    pub orders-small : lt size (ofBits binary64 4427486594234968593) ≡ true → a ≡ whole
+    orders-small small = sym (one-order ∙ choose-true _ _ _ small) ∙ rest
+
+    module _ (large : lt size (ofBits binary64 4427486594234968593) ≡ false) where
+      pub orders-ended : le next (ofBits binary64 0) ≡ true → raised a i k ≡ whole
+      orders-ended ends = sym (one-order ∙ choose-false _ _ _ large ∙ choose-true _ _ _ ends) ∙ rest
+
+      pub orders-next : le next (ofBits binary64 0) ≡ false
+          → orders r (raised a i k) next (i + 1) (p + 1 - (i + 1)) ≡ whole
+      orders-next on = sym (one-order ∙ choose-false _ _ _ large ∙ choose-false _ _ _ on) ∙ rest
+
+-- the coefficients that the orders left, from 1, 0, .., 0 on, are the model of the lags
+pub levinson-ends : (w w₁ w₂ : List Float) (r p : ℕ) → r + 3 * (p + 1) ≤ length w → w₁ ≡ sets w (r + 2 * (p + 1)) (unit p)
+    → Only (r + (p + 1)) (r + 3 * (p + 1)) w₁ w₂
+    → area w₂ (r + 2 * (p + 1)) (p + 1)
+    ≡ orders (area w₁ r (p + 1)) (area w₁ (r + 2 * (p + 1)) (p + 1)) (at w₁ r) 1 p
+    → (area w₂ (r + 2 * (p + 1)) (p + 1) ≡ levinson (area w r (p + 1)) p)
+    × Only (r + (p + 1)) (r + 3 * (p + 1)) w w₂
+unfolding levinson
+levinson-ends w w₁ w₂ r p room e o whole =
+    let a = r + 2 * (p + 1) in
+    let count : length (unit p) ≡ p + 1 = ap suc (length-replicate p nought) ∙ sym (add-one p) in
+    let lags-kept : area w₁ r (p + 1) ≡ area w r (p + 1) = fill-before w w₁ (unit p) a r (p + 1) e (omega arith) in
+    let start : area w₁ a (p + 1) ≡ unit p =
+    ap (λ (z : List Float). area z a (p + 1)) e ∙ part-of-sets w (unit p) a (p + 1) count (omega arith) in
+    let first : at w₁ r ≡ at (area w r (p + 1)) 0 =
+    fill-at w w₁ (unit p) a r e (omega arith) ∙ sym (area-first w r (p + 1) (omega arith)) in (
+      whole
+          ∙ ap (λ (l : List Float). orders l (area w₁ a (p + 1)) (at w₁ r) 1 p) lags-kept
+          ∙ ap (λ (l : List Float). orders (area w r (p + 1)) l (at w₁ r) 1 p) start
+          ∙ ap (λ (x : Float). orders (area w r (p + 1)) (unit p) x 1 p) first,
+      only-then (r + (p + 1)) (r + 3 * (p + 1)) w w₁ w₂
+          (rw e (only-sets w (unit p) a (r + (p + 1)) (r + 3 * (p + 1)) (omega arith) (omega arith)))
+          o,
+    )
