@@ -9,14 +9,15 @@ use native.Mathlib.Numerals.{add-one}
 use borrow.Author.Tests.{lt-ltb, le-ltb, eq-eqb, ne-eqb}
 use lib.Dec.{ltb}
 use lib.ListN.{length, set, take, drop, replicate, length-replicate}
-use lib.Seq.{sets, length-sets, getD-take, getD-drop, drop-cons}
+use lib.Seq.{sets, length-sets, getD-take, getD-drop, drop-cons, drop-set-add, take-set-lt}
 use lib.Ieee.{Float, nan, binary64, add, sub, mul, div, neg, lt, le, ofBits}
 use Rattle.leaves.specs.Arithmetic.{_+₆₄_, _-₆₄_, _*₆₄_, _/₆₄_, nought, one, at}
 use Rattle.leaves.specs.Floats.{magnitude}
-use Rattle.model.specs.Model.{micro, pico, each, unit, lagSum, lags, raisedAt, raised, shortfall, orders, levinson}
-use Rattle.model.specs.Areas.{area, Only}
+use Rattle.model.specs.Model.{micro, pico, each, unit, lagSum, lags, raisedAt, raised, shortfall, orders}
+use Rattle.model.specs.Model.{levinson, estimate}
+use Rattle.model.specs.Areas.{area, Only, coefsAt}
 use Rattle.model.proofs.Parts.{take-sets, store-next, part-of-sets, part-before-sets, part-behind-sets}
-use Rattle.model.proofs.Parts.{part-length, only-sets, only-then, only-before}
+use Rattle.model.proofs.Parts.{part-length, only-sets, only-then, only-wider, only-before}
 use Rattle.model.proofs.sums.Laws.{each-next, length-each}
 
 -- ---- The literals of the code
@@ -285,3 +286,83 @@ levinson-ends w w₁ w₂ r p room e o whole =
           (rw e (only-sets w (unit p) a (r + (p + 1)) (r + 3 * (p + 1)) (omega arith) (omega arith)))
           o,
     )
+
+-- ---- The coefficients of the model of what is known, from the lags behind the window
+
+-- the first lag times 1 + 1e-6
+raised-lag : (x y v : Float) → x ≡ y
+    → v ≡ x *₆₄ (ofBits binary64 4607182418800017408 +₆₄ ofBits binary64 4517329193108106637)
+    → v ≡ y *₆₄ (one +₆₄ micro)
+raised-lag x y v e ev =
+    ev
+    ∙ ap (λ (z : Float). z *₆₄ (ofBits binary64 4607182418800017408 +₆₄ ofBits binary64 4517329193108106637)) e
+    ∙ ap (λ (z : Float). y *₆₄ (z +₆₄ ofBits binary64 4517329193108106637)) one-word
+    ∙ ap (λ (z : Float). y *₆₄ (one +₆₄ z)) micro-word
+
+module _ (w w₁ : List Float) (size g len p : ℕ) (room : size + 3 * (p + 1) ≤ length w)
+    (e : w₁ ≡ sets w size (lags (area w 0 size) g len p)) where
+  count-lags : length (lags (area w 0 size) g len p) ≡ p + 1
+  unfolding lags
+  count-lags = length-each (lagSum (area w 0 size) g len) 0 (p + 1)
+
+  lags-count : length w₁ ≡ length w
+  lags-count = ap length e ∙ length-sets w size (lags (area w 0 size) g len p)
+
+  lags-stand : area w₁ size (p + 1) ≡ lags (area w 0 size) g len p
+  lags-stand =
+      ap (λ (z : List Float). area z size (p + 1)) e
+      ∙ part-of-sets w (lags (area w 0 size) g len p) size (p + 1) count-lags (omega arith)
+
+  first-lag : at w₁ size ≡ at (lags (area w 0 size) g len p) 0
+  first-lag = sym (area-first w₁ size (p + 1) (omega arith)) ∙ ap (λ (l : List Float). at l 0) lags-stand
+
+  lags-only : Only size (size + 3 * (p + 1)) w w₁
+  lags-only =
+      rw e (only-sets w (lags (area w 0 size) g len p) size size (size + 3 * (p + 1)) (omega arith) (rw count-lags (omega arith)))
+
+  -- the first lag is not above 0
+  pub estimate-unit : (w₂ : List Float) → le (at w₁ size) (ofBits binary64 0) ≡ true → w₂ ≡ sets w₁ (coefsAt size p) (unit p)
+      → (area w₂ (coefsAt size p) (p + 1) ≡ estimate (area w 0 size) g len p) × Only size (size + 3 * (p + 1)) w w₂
+  unfolding estimate
+  estimate-unit w₂ none e₂ =
+      let test : le (at (lags (area w 0 size) g len p) 0) nought ≡ true =
+      sym (ap (λ (x : Float). le x nought) first-lag) ∙ ap (le (at w₁ size)) (sym zero-word) ∙ none in
+      let count : length (unit p) ≡ p + 1 = ap suc (length-replicate p nought) ∙ sym (add-one p) in
+      let there : coefsAt size p + (p + 1) ≤ length w₁ = rw lags-count (omega arith) in
+      let wrote : Only size (size + 3 * (p + 1)) w₁ w₂ =
+      rw e₂ (only-sets w₁ (unit p) (coefsAt size p) size (size + 3 * (p + 1)) (omega arith) (omega arith)) in (
+        ap (λ (z : List Float). area z (coefsAt size p) (p + 1)) e₂
+            ∙ part-of-sets w₁ (unit p) (coefsAt size p) (p + 1) count there
+            ∙ sym (choose-true _ _ _ test),
+        only-then size (size + 3 * (p + 1)) w w₁ w₂ lags-only wrote,
+      )
+
+  -- it is, and is raised a little
+  pub estimate-model : (v : Float) (w₃ : List Float) → le (at w₁ size) (ofBits binary64 0) ≡ false
+      → v ≡ at w₁ size *₆₄ (ofBits binary64 4607182418800017408 +₆₄ ofBits binary64 4517329193108106637)
+      → area w₃ (coefsAt size p) (p + 1) ≡ levinson (area (set w₁ size v) size (p + 1)) p
+      → Only (size + (p + 1)) (size + 3 * (p + 1)) (set w₁ size v) w₃
+      → (area w₃ (coefsAt size p) (p + 1) ≡ estimate (area w 0 size) g len p) × Only size (size + 3 * (p + 1)) w w₃
+  unfolding estimate
+  estimate-model v w₃ some ev model o =
+      let r = lags (area w 0 size) g len p in
+      let test : le (at r 0) nought ≡ false =
+      sym (ap (λ (x : Float). le x nought) first-lag) ∙ ap (le (at w₁ size)) (sym zero-word) ∙ some in
+      let value : v ≡ at r 0 *₆₄ (one +₆₄ micro) = raised-lag (at w₁ size) (at r 0) v first-lag ev in
+      let here : size ≡ size + 0 = omega arith in
+      let stands : area (set w₁ size v) size (p + 1) ≡ set r 0 v =
+      ap (λ (k : ℕ). take (p + 1) (drop size (set w₁ k v))) here
+      ∙ ap (take (p + 1)) (drop-set-add size w₁ 0 v)
+      ∙ take-set-lt (p + 1) (drop size w₁) 0 v (omega arith)
+      ∙ ap (λ (l : List Float). set l 0 v) lags-stand in
+      let wrote : Only size (size + 3 * (p + 1)) w₁ (set w₁ size v) =
+      only-sets w₁ (v ∷ []) size size (size + 3 * (p + 1)) (omega arith) (omega arith) in
+      let rest : Only size (size + 3 * (p + 1)) (set w₁ size v) w₃ =
+      only-wider (size + (p + 1)) (size + 3 * (p + 1)) size (size + 3 * (p + 1)) (set w₁ size v) w₃ (omega arith) (omega arith) o in (
+        model
+            ∙ ap (λ (l : List Float). levinson l p) (stands ∙ ap (set r 0) value)
+            ∙ sym (choose-false _ _ _ test),
+        only-then size (size + 3 * (p + 1)) w (set w₁ size v) w₃
+            (only-then size (size + 3 * (p + 1)) w w₁ (set w₁ size v) lags-only wrote)
+            rest,
+      )
