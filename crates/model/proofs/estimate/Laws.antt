@@ -38,6 +38,25 @@ pub micro-word : ofBits binary64 4517329193108106637 ≡ micro
 unfolding ofBits micro
 micro-word = refl
 
+-- ---- A run of stores: what it leaves in its own area, in one before or behind it, and in the rest
+
+pub run-count : (w v l : List Float) (d : ℕ) → v ≡ sets w d l → length v ≡ length w
+run-count w v l d e = ap length e ∙ length-sets w d l
+
+pub run-stands : (w v l : List Float) (d n : ℕ) → v ≡ sets w d l → length l ≡ n → d + n ≤ length w → area v d n ≡ l
+run-stands w v l d n e count h = ap (λ (z : List Float). area z d n) e ∙ part-of-sets w l d n count h
+
+pub run-before : (w v l : List Float) (d from n : ℕ) → v ≡ sets w d l → from + n ≤ d → area v from n ≡ area w from n
+run-before w v l d from n e h = ap (λ (z : List Float). area z from n) e ∙ part-before-sets w l d from n h
+
+pub run-behind : (w v l : List Float) (d m from n : ℕ) → v ≡ sets w d l → length l ≡ m → d + m ≤ from
+    → area v from n ≡ area w from n
+run-behind w v l d m from n e count h =
+    ap (λ (z : List Float). area z from n) e ∙ part-behind-sets w l d from n (rw count h)
+
+pub run-only : (w v l : List Float) (d n low high : ℕ) → v ≡ sets w d l → length l ≡ n → low ≤ d → d + n ≤ high → Only low high w v
+run-only w v l d n low high e count h k = rw e (only-sets w l d low high h (rw count k))
+
 -- ---- A loop that stores f 0, f 1, .. from place d on
 
 -- nothing is stored before the first turn
@@ -58,16 +77,6 @@ fill-turn w₀ w d j f v e ev =
 -- the last
 pub fill-done : (w₀ w : List Float) (d j n : ℕ) (f : ℕ → Float) → w ≡ sets w₀ d (each f 0 j) → j ≡ n → w ≡ sets w₀ d (each f 0 n)
 fill-done w₀ w d j n f e h = e ∙ ap (λ (k : ℕ). sets w₀ d (each f 0 k)) h
-
--- what stands before, or behind, the places that were filled is as it was
-pub fill-before : (w₀ w l : List Float) (d from n : ℕ) → w ≡ sets w₀ d l → from + n ≤ d → area w from n ≡ area w₀ from n
-fill-before w₀ w l d from n e h = ap (λ (z : List Float). area z from n) e ∙ part-before-sets w₀ l d from n h
-
-pub fill-behind : (w₀ w : List Float) (d j from n : ℕ) (f : ℕ → Float) → w ≡ sets w₀ d (each f 0 j) → d + j ≤ from
-    → area w from n ≡ area w₀ from n
-fill-behind w₀ w d j from n f e h =
-    let count : length (each f 0 j) ≡ j = length-each f 0 j in
-    ap (λ (z : List Float). area z from n) e ∙ part-behind-sets w₀ (each f 0 j) d from n (omega arith)
 
 fill-at : (w₀ w l : List Float) (d k : ℕ) → w ≡ sets w₀ d l → k < d → at w k ≡ at w₀ k
 fill-at w₀ w l d k e h =
@@ -91,7 +100,7 @@ pub lag-turn : (w₀ w : List Float) (size g len n lag : ℕ) (v : Float) → n 
 lag-turn w₀ w size g len n lag v en e ev =
     let f = lagSum (area w₀ 0 size) g len in
     let same : area w 0 n ≡ area w₀ 0 size =
-    ap (area w 0) en ∙ fill-before w₀ w (each f 0 lag) size 0 size e (omega arith) in
+    ap (area w 0) en ∙ run-before w₀ w (each f 0 lag) size 0 size e (omega arith) in
     fill-turn w₀ w size lag f v e (ev ∙ ap (λ (l : List Float). lagSum l g len lag) same)
 
 pub lag-done : (w₀ w : List Float) (size g len p lag : ℕ) → lag ≡ p + 1
@@ -101,6 +110,9 @@ unfolding lags
 lag-done w₀ w size g len p lag h e = fill-done w₀ w size lag (p + 1) (lagSum (area w₀ 0 size) g len) e h
 
 -- ---- The coefficients 1, 0, .., 0
+
+length-unit : (p : ℕ) → length (unit p) ≡ p + 1
+length-unit p = ap suc (length-replicate p nought) ∙ sym (add-one p)
 
 pub unit-stored : (w v : List Float) (a p : ℕ)
     → v ≡ sets (set w a (ofBits binary64 4607182418800017408)) (a + 1) (replicate p (ofBits binary64 0))
@@ -165,7 +177,7 @@ pub raise-turn : (w₀ w : List Float) (copy a p n i j : ℕ) (k v : Float) → 
 raise-turn w₀ w copy a p n i j k v en h e ev =
     let f = raisedAt (area w₀ a (p + 1)) i k in
     let same : area w a n ≡ area w₀ a (p + 1) =
-    ap (area w a) en ∙ fill-behind w₀ w copy j a (p + 1) f e h in
+    ap (area w a) en ∙ run-behind w₀ w (each f 0 j) copy j a (p + 1) e (length-each f 0 j) h in
     fill-turn w₀ w copy j f v e (ev ∙ ap (λ (l : List Float). raisedAt l i k j) same)
 
 pub raise-done : (w₀ w : List Float) (copy a p i j : ℕ) (k : Float) → a + (p + 1) ≤ length w₀ → j ≡ p + 1
@@ -186,25 +198,21 @@ module _ (w w₁ w₂ : List Float) (copy a p i : ℕ) (k : Float) (h : copy + (
       length-each (raisedAt (area w a (p + 1)) i k) 0 (length (area w a (p + 1))) ∙ part-length w a (p + 1) room
 
   count-copy : length w₁ ≡ length w
-  count-copy = ap length e₁ ∙ length-sets w copy (raised (area w a (p + 1)) i k)
+  count-copy = run-count w w₁ (raised (area w a (p + 1)) i k) copy e₁
 
   count-copied : length (area w₁ copy (p + 1)) ≡ p + 1
   count-copied = part-length w₁ copy (p + 1) (rw count-copy (omega arith))
 
   order-area : area w₂ a (p + 1) ≡ raised (area w a (p + 1)) i k
   order-area =
-      ap (λ (z : List Float). area z a (p + 1)) e₂
-      ∙ part-of-sets w₁ (area w₁ copy (p + 1)) a (p + 1) count-copied (rw count-copy room)
-      ∙ ap (λ (z : List Float). area z copy (p + 1)) e₁
-      ∙ part-of-sets w (raised (area w a (p + 1)) i k) copy (p + 1) count-raised (omega arith)
+      run-stands w₁ w₂ (area w₁ copy (p + 1)) a (p + 1) e₂ count-copied (rw count-copy room)
+      ∙ run-stands w w₁ (raised (area w a (p + 1)) i k) copy (p + 1) e₁ count-raised (omega arith)
 
   order-only : (end : ℕ) → a + (p + 1) ≤ end → Only copy end w w₂
   order-only end le =
-      let first : Only copy end w w₁ =
-      rw e₁ (only-sets w (raised (area w a (p + 1)) i k) copy copy end (omega arith) (rw count-raised (omega arith))) in
-      let then : Only copy end w₁ w₂ =
-      rw e₂ (only-sets w₁ (area w₁ copy (p + 1)) a copy end (omega arith) (rw count-copied le)) in
-      only-then copy end w w₁ w₂ first then
+      only-then copy end w w₁ w₂
+      (run-only w w₁ (raised (area w a (p + 1)) i k) copy (p + 1) copy end e₁ count-raised (omega arith) (omega arith))
+      (run-only w₁ w₂ (area w₁ copy (p + 1)) a (p + 1) copy end e₂ count-copied (omega arith) le)
 
 pub order-stands : (w w₁ w₂ : List Float) (copy a p i end : ℕ) (k : Float) → copy + (p + 1) ≤ a → a + (p + 1) ≤ length w
     → a + (p + 1) ≤ end
@@ -272,10 +280,9 @@ pub levinson-ends : (w w₁ w₂ : List Float) (r p : ℕ) → r + 3 * (p + 1) �
 unfolding levinson
 levinson-ends w w₁ w₂ r p room e o whole =
     let a = r + 2 * (p + 1) in
-    let count : length (unit p) ≡ p + 1 = ap suc (length-replicate p nought) ∙ sym (add-one p) in
-    let lags-kept : area w₁ r (p + 1) ≡ area w r (p + 1) = fill-before w w₁ (unit p) a r (p + 1) e (omega arith) in
-    let start : area w₁ a (p + 1) ≡ unit p =
-    ap (λ (z : List Float). area z a (p + 1)) e ∙ part-of-sets w (unit p) a (p + 1) count (omega arith) in
+    let count : length (unit p) ≡ p + 1 = length-unit p in
+    let lags-kept : area w₁ r (p + 1) ≡ area w r (p + 1) = run-before w w₁ (unit p) a r (p + 1) e (omega arith) in
+    let start : area w₁ a (p + 1) ≡ unit p = run-stands w w₁ (unit p) a (p + 1) e count (omega arith) in
     let first : at w₁ r ≡ at (area w r (p + 1)) 0 =
     fill-at w w₁ (unit p) a r e (omega arith) ∙ sym (area-first w r (p + 1) (omega arith)) in (
       whole
@@ -283,7 +290,7 @@ levinson-ends w w₁ w₂ r p room e o whole =
           ∙ ap (λ (l : List Float). orders (area w r (p + 1)) l (at w₁ r) 1 p) start
           ∙ ap (λ (x : Float). orders (area w r (p + 1)) (unit p) x 1 p) first,
       only-then (r + (p + 1)) (r + 3 * (p + 1)) w w₁ w₂
-          (rw e (only-sets w (unit p) a (r + (p + 1)) (r + 3 * (p + 1)) (omega arith) (omega arith)))
+          (run-only w w₁ (unit p) a (p + 1) (r + (p + 1)) (r + 3 * (p + 1)) e count (omega arith) (omega arith))
           o,
     )
 
@@ -306,19 +313,17 @@ module _ (w w₁ : List Float) (size g len p : ℕ) (room : size + 3 * (p + 1) �
   count-lags = length-each (lagSum (area w 0 size) g len) 0 (p + 1)
 
   lags-count : length w₁ ≡ length w
-  lags-count = ap length e ∙ length-sets w size (lags (area w 0 size) g len p)
+  lags-count = run-count w w₁ (lags (area w 0 size) g len p) size e
 
   lags-stand : area w₁ size (p + 1) ≡ lags (area w 0 size) g len p
-  lags-stand =
-      ap (λ (z : List Float). area z size (p + 1)) e
-      ∙ part-of-sets w (lags (area w 0 size) g len p) size (p + 1) count-lags (omega arith)
+  lags-stand = run-stands w w₁ (lags (area w 0 size) g len p) size (p + 1) e count-lags (omega arith)
 
   first-lag : at w₁ size ≡ at (lags (area w 0 size) g len p) 0
   first-lag = sym (area-first w₁ size (p + 1) (omega arith)) ∙ ap (λ (l : List Float). at l 0) lags-stand
 
   lags-only : Only size (size + 3 * (p + 1)) w w₁
   lags-only =
-      rw e (only-sets w (lags (area w 0 size) g len p) size size (size + 3 * (p + 1)) (omega arith) (rw count-lags (omega arith)))
+      run-only w w₁ (lags (area w 0 size) g len p) size (p + 1) size (size + 3 * (p + 1)) e count-lags (omega arith) (omega arith)
 
   -- the first lag is not above 0
   pub estimate-unit : (w₂ : List Float) → le (at w₁ size) (ofBits binary64 0) ≡ true → w₂ ≡ sets w₁ (coefsAt size p) (unit p)
@@ -327,12 +332,11 @@ module _ (w w₁ : List Float) (size g len p : ℕ) (room : size + 3 * (p + 1) �
   estimate-unit w₂ none e₂ =
       let test : le (at (lags (area w 0 size) g len p) 0) nought ≡ true =
       sym (ap (λ (x : Float). le x nought) first-lag) ∙ ap (le (at w₁ size)) (sym zero-word) ∙ none in
-      let count : length (unit p) ≡ p + 1 = ap suc (length-replicate p nought) ∙ sym (add-one p) in
+      let count : length (unit p) ≡ p + 1 = length-unit p in
       let there : coefsAt size p + (p + 1) ≤ length w₁ = rw lags-count (omega arith) in
       let wrote : Only size (size + 3 * (p + 1)) w₁ w₂ =
-      rw e₂ (only-sets w₁ (unit p) (coefsAt size p) size (size + 3 * (p + 1)) (omega arith) (omega arith)) in (
-        ap (λ (z : List Float). area z (coefsAt size p) (p + 1)) e₂
-            ∙ part-of-sets w₁ (unit p) (coefsAt size p) (p + 1) count there
+      run-only w₁ w₂ (unit p) (coefsAt size p) (p + 1) size (size + 3 * (p + 1)) e₂ count (omega arith) (omega arith) in (
+        run-stands w₁ w₂ (unit p) (coefsAt size p) (p + 1) e₂ count there
             ∙ sym (choose-true _ _ _ test),
         only-then size (size + 3 * (p + 1)) w w₁ w₂ lags-only wrote,
       )
