@@ -1,5 +1,5 @@
--- The banded equations: what the code's literals are, where a place of the band lies, each place of a row and of the two solves by
--- the code's steps, and one turn of each loop over the workspace. Assumes nothing.
+-- The banded equations: what the code's literals are, where a place of the band lies, each place of a row and of
+-- the two solves by the code's steps, and one turn of each loop over the workspace. Assumes nothing.
 use mathlib.Core.Path.{_≡_, refl, sym, ap, _∙_}
 use mathlib.Core.List.{List, [], _∷_, _++_}
 use Prim.Native.Nat.{ℕ, zero, suc, _+_, _-_, _*_, _≤_, _<_, min}
@@ -9,27 +9,25 @@ use borrow.Author.Tests.{lt-ltb, le-ltb, eq-eqb, ne-eqb}
 use lib.Ieee.{Float, binary64, ofBits}
 use lib.ListN.{length, set, take, drop, length-append}
 use lib.Seq.{sets, sets-eq, length-sets}
-use Rattle.leaves.specs.Arithmetic.{_+₆₄_, _*₆₄_, _/₆₄_, nought, near, at}
+use Rattle.leaves.specs.Arithmetic.{_+₆₄_, _*₆₄_, _/₆₄_, near, at}
 use Rattle.leaves.specs.Floats.{larger}
 use Rattle.leaves.specs.Root.{root}
-use Rattle.model.specs.Model.{micro, pico, less, mat, laid, cellAt, cells, rows, factored, forwardAt, forward, backwardAt, backward}
+use Rattle.model.specs.Model.{micro, pico, less, mat, laid, cellAt, cells, rows, factored}
+use Rattle.model.specs.Model.{forwardAt, forward, backwardAt, backward}
 use Rattle.model.specs.Areas.{area}
 use Rattle.model.proofs.Parts.{take-sets, drop-sets, store-next, store-before, part-length, part-of-sets}
-use Rattle.model.proofs.Parts.{part-before-sets, part-grows, own-part}
+use Rattle.model.proofs.Parts.{part-before-sets, part-grows}
+use Rattle.model.proofs.sums.Laws.{no-sum}
 
--- ---- The literals 1e-6, 1e-12 and 0.0
+-- ---- The literals 1e-6 and 1e-12
 
-micro-word : ofBits binary64 4517329193108106637 ≡ micro
+pub micro-word : ofBits binary64 4517329193108106637 ≡ micro
 unfolding ofBits micro near
 micro-word = refl
 
-pico-word : ofBits binary64 4427486594234968593 ≡ pico
+pub pico-word : ofBits binary64 4427486594234968593 ≡ pico
 unfolding ofBits pico near
 pico-word = refl
-
-nought-word : ofBits binary64 0 ≡ nought
-unfolding ofBits
-nought-word = refl
 
 -- ---- Where a place of the band lies
 
@@ -67,7 +65,8 @@ module _ (i d n p : ℕ) (h : d ≤ i) (hd : d ≤ p) (count : n ≡ i * (p + 1)
 
 -- ---- laid
 
-pub laid-diagonal : (b : List Float) (d : ℕ) → d ≡ 0 → at b 0 +₆₄ ofBits binary64 4517329193108106637 *₆₄ at b 0 ≡ laid b d
+pub laid-diagonal : (b : List Float) (d : ℕ) → d ≡ 0
+    → at b 0 +₆₄ ofBits binary64 4517329193108106637 *₆₄ at b 0 ≡ laid b d
 unfolding laid
 laid-diagonal b d h = rw (eq-eqb _ _ h, micro-word) refl
 
@@ -80,18 +79,19 @@ laid-below b d h = rw (ne-eqb _ _ h) refl
 module _ (b : List Float) (p : ℕ) (band : List Float) (i d : ℕ) where
   pub cell-outside : i < d → ofBits binary64 0 ≡ cellAt b p band i d
   unfolding cellAt
-  cell-outside h = rw (lt-ltb _ _ h, nought-word) refl
+  cell-outside h = rw (lt-ltb _ _ h, no-sum) refl
 
   module _ (low : ℕ) (v sum : Float) (h : d ≤ i) (el : low ≡ i - p) (ev : v ≡ laid b d)
       (es : sum ≡ less (λ k. at band (p * (i + 1) + k) *₆₄ at band (p * (i - d + 1) + k)) low (i - d - low) v)
-      where
-    pub cell-diagonal : (m r : Float) → d ≡ 0 → m ≡ larger sum (ofBits binary64 4427486594234968593) → r ≡ root m → r ≡ cellAt b p band i d
-    unfolding cellAt
-    cell-diagonal m r z em er = rw (er, em, pico-word, es, ev, el, le-ltb _ _ h, eq-eqb _ _ z) refl
+    where
+      pub cell-diagonal : (m r : Float) → d ≡ 0 → m ≡ larger sum (ofBits binary64 4427486594234968593) → r ≡ root m
+          → r ≡ cellAt b p band i d
+      unfolding cellAt
+      cell-diagonal m r z em er = rw (er, em, pico-word, es, ev, el, le-ltb _ _ h, eq-eqb _ _ z) refl
 
-    pub cell-below : (d ≡ 0 → ⊥) → sum /₆₄ at band (p * (i - d + 1) + (i - d)) ≡ cellAt b p band i d
-    unfolding cellAt
-    cell-below z = rw (es, ev, el, le-ltb _ _ h, ne-eqb _ _ z) refl
+      pub cell-below : (d ≡ 0 → ⊥) → sum /₆₄ at band (p * (i - d + 1) + (i - d)) ≡ cellAt b p band i d
+      unfolding cellAt
+      cell-below z = rw (es, ev, el, le-ltb _ _ h, ne-eqb _ _ z) refl
 
 -- ---- A place of each solve
 
@@ -101,7 +101,8 @@ pub forward-place : (band rhs : List Float) (p : ℕ) (y : List Float) (low : �
 unfolding forwardAt
 forward-place band rhs p y low sum el es = rw (es, el) (simp zero-add)
 
-pub backward-place : (band y : List Float) (p i : ℕ) (x : List Float) (high : ℕ) (sum : Float) → high ≡ min (i + p) (length y - 1)
+pub backward-place : (band y : List Float) (p i : ℕ) (x : List Float) (high : ℕ) (sum : Float)
+    → high ≡ min (i + p) (length y - 1)
     → sum ≡ less (λ k. mat p band k i *₆₄ at x (k - (i + 1))) (i + 1) (high - i) (at y i)
     → sum /₆₄ at band (p * (i + 1) + i) ≡ backwardAt band y p (length y) i x
 unfolding backwardAt
@@ -140,13 +141,15 @@ run-grows w₀ w d c v h e =
     ∙ store-next w₀ (area w d c) d v
     ∙ ap (λ (l : List Float). sets w₀ d l) (sym (part-grows w d c v h))
 
-pub run-before : (w₀ w l : List Float) (a d : ℕ) (v : Float) → suc a ≡ d → w ≡ sets w₀ d l → set w a v ≡ sets w₀ a (v ∷ l)
+pub run-before : (w₀ w l : List Float) (a d : ℕ) (v : Float) → suc a ≡ d → w ≡ sets w₀ d l
+    → set w a v ≡ sets w₀ a (v ∷ l)
 run-before w₀ w l a d v n e =
     ap (λ (z : List Float). set z a v) e
     ∙ store-before w₀ l a d v (omega arith)
     ∙ ap (λ (k : ℕ). sets (set w₀ a v) k l) (sym n)
 
-pub run-over : (w l m : List Float) (d : ℕ) → length l ≤ length m → d + length m ≤ length w → sets (sets w d l) d m ≡ sets w d m
+pub run-over : (w l m : List Float) (d : ℕ) → length l ≤ length m → d + length m ≤ length w
+    → sets (sets w d l) d m ≡ sets w d m
 run-over w l m d h k =
     sets-eq m (sets w d l) d (rw length-sets k)
     ∙ ap (λ (z : List Float). (z ++ m) ++ drop (d + length m) (sets w d l)) (take-sets w l d d (omega arith))
@@ -159,7 +162,8 @@ module _ (w₀ w : List Float) (band rhs y len p i : ℕ) (whole : List Float) (
   pub forward-turn : (v : Float) → i < len → band + len * (p + 1) ≤ y → rhs + len ≤ y → y + len ≤ length w
       → v ≡ forwardAt (lent w band (len * (p + 1))) (lent w rhs len) p (lent w y i)
       → forward (area w₀ band (len * (p + 1))) (area w₀ rhs len) p (len - i) (area w y i) ≡ whole
-      → forward (area w₀ band (len * (p + 1))) (area w₀ rhs len) p (len - (i + 1)) (area (set w (y + i) v) y (i + 1)) ≡ whole
+      → forward (area w₀ band (len * (p + 1))) (area w₀ rhs len) p (len - (i + 1)) (area (set w (y + i) v) y (i + 1))
+      ≡ whole
   unfolding forward
   forward-turn v h hb hr hy ev rest =
       let b = area w₀ band (len * (p + 1)) in
@@ -167,7 +171,8 @@ module _ (w₀ w : List Float) (band rhs y len p i : ℕ) (whole : List Float) (
       let left : len - i ≡ suc (len - (i + 1)) = omega arith in
       let place : v ≡ forwardAt b r p (area w y i) =
       ev
-      ∙ ap (λ (z : List Float). forwardAt z (lent w rhs len) p (lent w y i)) (lent-before w₀ w (area w y i) y band (len * (p + 1)) e hb)
+      ∙ ap (λ (z : List Float). forwardAt z (lent w rhs len) p (lent w y i))
+      (lent-before w₀ w (area w y i) y band (len * (p + 1)) e hb)
       ∙ ap (λ (z : List Float). forwardAt b z p (lent w y i)) (lent-before w₀ w (area w y i) y rhs len e hr)
       ∙ ap (λ (z : List Float). forwardAt b r p z) (lent-area w y i) in
       ap (λ (z : List Float). forward b r p (len - (i + 1)) z) (part-grows w y i v (omega arith))
@@ -198,7 +203,8 @@ module _ (w₀ w : List Float) (b band p i c left : ℕ) (whole : List Float) (e
       let one : left ≡ suc (left - 1) = omega arith in
       let place : v ≡ cellAt bs p (area w band c) i (left - 1) =
       ev
-      ∙ ap (λ (z : List Float). cellAt z p (lent w band c) i (left - 1)) (lent-before w₀ w (area w band c) band b (p + 1) e hb)
+      ∙ ap (λ (z : List Float). cellAt z p (lent w band c) i (left - 1))
+      (lent-before w₀ w (area w band c) band b (p + 1) e hb)
       ∙ ap (λ (z : List Float). cellAt bs p z i (left - 1)) (lent-area w band c) in
       ap (λ (z : List Float). cells bs p i (left - 1) z) (part-grows w band c v hw)
       ∙ ap (λ (z : Float). cells bs p i (left - 1) (area w band c ++ (z ∷ []))) place
@@ -209,7 +215,8 @@ module _ (w₀ w : List Float) (b band p i c left : ℕ) (whole : List Float) (e
   unfolding cells
   cells-done h rest =
       let none : left ≡ 0 = omega arith in
-      let all : area w band c ≡ whole = sym (ap (λ (n : ℕ). cells (area w₀ b (p + 1)) p i n (area w band c)) none) ∙ rest in
+      let all : area w band c ≡ whole =
+      sym (ap (λ (n : ℕ). cells (area w₀ b (p + 1)) p i n (area w band c)) none) ∙ rest in
       e ∙ ap (λ (l : List Float). sets w₀ band l) all
 
 -- a row adds its places
@@ -227,7 +234,8 @@ length-cells b p i (suc n) l =
 pub none-stored : (w : List Float) (band p : ℕ) → w ≡ sets w band (area w band (0 * (p + 1)))
 none-stored w band p = rw zero-mul refl
 
-pub rows-start : (b w : List Float) (band p len : ℕ) → rows b p 0 (len - 0) (area w band (0 * (p + 1))) ≡ factored b p len
+pub rows-start : (b w : List Float) (band p len : ℕ)
+    → rows b p 0 (len - 0) (area w band (0 * (p + 1))) ≡ factored b p len
 unfolding factored
 rows-start b w band p len = rw (zero-mul, sub-zero) refl
 
@@ -237,49 +245,54 @@ row-room band len p i n h k =
     omega arith
 
 module _ (w₀ w : List Float) (b band len p i : ℕ) (e : w ≡ sets w₀ band (area w band (i * (p + 1)))) where
-  module _ (v : List Float) (h : i < len) (hb : b + (p + 1) ≤ band) (hw : band + len * (p + 1) ≤ length w) (same : length w ≡ length w₀)
+  module _ (v : List Float) (h : i < len) (hb : b + (p + 1) ≤ band) (hw : band + len * (p + 1) ≤ length w)
+      (same : length w ≡ length w₀)
       (ev : v ≡ sets w band (cells (area w b (p + 1)) p i (p + 1) (area w band (i * (p + 1)))))
-      where
-    abbrev row : List Float
-    row = cells (area w b (p + 1)) p i (p + 1) (area w band (i * (p + 1)))
+    where
+      abbrev row : List Float
+      row = cells (area w b (p + 1)) p i (p + 1) (area w band (i * (p + 1)))
 
-    room : (i + 1) * (p + 1) ≤ len * (p + 1)
-    room = mul-le-mul-right (p + 1) (omega arith)
+      room : (i + 1) * (p + 1) ≤ len * (p + 1)
+      room = mul-le-mul-right (p + 1) (omega arith)
 
-    before : length (area w band (i * (p + 1))) ≡ i * (p + 1)
-    before = part-length w band (i * (p + 1)) (omega (arith, room, row-more i p))
+      before : length (area w band (i * (p + 1))) ≡ i * (p + 1)
+      before = part-length w band (i * (p + 1)) (omega (arith, room, row-more i p))
 
-    count : length row ≡ (i + 1) * (p + 1)
-    count = omega (arith, length-cells (area w b (p + 1)) p i (p + 1) (area w band (i * (p + 1))), before, row-more i p)
+      count : length row ≡ (i + 1) * (p + 1)
+      count =
+          let added = length-cells (area w b (p + 1)) p i (p + 1) (area w band (i * (p + 1))) in
+          omega (arith, before, row-more i p)
 
-    grown : area v band ((i + 1) * (p + 1)) ≡ row
-    grown =
-        ap (λ (z : List Float). area z band ((i + 1) * (p + 1))) ev
-        ∙ part-of-sets w row band ((i + 1) * (p + 1)) count (omega (arith, room))
+      grown : area v band ((i + 1) * (p + 1)) ≡ row
+      grown =
+          ap (λ (z : List Float). area z band ((i + 1) * (p + 1))) ev
+          ∙ part-of-sets w row band ((i + 1) * (p + 1)) count (omega (arith, room))
 
-    pub row-length : length v ≡ length w₀
-    row-length = ap length ev ∙ length-sets w band row ∙ same
+      pub row-length : length v ≡ length w₀
+      row-length = ap length ev ∙ length-sets w band row ∙ same
 
-    pub row-stored : v ≡ sets w₀ band (area v band ((i + 1) * (p + 1)))
-    row-stored =
-        ev
-        ∙ ap (λ (z : List Float). sets z band row) e
-        ∙ run-over w₀ (area w band (i * (p + 1))) row band (omega (arith, count, before, row-more i p)) (omega (arith, count, room))
-        ∙ ap (λ (l : List Float). sets w₀ band l) (sym grown)
+      pub row-stored : v ≡ sets w₀ band (area v band ((i + 1) * (p + 1)))
+      row-stored =
+          ev
+          ∙ ap (λ (z : List Float). sets z band row) e
+          ∙ run-over w₀ (area w band (i * (p + 1))) row band (omega (arith, count, before, row-more i p))
+          (omega (arith, count, room))
+          ∙ ap (λ (l : List Float). sets w₀ band l) (sym grown)
 
-    pub rows-turn : (whole : List Float)
-        → rows (area w₀ b (p + 1)) p i (len - i) (area w band (i * (p + 1))) ≡ whole
-        → rows (area w₀ b (p + 1)) p (i + 1) (len - (i + 1)) (area v band ((i + 1) * (p + 1))) ≡ whole
-    unfolding rows
-    rows-turn whole rest =
-        let bs = area w₀ b (p + 1) in
-        let l = area w band (i * (p + 1)) in
-        let left : len - i ≡ suc (len - (i + 1)) = omega arith in
-        let kept : area w b (p + 1) ≡ bs =
-        ap (λ (z : List Float). area z b (p + 1)) e ∙ part-before-sets w₀ l band b (p + 1) hb in
-        ap (λ (z : List Float). rows bs p (i + 1) (len - (i + 1)) z) (grown ∙ ap (λ (z : List Float). cells z p i (p + 1) l) kept)
-        ∙ sym (ap (λ (n : ℕ). rows bs p i n l) left)
-        ∙ rest
+      pub rows-turn : (whole : List Float)
+          → rows (area w₀ b (p + 1)) p i (len - i) (area w band (i * (p + 1))) ≡ whole
+          → rows (area w₀ b (p + 1)) p (i + 1) (len - (i + 1)) (area v band ((i + 1) * (p + 1))) ≡ whole
+      unfolding rows
+      rows-turn whole rest =
+          let bs = area w₀ b (p + 1) in
+          let l = area w band (i * (p + 1)) in
+          let left : len - i ≡ suc (len - (i + 1)) = omega arith in
+          let kept : area w b (p + 1) ≡ bs =
+          ap (λ (z : List Float). area z b (p + 1)) e ∙ part-before-sets w₀ l band b (p + 1) hb in
+          ap (λ (z : List Float). rows bs p (i + 1) (len - (i + 1)) z) grown
+          ∙ ap (λ (z : List Float). rows bs p (i + 1) (len - (i + 1)) (cells z p i (p + 1) l)) kept
+          ∙ sym (ap (λ (n : ℕ). rows bs p i n l) left)
+          ∙ rest
 
   pub rows-done : (whole : List Float) → len ≤ i
       → rows (area w₀ b (p + 1)) p i (len - i) (area w band (i * (p + 1))) ≡ whole
@@ -296,7 +309,8 @@ module _ (w₀ w : List Float) (b band len p i : ℕ) (e : w ≡ sets w₀ band 
 pub none-solved : (w : List Float) (x len : ℕ) → w ≡ sets w (x + len) (area w (x + len) (len - len))
 none-solved w x len = let none : len - len ≡ 0 = omega arith in rw none refl
 
-pub back-start : (b y w : List Float) (x p len : ℕ) → backward b y p len len (area w (x + len) (len - len)) ≡ backward b y p len len []
+pub back-start : (b y w : List Float) (x p len : ℕ)
+    → backward b y p len len (area w (x + len) (len - len)) ≡ backward b y p len len []
 back-start b y w x p len =
     let none : len - len ≡ 0 = omega arith in
     ap (λ (n : ℕ). backward b y p len len (take n (drop (x + len) w))) none
@@ -313,9 +327,7 @@ pub lent-results-length : (w : List Float) (y x i len : ℕ) → 0 < i → i ≤
     → length (take (x + len - (x + (i - 1 + 1))) (drop (x + (i - 1 + 1)) w)) ≡ length (lent w y len) - (i - 1 + 1)
 lent-results-length w y x i len h hi hy hx =
     let count : length (area w (x + i) (len - i)) ≡ len - i = part-length w (x + i) (len - i) (omega arith) in
-    let same : length (take (x + len - (x + (i - 1 + 1))) (drop (x + (i - 1 + 1)) w)) ≡ length (area w (x + i) (len - i)) =
-    ap length (lent-results w x i len h hi) in
-    omega (arith, lent-length w y len hy)
+    omega (arith, ap length (lent-results w x i len h hi), lent-length w y len hy)
 
 module _ (w₀ w : List Float) (x len i : ℕ) (e : w ≡ sets w₀ (x + i) (area w (x + i) (len - i))) where
   module _ (v : Float) (h : 0 < i) (hi : i ≤ len) (hx : x + len ≤ length w) (same : length w ≡ length w₀) where
@@ -329,15 +341,16 @@ module _ (w₀ w : List Float) (x len i : ℕ) (e : w ≡ sets w₀ (x + i) (are
         ap (λ (z : List Float). area z (x + (i - 1)) (len - (i - 1))) back-run
         ∙ part-of-sets w₀ (v ∷ area w (x + i) (len - i)) (x + (i - 1)) (len - (i - 1)) count (omega arith)
 
-    pub back-stored : set w (x + (i - 1)) v ≡ sets w₀ (x + (i - 1)) (area (set w (x + (i - 1)) v) (x + (i - 1)) (len - (i - 1)))
+    pub back-stored : set w (x + (i - 1)) v
+        ≡ sets w₀ (x + (i - 1)) (area (set w (x + (i - 1)) v) (x + (i - 1)) (len - (i - 1)))
     back-stored = back-run ∙ ap (λ (l : List Float). sets w₀ (x + (i - 1)) l) (sym back-grown)
 
     pub back-turn : (band y p : ℕ) (whole : List Float) → band + len * (p + 1) ≤ x → y + len ≤ x
         → v ≡ backwardAt (lent w band (len * (p + 1))) (lent w y len) p (length (lent w y len)) (i - 1)
-            (take (x + len - (x + (i - 1 + 1))) (drop (x + (i - 1 + 1)) w))
+        (take (x + len - (x + (i - 1 + 1))) (drop (x + (i - 1 + 1)) w))
         → backward (area w₀ band (len * (p + 1))) (area w₀ y len) p len i (area w (x + i) (len - i)) ≡ whole
         → backward (area w₀ band (len * (p + 1))) (area w₀ y len) p len (i - 1)
-            (area (set w (x + (i - 1)) v) (x + (i - 1)) (len - (i - 1)))
+        (area (set w (x + (i - 1)) v) (x + (i - 1)) (len - (i - 1)))
         ≡ whole
     unfolding backward
     back-turn band y p whole hb hy ev rest =
@@ -345,12 +358,13 @@ module _ (w₀ w : List Float) (x len i : ℕ) (e : w ≡ sets w₀ (x + i) (are
         let ys = area w₀ y len in
         let l = area w (x + i) (len - i) in
         let one : i ≡ suc (i - 1) = omega arith in
-        let same-b : lent w band (len * (p + 1)) ≡ b = lent-before w₀ w l (x + i) band (len * (p + 1)) e (omega arith) in
-        let same-y : lent w y len ≡ ys = lent-before w₀ w l (x + i) y len e (omega arith) in
+        let same-b = lent-before w₀ w l (x + i) band (len * (p + 1)) e (omega arith) in
+        let same-y = lent-before w₀ w l (x + i) y len e (omega arith) in
         let count : length (lent w y len) ≡ len = lent-length w y len (omega arith) in
         let place : v ≡ backwardAt b ys p len (i - 1) l =
         ev
-        ∙ ap (backwardAt (lent w band (len * (p + 1))) (lent w y len) p (length (lent w y len)) (i - 1)) (lent-results w x i len h hi)
+        ∙ ap (backwardAt (lent w band (len * (p + 1))) (lent w y len) p (length (lent w y len)) (i - 1))
+        (lent-results w x i len h hi)
         ∙ ap (λ (n : ℕ). backwardAt (lent w band (len * (p + 1))) (lent w y len) p n (i - 1) l) count
         ∙ ap (λ (z : List Float). backwardAt z (lent w y len) p len (i - 1) l) same-b
         ∙ ap (λ (z : List Float). backwardAt b z p len (i - 1) l) same-y in
@@ -367,5 +381,40 @@ module _ (w₀ w : List Float) (x len i : ℕ) (e : w ≡ sets w₀ (x + i) (are
       let none : i ≡ 0 = omega arith in
       let there : x + i ≡ x = omega arith in
       let l = area w (x + i) (len - i) in
-      let all : l ≡ whole = sym (ap (λ (n : ℕ). backward (area w₀ band (len * (p + 1))) (area w₀ y len) p len n l) none) ∙ rest in
+      let all : l ≡ whole =
+      sym (ap (λ (n : ℕ). backward (area w₀ band (len * (p + 1))) (area w₀ y len) p len n l) none) ∙ rest in
       e ∙ ap (λ (k : ℕ). sets w₀ k l) there ∙ ap (λ (z : List Float). sets w₀ x z) all
+
+-- ---- How many places each stage writes
+
+length-rows : (b : List Float) (p i n : ℕ) (l : List Float) → length (rows b p i n l) ≡ length l + n * (p + 1)
+unfolding rows
+length-rows b p i zero l = omega (arith, zero-mul (p + 1))
+length-rows b p i (suc n) l =
+    let one : suc n ≡ n + 1 = omega arith in
+    let more : suc n * (p + 1) ≡ n * (p + 1) + (p + 1) = ap (λ (k : ℕ). k * (p + 1)) one ∙ row-more n p in
+    let row = length-cells b p i (p + 1) l in
+    let rest = length-rows b p (i + 1) n (cells b p i (p + 1) l) in
+    omega arith
+
+pub length-factored : (b : List Float) (p len : ℕ) → length (factored b p len) ≡ len * (p + 1)
+unfolding factored
+length-factored b p len = length-rows b p 0 len [] ∙ zero-add (len * (p + 1))
+
+pub length-forward : (band rhs : List Float) (p n : ℕ) (y : List Float)
+    → length (forward band rhs p n y) ≡ length y + n
+unfolding forward
+length-forward band rhs p zero y = omega arith
+length-forward band rhs p (suc n) y =
+    let next = y ++ (forwardAt band rhs p y ∷ []) in
+    let more : length next ≡ length y + 1 = simp length-append in
+    let rest = length-forward band rhs p n next in
+    omega arith
+
+pub length-backward : (band y : List Float) (p len i : ℕ) (x : List Float)
+    → length (backward band y p len i x) ≡ length x + i
+unfolding backward
+length-backward band y p len zero x = omega arith
+length-backward band y p len (suc i) x =
+    let rest = length-backward band y p len i (backwardAt band y p len i x ∷ x) in
+    omega arith

@@ -1,5 +1,6 @@
--- `model::banded::back_solve` meets its contract. The loop's invariant: the results from i on stand at x + i and nothing else changed,
--- and what is left to solve gives the whole. The measure is how many are left. Assumes nothing.
+-- `model::banded::back_solve` meets its contract. The loop's invariant: the results from i on stand at x + i and
+-- nothing else changed, and what is left to solve gives the whole. The measure is how many are left. Assumes
+-- nothing.
 use Prim.Native.Nat.{_+_, _-_, _*_, _≤_}
 use native.Mathlib.Omega.{arith}
 use mathlib.Core.Path.{_≡_, refl}
@@ -14,17 +15,17 @@ use Rattle.model.proofs.banded.back_solve.Statement.{statement}
 use Rattle.model.proofs.banded.back_solve.Tie as tie
 
 abbrev Inv-loop : tie.InvT-loop
-Inv-loop work₀ band y x len p i₀ work i = (i ≤ len) × (length work ≡ length work₀) × (work ≡ sets work₀ (x + i) (area work (x + i) (len - i)))
+Inv-loop work₀ band y x len p i₀ work i =
+    (i ≤ len) × (length work ≡ length work₀) × (work ≡ sets work₀ (x + i) (area work (x + i) (len - i)))
     × (backward (area work₀ band (len * (p + 1))) (area work₀ y len) p len i (area work (x + i) (len - i))
-      ≡ backward (area work₀ band (len * (p + 1))) (area work₀ y len) p len len [])
+    ≡ backward (area work₀ band (len * (p + 1))) (area work₀ y len) p len len [])
 
 abbrev μ-loop : tie.MeasureT-loop
 μ-loop work₀ band y x len p i₀ work i = i
 
 loop-holds : tie.Need-loop-holds Inv-loop μ-loop
 loop-holds c =
-    let args = c .before .args in
-    (
+    let args = c .before .args in (
       omega arith,
       refl,
       none-solved _ (args .x) (args .len),
@@ -99,7 +100,8 @@ backward-at-requires c κs =
     let taken = c .before .before .before .before .loop-test .taken in
     let rows = lent-rows w (args .band) (args .y) (args .len) (args .p) (omega arith) (omega arith) in
     let ys = lent-length w (args .y) (args .len) (omega arith) in
-    let xs = lent-results-length w (args .y) (args .x) (loop .i) (args .len) taken (loop .inv .0) (omega arith) (omega arith) in
+    let xs =
+    lent-results-length w (args .y) (args .x) (loop .i) (args .len) taken (loop .inv .0) (omega arith) (omega arith) in
     (omega arith, rows, xs, omega arith, omega arith, omega arith)
 
 add-work : tie.Need-add-work Inv-loop μ-loop
@@ -121,13 +123,12 @@ loop-again c =
     let inv = loop .inv in
     let taken = c .before .before .before .before .before .loop-test .taken in
     let x = args .x in
-    let len = args .len in
-    (
+    let len = args .len in (
       omega arith,
       simp length-set (inv .1),
       back-stored _ _ x len (loop .i) (inv .2) _ taken (inv .0) (omega arith) (inv .1),
       back-turn _ _ x len (loop .i) (inv .2) _ taken (inv .0) (omega arith) (inv .1) (args .band) (args .y) (args .p) _
-      (omega arith) (omega arith) (c .backward-at .ensures) (inv .3),
+          (omega arith) (omega arith) (c .backward-at .ensures) (inv .3),
     )
 
 same-length : tie.Need-same-length Inv-loop μ-loop

@@ -1,5 +1,5 @@
--- `model::banded::backward_at` meets its contract: the products taken away are those of the rule, and the rows down to the last
--- that is read end within the band. Assumes nothing.
+-- `model::banded::backward_at` meets its contract: the products taken away are those of the rule, and the rows
+-- down to the last that is read end within the band. Assumes nothing.
 use native.Mathlib.Omega.{arith}
 use borrow.Author.Needs.{needs}
 use lib.ListN.{length}
@@ -23,22 +23,32 @@ shared-slice-read-minus-column : tie.Need-shared-slice-read-minus-column
 shared-slice-read-minus-column c = search needs
 
 minus-column-requires : tie.Need-minus-column-requires
-minus-column-requires c κs = let at = c .before .before .before .before .before in omega (arith, row-in (c .before .least .result) (length (at .args .y .now)) (at .args .p) (omega arith))
+minus-column-requires c κs =
+    let at = c .before .before .before .before .before in
+    omega (arith, row-in (c .before .least .result) (length (at .args .y .now)) (at .args .p) (omega arith))
 
 add-result : tie.Need-add-result
 add-result c = search needs
 
 mul-result : tie.Need-mul-result
-mul-result c = let at = c .before .before .before .before .before .before in omega (arith, row-in _ _ (at .args .p) (at .pre .0))
+mul-result c =
+    let at = c .before .before .before .before .before .before in
+    omega (arith, row-in _ _ (at .args .p) (at .pre .0))
 
 add-result-2 : tie.Need-add-result-2
-add-result-2 c = let at = c .before .before .before .before .before .before in omega (arith, row-in _ _ (at .args .p) (at .pre .0))
+add-result-2 c =
+    let at = c .before .before .before .before .before .before in
+    omega (arith, row-in _ _ (at .args .p) (at .pre .0))
 
 mul-result-2 : tie.Need-mul-result-2
-mul-result-2 c = let at = c .before .before .before .before .before .before in omega (arith, row-in _ _ (at .args .p) (at .pre .0))
+mul-result-2 c =
+    let at = c .before .before .before .before .before .before in
+    omega (arith, row-in _ _ (at .args .p) (at .pre .0))
 
 shared-slice-read-result : tie.Need-shared-slice-read-result
-shared-slice-read-result c = let at = c .before .before .before .before .before .before .before in omega (arith, row-in _ _ (at .args .p) (at .pre .0))
+shared-slice-read-result c =
+    let at = c .before .before .before .before .before .before .before in
+    omega (arith, row-in _ _ (at .args .p) (at .pre .0))
 
 returns : tie.Need-returns
 returns c = backward-place _ _ _ _ _ _ _ (c .before .before .before .least .ensures) (c .before .minus-column .ensures)

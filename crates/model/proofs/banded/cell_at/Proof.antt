@@ -1,5 +1,5 @@
--- `model::banded::cell_at` meets its contract: each way out is a line of the rule, and what it reads stands in the band before the
--- place. Assumes nothing.
+-- `model::banded::cell_at` meets its contract: each way out is a line of the rule, and what it reads stands in the
+-- band before the place. Assumes nothing.
 use Prim.Native.Nat.{_+_, _-_, _*_, _≤_}
 use native.Mathlib.Omega.{arith}
 use borrow.Author.Needs.{needs}
@@ -60,7 +60,8 @@ mul-result c = omega (arith, other-fits (c .before .before .before .before))
 shared-slice-read-result : tie.Need-shared-slice-read-result
 shared-slice-read-result c =
     let at = c .before .before .before .before .before .before .before .before in
-    cell-pivot _ _ _ _ (c .before .before .before .before .before .if1 .left) (at .pre .1) (at .pre .5) (c .before .if2 .left)
+    let inside = c .before .before .before .before .before .if1 .left in
+    cell-pivot _ _ _ _ inside (at .pre .1) (at .pre .5) (c .before .if2 .left)
 
 returns-2 : tie.Need-returns-2
 returns-2 c =

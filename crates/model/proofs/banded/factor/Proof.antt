@@ -1,5 +1,5 @@
--- `model::banded::factor` meets its contract. The loop's invariant: the first i rows stand at band and nothing else changed, and the
--- rows that are left give the whole. The measure is how many are left. Assumes nothing.
+-- `model::banded::factor` meets its contract. The loop's invariant: the first i rows stand at band and nothing
+-- else changed, and the rows that are left give the whole. The measure is how many are left. Assumes nothing.
 use Prim.Native.Nat.{_+_, _-_, _*_, _≤_}
 use native.Mathlib.Omega.{arith}
 use mathlib.Core.Path.{_≡_, refl}
@@ -7,12 +7,14 @@ use lib.ListN.{length}
 use lib.Seq.{sets}
 use Rattle.model.specs.Model.{rows, factored}
 use Rattle.model.specs.Areas.{area}
-use Rattle.model.proofs.banded.Laws.{row-room, none-stored, rows-start, row-length, row-stored, rows-turn, rows-done}
+use Rattle.model.proofs.banded.Laws.{row-room, none-stored, rows-start, row-length, row-stored}
+use Rattle.model.proofs.banded.Laws.{rows-turn, rows-done}
 use Rattle.model.proofs.banded.factor.Statement.{statement}
 use Rattle.model.proofs.banded.factor.Tie as tie
 
 abbrev Inv-loop : tie.InvT-loop
-Inv-loop work₀ b band len p i₀ work i = (i ≤ len) × (length work ≡ length work₀) × (work ≡ sets work₀ band (area work band (i * (p + 1))))
+Inv-loop work₀ b band len p i₀ work i =
+    (i ≤ len) × (length work ≡ length work₀) × (work ≡ sets work₀ band (area work band (i * (p + 1))))
     × (rows (area work₀ b (p + 1)) p i (len - i) (area work band (i * (p + 1))) ≡ factored (area work₀ b (p + 1)) p len)
 
 abbrev μ-loop : tie.MeasureT-loop
@@ -20,8 +22,7 @@ abbrev μ-loop : tie.MeasureT-loop
 
 loop-holds : tie.Need-loop-holds Inv-loop μ-loop
 loop-holds c =
-    let args = c .before .args in
-    (
+    let args = c .before .args in (
       omega arith,
       refl,
       none-stored _ (args .band) (args .p),
@@ -32,7 +33,8 @@ factor-row-requires : tie.Need-factor-row-requires Inv-loop μ-loop
 factor-row-requires c κs =
     let args = c .before .before .before .before .args in
     let loop = c .before .before .loop in
-    let room = row-room (args .band) (args .len) (args .p) (loop .i) (length (loop .work)) (c .before .loop-test .taken) (omega arith) in
+    let taken = c .before .loop-test .taken in
+    let room = row-room (args .band) (args .len) (args .p) (loop .i) (length (loop .work)) taken (omega arith) in
     omega arith
 
 add-i : tie.Need-add-i Inv-loop μ-loop
@@ -51,8 +53,7 @@ loop-again c =
     let b = args .b in
     let band = args .band in
     let len = args .len in
-    let p = args .p in
-    (
+    let p = args .p in (
       omega arith,
       row-length _ _ b band len p (loop .i) (inv .2) _ taken (omega arith) (omega arith) (inv .1) row,
       row-stored _ _ b band len p (loop .i) (inv .2) _ taken (omega arith) (omega arith) (inv .1) row,

@@ -1,5 +1,6 @@
--- `model::banded::factor_row` meets its contract. The loop's invariant: c places of the band stand at band and nothing else changed,
--- and the places that are left of the row give the whole. The measure is how many are left. Assumes nothing.
+-- `model::banded::factor_row` meets its contract. The loop's invariant: c places of the band stand at band and
+-- nothing else changed, and the places that are left of the row give the whole. The measure is how many are left.
+-- Assumes nothing.
 use Prim.Native.Nat.{_+_, _-_, _*_, _≤_}
 use native.Mathlib.Omega.{arith}
 use mathlib.Core.Path.{_≡_, refl, sym}
@@ -13,9 +14,11 @@ use Rattle.model.proofs.banded.factor_row.Statement.{statement}
 use Rattle.model.proofs.banded.factor_row.Tie as tie
 
 abbrev Inv-loop : tie.InvT-loop
-Inv-loop work₀ b band p i c₀ left₀ work c left = (c + left ≡ i * (p + 1) + (p + 1)) × (left ≤ p + 1) × (length work ≡ length work₀)
+Inv-loop work₀ b band p i c₀ left₀ work c left =
+    (c + left ≡ i * (p + 1) + (p + 1)) × (left ≤ p + 1) × (length work ≡ length work₀)
     × (work ≡ sets work₀ band (area work band c))
-    × (cells (area work₀ b (p + 1)) p i left (area work band c) ≡ cells (area work₀ b (p + 1)) p i (p + 1) (area work₀ band (i * (p + 1))))
+    × (cells (area work₀ b (p + 1)) p i left (area work band c)
+    ≡ cells (area work₀ b (p + 1)) p i (p + 1) (area work₀ band (i * (p + 1))))
 
 abbrev μ-loop : tie.MeasureT-loop
 μ-loop work₀ b band p i c₀ left₀ work c left = left
@@ -101,14 +104,13 @@ loop-again c =
     let loop = c .before .before .before .before .before .loop in
     let inv = loop .inv in
     let taken = c .before .before .before .before .loop-test .taken in
-    let row = row-more (args .i) (args .p) in
-    (
+    let row = row-more (args .i) (args .p) in (
       omega arith,
       omega arith,
       simp length-set (inv .2),
       run-grows _ _ (args .band) (loop .c) _ (omega arith) (inv .3),
       cells-turn _ _ (args .b) (args .band) (args .p) (args .i) (loop .c) (loop .left) _ (inv .3) _ taken (omega arith)
-      (omega arith) (c .cell-at .ensures) (inv .4),
+          (omega arith) (c .cell-at .ensures) (inv .4),
     )
 
 same-length : tie.Need-same-length Inv-loop μ-loop

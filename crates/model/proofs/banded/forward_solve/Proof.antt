@@ -1,5 +1,6 @@
--- `model::banded::forward_solve` meets its contract. The loop's invariant: the first i results stand at y and nothing else changed,
--- and what is left to solve gives the whole. The measure is how many are left. Assumes nothing.
+-- `model::banded::forward_solve` meets its contract. The loop's invariant: the first i results stand at y and
+-- nothing else changed, and what is left to solve gives the whole. The measure is how many are left. Assumes
+-- nothing.
 use Prim.Native.Nat.{_+_, _-_, _*_, _≤_}
 use native.Mathlib.Omega.{arith}
 use native.Mathlib.Nat.{sub-zero}
@@ -14,9 +15,10 @@ use Rattle.model.proofs.banded.forward_solve.Statement.{statement}
 use Rattle.model.proofs.banded.forward_solve.Tie as tie
 
 abbrev Inv-loop : tie.InvT-loop
-Inv-loop work₀ band rhs y len p i₀ work i = (i ≤ len) × (length work ≡ length work₀) × (work ≡ sets work₀ y (area work y i))
+Inv-loop work₀ band rhs y len p i₀ work i =
+    (i ≤ len) × (length work ≡ length work₀) × (work ≡ sets work₀ y (area work y i))
     × (forward (area work₀ band (len * (p + 1))) (area work₀ rhs len) p (len - i) (area work y i)
-      ≡ forward (area work₀ band (len * (p + 1))) (area work₀ rhs len) p len [])
+    ≡ forward (area work₀ band (len * (p + 1))) (area work₀ rhs len) p len [])
 
 abbrev μ-loop : tie.MeasureT-loop
 μ-loop work₀ band rhs y len p i₀ work i = len - i
@@ -102,12 +104,12 @@ loop-less c = omega arith
 loop-again : tie.Need-loop-again Inv-loop μ-loop
 loop-again c =
     let inv = c .before .before .before .before .before .before .loop .inv in
-    let taken = c .before .before .before .before .before .loop-test .taken in
-    (
+    let taken = c .before .before .before .before .before .loop-test .taken in (
       omega arith,
       simp length-set (inv .1),
       run-grows _ _ _ _ _ (omega arith) (inv .2),
-      forward-turn _ _ _ _ _ _ _ _ _ (inv .2) _ taken (omega arith) (omega arith) (omega arith) (c .forward-at .ensures) (inv .3),
+      forward-turn _ _ _ _ _ _ _ _ _ (inv .2) _ taken (omega arith) (omega arith) (omega arith)
+          (c .forward-at .ensures) (inv .3),
     )
 
 same-length : tie.Need-same-length Inv-loop μ-loop

@@ -1,4 +1,5 @@
--- `model::banded::laid_at` meets its contract: its test is that of the rule, and its literal is 1e-6. Assumes nothing.
+-- `model::banded::laid_at` meets its contract: its test is that of the rule, and its literal is 1e-6. Assumes
+-- nothing.
 use borrow.Author.Needs.{needs}
 use Rattle.model.proofs.banded.Laws.{laid-diagonal, laid-below}
 use Rattle.model.proofs.banded.laid_at.Statement.{statement}
