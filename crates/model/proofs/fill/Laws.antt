@@ -1,19 +1,19 @@
--- The pass: the sums of the coefficients and the right sides, each filled in place by place; how long the lists of the
--- banded solve are; and what the stages, one after the other, leave in the workspace. Assumes nothing.
+-- The pass: the sums of the coefficients and the right sides, each filled in place by place, and what the stages, one
+-- after the other, leave in the workspace. Assumes nothing.
 use mathlib.Core.Path.{_≡_, ap, _∙_}
-use mathlib.Core.List.{List, [], _∷_, _++_}
-use Prim.Native.Nat.{ℕ, zero, suc, _+_, _*_, _≤_}
+use mathlib.Core.List.{List, []}
+use Prim.Native.Nat.{ℕ, _+_, _*_, _≤_}
 use native.Mathlib.Omega.{arith}
 use native.Mathlib.Nat.{zero-add}
-use lib.ListN.{length, set, length-append}
+use lib.ListN.{length, set}
 use lib.Seq.{sets}
 use lib.Ieee.{Float}
-use Rattle.model.specs.Model.{each, coefAt, coefAutocorr, rightSide, rightSides, cells, rows, factored}
-use Rattle.model.specs.Model.{forwardAt, forward, backwardAt, backward, solveBanded, estimate, solved}
+use Rattle.model.specs.Model.{each, coefAt, coefAutocorr, rightSide, rightSides, factored, forward}
+use Rattle.model.specs.Model.{backward, solveBanded, estimate, solved}
 use Rattle.model.specs.Areas.{area, Only, coefsAt, bandAt, resultsAt, doublesFor}
 use Rattle.model.proofs.Parts.{only-then, only-wider, only-before}
 use Rattle.model.proofs.sums.Laws.{length-each}
-use Rattle.model.proofs.banded.Laws.{row-more, length-cells}
+use Rattle.model.proofs.banded.Laws.{length-factored, length-forward, length-backward}
 use Rattle.model.proofs.estimate.Laws.{run-count, run-stands, run-before, run-behind, run-only}
 use Rattle.model.proofs.estimate.Laws.{fill-turn, fill-done}
 
@@ -59,7 +59,7 @@ module _ (w₀ w : List Float) (size g len b rhs p i : ℕ) where
   unfolding rightSides
   side-done h e = fill-done w₀ w rhs i len (rightSide (area w₀ 0 size) g len (area w₀ b (p + 1)) p) e h
 
--- ---- How long the lists of the banded solve are
+-- ---- How long the right sides and the sums are
 
 length-sides : (seg : List Float) (g len : ℕ) (b : List Float) (p : ℕ) → length (rightSides seg g len b p) ≡ len
 unfolding rightSides
@@ -68,32 +68,6 @@ length-sides seg g len b p = length-each (rightSide seg g len b p) 0 len
 length-coefs : (a : List Float) (p : ℕ) → length (coefAutocorr a p) ≡ p + 1
 unfolding coefAutocorr
 length-coefs a p = length-each (coefAt a p) 0 (p + 1)
-
-length-rows : (b : List Float) (p i n : ℕ) (l : List Float) → length (rows b p i n l) ≡ length l + n * (p + 1)
-unfolding rows
-length-rows b p i zero l = omega arith
-length-rows b p i (suc n) l =
-    let row = cells b p i (p + 1) l in
-    let more : suc n * (p + 1) ≡ (n + 1) * (p + 1) = ap (λ (k : ℕ). k * (p + 1)) (omega arith) in
-    omega (arith, length-rows b p (i + 1) n row, length-cells b p i (p + 1) l, row-more n p)
-
-length-factored : (b : List Float) (p len : ℕ) → length (factored b p len) ≡ len * (p + 1)
-unfolding factored
-length-factored b p len = length-rows b p 0 len [] ∙ zero-add (len * (p + 1))
-
-length-forward : (band rhs : List Float) (p n : ℕ) (y : List Float) → length (forward band rhs p n y) ≡ length y + n
-unfolding forward
-length-forward band rhs p zero y = omega arith
-length-forward band rhs p (suc n) y =
-    let next = y ++ (forwardAt band rhs p y ∷ []) in
-    omega (arith, length-forward band rhs p n next, length-append y (forwardAt band rhs p y ∷ []))
-
-length-backward : (band y : List Float) (p len n : ℕ) (x : List Float)
-    → length (backward band y p len n x) ≡ length x + n
-unfolding backward
-length-backward band y p len zero x = omega arith
-length-backward band y p len (suc i) x =
-    omega (arith, length-backward band y p len i (backwardAt band y p len i x ∷ x))
 
 -- ---- The equations, laid down and solved
 
