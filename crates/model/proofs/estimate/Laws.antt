@@ -1,8 +1,8 @@
--- The model's coefficients: loops that fill an area of the workspace place by place, the order i of the coefficients, and the
--- literals of the code. Assumes nothing.
+-- The model's coefficients: what a run of stores leaves in the areas of the workspace, loops that fill an area place by
+-- place, an order of Levinson's recursion and its ends, and the literals of the code. Assumes nothing.
 use mathlib.Core.Path.{_≡_, refl, sym, ap, _∙_}
 use mathlib.Core.Bool.{Bool, true, false, cond, _&&_, and-false}
-use mathlib.Core.List.{List, [], _∷_, _++_}
+use mathlib.Core.List.{List, [], _∷_}
 use Prim.Native.Nat.{ℕ, zero, suc, _+_, _-_, _*_, _≤_, _<_}
 use native.Mathlib.Omega.{arith}
 use native.Mathlib.Numerals.{add-one}
@@ -10,7 +10,7 @@ use borrow.Author.Tests.{lt-ltb, le-ltb, eq-eqb, ne-eqb}
 use lib.Dec.{ltb}
 use lib.ListN.{length, set, take, drop, replicate, length-replicate}
 use lib.Seq.{sets, length-sets, getD-take, getD-drop, drop-cons, drop-set-add, take-set-lt}
-use lib.Ieee.{Float, nan, binary64, add, sub, mul, div, neg, lt, le, ofBits}
+use lib.Ieee.{Float, nan, binary64, neg, lt, le, ofBits}
 use Rattle.leaves.specs.Arithmetic.{_+₆₄_, _-₆₄_, _*₆₄_, _/₆₄_, nought, one, at}
 use Rattle.leaves.specs.Floats.{magnitude}
 use Rattle.model.specs.Model.{micro, pico, each, unit, lagSum, lags, raisedAt, raised, shortfall, orders}
@@ -18,13 +18,9 @@ use Rattle.model.specs.Model.{levinson, estimate}
 use Rattle.model.specs.Areas.{area, Only, coefsAt}
 use Rattle.model.proofs.Parts.{take-sets, store-next, part-of-sets, part-before-sets, part-behind-sets}
 use Rattle.model.proofs.Parts.{part-length, only-sets, only-then, only-wider, only-before}
-use Rattle.model.proofs.sums.Laws.{each-next, length-each}
+use Rattle.model.proofs.sums.Laws.{each-next, length-each, no-sum}
 
 -- ---- The literals of the code
-
-pub zero-word : ofBits binary64 0 ≡ nought
-unfolding ofBits
-zero-word = refl
 
 pub one-word : ofBits binary64 4607182418800017408 ≡ one
 unfolding ofBits
@@ -54,7 +50,8 @@ pub run-behind : (w v l : List Float) (d m from n : ℕ) → v ≡ sets w d l �
 run-behind w v l d m from n e count h =
     ap (λ (z : List Float). area z from n) e ∙ part-behind-sets w l d from n (rw count h)
 
-pub run-only : (w v l : List Float) (d n low high : ℕ) → v ≡ sets w d l → length l ≡ n → low ≤ d → d + n ≤ high → Only low high w v
+pub run-only : (w v l : List Float) (d n low high : ℕ) → v ≡ sets w d l → length l ≡ n → low ≤ d → d + n ≤ high
+    → Only low high w v
 run-only w v l d n low high e count h k = rw e (only-sets w l d low high h (rw count k))
 
 -- ---- A loop that stores f 0, f 1, .. from place d on
@@ -75,7 +72,8 @@ fill-turn w₀ w d j f v e ev =
     ∙ ap (λ (l : List Float). sets w₀ d l) (sym (each-next f j))
 
 -- the last
-pub fill-done : (w₀ w : List Float) (d j n : ℕ) (f : ℕ → Float) → w ≡ sets w₀ d (each f 0 j) → j ≡ n → w ≡ sets w₀ d (each f 0 n)
+pub fill-done : (w₀ w : List Float) (d j n : ℕ) (f : ℕ → Float) → w ≡ sets w₀ d (each f 0 j) → j ≡ n
+    → w ≡ sets w₀ d (each f 0 n)
 fill-done w₀ w d j n f e h = e ∙ ap (λ (k : ℕ). sets w₀ d (each f 0 k)) h
 
 fill-at : (w₀ w l : List Float) (d k : ℕ) → w ≡ sets w₀ d l → k < d → at w k ≡ at w₀ k
@@ -86,7 +84,7 @@ fill-at w₀ w l d k e h =
     ∙ getD-take d w₀ k nan h
 
 -- the first place of an area
-pub area-first : (w : List Float) (from n : ℕ) → 0 < n → at (area w from n) 0 ≡ at w from
+area-first : (w : List Float) (from n : ℕ) → 0 < n → at (area w from n) 0 ≡ at w from
 area-first w from n h =
     let here : from + 0 ≡ from = omega arith in
     getD-take n (drop from w) 0 nan h ∙ getD-drop from w 0 nan ∙ ap (at w) here
@@ -119,18 +117,19 @@ pub unit-stored : (w v : List Float) (a p : ℕ)
     → v ≡ sets w a (unit p)
 unit-stored w v a p e =
     let next : a + 1 ≡ suc a = omega arith in
-    e ∙ rw (next, zero-word, one-word) refl
+    e ∙ rw (next, no-sum, one-word) refl
 
 -- ---- An area, place by place
 
-pub each-part : (w : List Float) (from i n : ℕ) → from + i + n ≤ length w
+each-part : (w : List Float) (from i n : ℕ) → from + i + n ≤ length w
     → each (λ j. at w (from + j)) i n ≡ take n (drop (from + i) w)
 unfolding each
 each-part w from i zero h = refl
 each-part w from i (suc n) h =
     let here : from + i < length w = omega arith in
     let next : from + (i + 1) ≡ suc (from + i) = omega arith in
-    ap (λ (l : List Float). at w (from + i) ∷ l) (each-part w from (i + 1) n (omega arith) ∙ ap (λ (k : ℕ). take n (drop k w)) next)
+    ap (λ (l : List Float). at w (from + i) ∷ l)
+    (each-part w from (i + 1) n (omega arith) ∙ ap (λ (k : ℕ). take n (drop k w)) next)
     ∙ sym (ap (λ (l : List Float). take (suc n) l) (drop-cons w (from + i) nan here))
 
 pub copy-turn : (w₀ w : List Float) (a copy j : ℕ) → copy + j < a → w ≡ sets w₀ a (each (λ k. at w₀ (copy + k)) 0 j)
@@ -145,7 +144,8 @@ pub copied : (w v : List Float) (a copy count j : ℕ) → copy + count ≤ leng
 copied w v a copy count j h e ev =
     let here : copy + 0 ≡ copy = omega arith in
     fill-done w v a j count (λ k. at w (copy + k)) ev e
-    ∙ ap (λ (l : List Float). sets w a l) (each-part w copy 0 count (omega arith) ∙ ap (λ (k : ℕ). take count (drop k w)) here)
+    ∙ ap (λ (l : List Float). sets w a l)
+    (each-part w copy 0 count (omega arith) ∙ ap (λ (k : ℕ). take count (drop k w)) here)
 
 -- ---- The order i
 
@@ -234,14 +234,16 @@ choose-false : {A : Type 0} (b : Bool) (x y : A) → b ≡ false → cond b x y 
 choose-false b x y e = rw e refl
 
 -- what the order i has to make up for, from the areas of the workspace as they stand
-pub shortfall-here : (w₀ w : List Float) (r copy a p end m n i : ℕ) (acc : Float) → m ≡ p + 1 → n ≡ p + 1 → r + (p + 1) ≤ copy
+pub shortfall-here : (w₀ w : List Float) (r copy a p end m n i : ℕ) (acc : Float) → m ≡ p + 1 → n ≡ p + 1
+    → r + (p + 1) ≤ copy
     → Only copy end w₀ w
     → acc ≡ shortfall (area w a m) (area w r n) i
     → acc ≡ shortfall (area w a (p + 1)) (area w₀ r (p + 1)) i
 shortfall-here w₀ w r copy a p end m n i acc em en h o e =
     e
     ∙ ap (λ (k : ℕ). shortfall (area w a k) (area w r n) i) em
-    ∙ ap (λ (l : List Float). shortfall (area w a (p + 1)) l i) (ap (area w r) en ∙ only-before copy end r (p + 1) w₀ w o h)
+    ∙ ap (λ (l : List Float). shortfall (area w a (p + 1)) l i)
+    (ap (area w r) en ∙ only-before copy end r (p + 1) w₀ w o h)
 
 -- the orders from i on, by the tests of a turn: none is left, e is too small, e ends it, or one order more
 module _ (r a : List Float) (e : Float) (i p : ℕ) (whole : List Float) (rest : orders r a e i (p + 1 - i) ≡ whole) where
@@ -257,7 +259,7 @@ module _ (r a : List Float) (e : Float) (i p : ℕ) (whole : List Float) (rest :
     unfolding orders
     one-order =
         let left : p + 1 - i ≡ suc (p + 1 - (i + 1)) = omega arith in
-        rw (left, en, ek, ea, es, one-word, pico-word, zero-word) refl
+        rw (left, en, ek, ea, es, one-word, pico-word, no-sum) refl
 
     pub orders-small : lt size (ofBits binary64 4427486594234968593) ≡ true → a ≡ whole
     orders-small small = sym (one-order ∙ choose-true _ _ _ small) ∙ rest
@@ -271,7 +273,8 @@ module _ (r a : List Float) (e : Float) (i p : ℕ) (whole : List Float) (rest :
       orders-next on = sym (one-order ∙ choose-false _ _ _ large ∙ choose-false _ _ _ on) ∙ rest
 
 -- the coefficients that the orders left, from 1, 0, .., 0 on, are the model of the lags
-pub levinson-ends : (w w₁ w₂ : List Float) (r p : ℕ) → r + 3 * (p + 1) ≤ length w → w₁ ≡ sets w (r + 2 * (p + 1)) (unit p)
+pub levinson-ends : (w w₁ w₂ : List Float) (r p : ℕ) → r + 3 * (p + 1) ≤ length w
+    → w₁ ≡ sets w (r + 2 * (p + 1)) (unit p)
     → Only (r + (p + 1)) (r + 3 * (p + 1)) w₁ w₂
     → area w₂ (r + 2 * (p + 1)) (p + 1)
     ≡ orders (area w₁ r (p + 1)) (area w₁ (r + 2 * (p + 1)) (p + 1)) (at w₁ r) 1 p
@@ -323,19 +326,22 @@ module _ (w w₁ : List Float) (size g len p : ℕ) (room : size + 3 * (p + 1) �
 
   lags-only : Only size (size + 3 * (p + 1)) w w₁
   lags-only =
-      run-only w w₁ (lags (area w 0 size) g len p) size (p + 1) size (size + 3 * (p + 1)) e count-lags (omega arith) (omega arith)
+      run-only w w₁ (lags (area w 0 size) g len p) size (p + 1) size (size + 3 * (p + 1)) e count-lags (omega arith)
+      (omega arith)
 
   -- the first lag is not above 0
-  pub estimate-unit : (w₂ : List Float) → le (at w₁ size) (ofBits binary64 0) ≡ true → w₂ ≡ sets w₁ (coefsAt size p) (unit p)
+  pub estimate-unit : (w₂ : List Float) → le (at w₁ size) (ofBits binary64 0) ≡ true
+      → w₂ ≡ sets w₁ (coefsAt size p) (unit p)
       → (area w₂ (coefsAt size p) (p + 1) ≡ estimate (area w 0 size) g len p) × Only size (size + 3 * (p + 1)) w w₂
   unfolding estimate
   estimate-unit w₂ none e₂ =
       let test : le (at (lags (area w 0 size) g len p) 0) nought ≡ true =
-      sym (ap (λ (x : Float). le x nought) first-lag) ∙ ap (le (at w₁ size)) (sym zero-word) ∙ none in
+      sym (ap (λ (x : Float). le x nought) first-lag) ∙ ap (le (at w₁ size)) (sym no-sum) ∙ none in
       let count : length (unit p) ≡ p + 1 = length-unit p in
       let there : coefsAt size p + (p + 1) ≤ length w₁ = rw lags-count (omega arith) in
       let wrote : Only size (size + 3 * (p + 1)) w₁ w₂ =
-      run-only w₁ w₂ (unit p) (coefsAt size p) (p + 1) size (size + 3 * (p + 1)) e₂ count (omega arith) (omega arith) in (
+      run-only w₁ w₂ (unit p) (coefsAt size p) (p + 1) size (size + 3 * (p + 1)) e₂ count (omega arith)
+      (omega arith) in (
         run-stands w₁ w₂ (unit p) (coefsAt size p) (p + 1) e₂ count there
             ∙ sym (choose-true _ _ _ test),
         only-then size (size + 3 * (p + 1)) w w₁ w₂ lags-only wrote,
@@ -351,7 +357,7 @@ module _ (w w₁ : List Float) (size g len p : ℕ) (room : size + 3 * (p + 1) �
   estimate-model v w₃ some ev model o =
       let r = lags (area w 0 size) g len p in
       let test : le (at r 0) nought ≡ false =
-      sym (ap (λ (x : Float). le x nought) first-lag) ∙ ap (le (at w₁ size)) (sym zero-word) ∙ some in
+      sym (ap (λ (x : Float). le x nought) first-lag) ∙ ap (le (at w₁ size)) (sym no-sum) ∙ some in
       let value : v ≡ at r 0 *₆₄ (one +₆₄ micro) = raised-lag (at w₁ size) (at r 0) v first-lag ev in
       let here : size ≡ size + 0 = omega arith in
       let stands : area (set w₁ size v) size (p + 1) ≡ set r 0 v =
@@ -362,7 +368,8 @@ module _ (w w₁ : List Float) (size g len p : ℕ) (room : size + 3 * (p + 1) �
       let wrote : Only size (size + 3 * (p + 1)) w₁ (set w₁ size v) =
       only-sets w₁ (v ∷ []) size size (size + 3 * (p + 1)) (omega arith) (omega arith) in
       let rest : Only size (size + 3 * (p + 1)) (set w₁ size v) w₃ =
-      only-wider (size + (p + 1)) (size + 3 * (p + 1)) size (size + 3 * (p + 1)) (set w₁ size v) w₃ (omega arith) (omega arith) o in (
+      only-wider (size + (p + 1)) (size + 3 * (p + 1)) size (size + 3 * (p + 1)) (set w₁ size v) w₃ (omega arith)
+      (omega arith) o in (
         model
             ∙ ap (λ (l : List Float). levinson l p) (stands ∙ ap (set r 0) value)
             ∙ sym (choose-false _ _ _ test),

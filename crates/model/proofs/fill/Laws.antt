@@ -1,20 +1,21 @@
--- The pass: the sums of the coefficients and the right sides, each filled in place by place; how long the lists of the banded
--- solve are; and what the stages, one after the other, leave in the workspace. Assumes nothing.
-use mathlib.Core.Path.{_≡_, refl, sym, ap, _∙_}
-use mathlib.Core.List.{List, [], _∷_, _++_}
-use Prim.Native.Nat.{ℕ, zero, suc, _+_, _*_, _≤_}
+-- The pass: the sums of the coefficients and the right sides, each filled in place by place, and what the stages, one
+-- after the other, leave in the workspace. Assumes nothing.
+use mathlib.Core.Path.{_≡_, ap, _∙_}
+use mathlib.Core.List.{List, []}
+use Prim.Native.Nat.{ℕ, _+_, _*_, _≤_}
 use native.Mathlib.Omega.{arith}
 use native.Mathlib.Nat.{zero-add}
-use lib.ListN.{length, set, length-append}
+use lib.ListN.{length, set}
 use lib.Seq.{sets}
 use lib.Ieee.{Float}
-use Rattle.model.specs.Model.{each, coefAt, coefAutocorr, rightSide, rightSides, cells, rows, factored, forwardAt, forward}
-use Rattle.model.specs.Model.{backwardAt, backward, solveBanded, estimate, solved}
+use Rattle.model.specs.Model.{each, coefAt, coefAutocorr, rightSide, rightSides, factored, forward}
+use Rattle.model.specs.Model.{backward, solveBanded, estimate, solved}
 use Rattle.model.specs.Areas.{area, Only, coefsAt, bandAt, resultsAt, doublesFor}
 use Rattle.model.proofs.Parts.{only-then, only-wider, only-before}
 use Rattle.model.proofs.sums.Laws.{length-each}
-use Rattle.model.proofs.banded.Laws.{row-more, length-cells}
-use Rattle.model.proofs.estimate.Laws.{fill-turn, fill-done, run-count, run-stands, run-before, run-behind, run-only}
+use Rattle.model.proofs.banded.Laws.{length-factored, length-forward, length-backward}
+use Rattle.model.proofs.estimate.Laws.{run-count, run-stands, run-before, run-behind, run-only}
+use Rattle.model.proofs.estimate.Laws.{fill-turn, fill-done}
 
 -- ---- The sums of the coefficients
 
@@ -58,7 +59,7 @@ module _ (w₀ w : List Float) (size g len b rhs p i : ℕ) where
   unfolding rightSides
   side-done h e = fill-done w₀ w rhs i len (rightSide (area w₀ 0 size) g len (area w₀ b (p + 1)) p) e h
 
--- ---- How long the lists of the banded solve are
+-- ---- How long the right sides and the sums are
 
 length-sides : (seg : List Float) (g len : ℕ) (b : List Float) (p : ℕ) → length (rightSides seg g len b p) ≡ len
 unfolding rightSides
@@ -68,42 +69,20 @@ length-coefs : (a : List Float) (p : ℕ) → length (coefAutocorr a p) ≡ p + 
 unfolding coefAutocorr
 length-coefs a p = length-each (coefAt a p) 0 (p + 1)
 
-length-rows : (b : List Float) (p i n : ℕ) (l : List Float) → length (rows b p i n l) ≡ length l + n * (p + 1)
-unfolding rows
-length-rows b p i zero l = omega arith
-length-rows b p i (suc n) l =
-    let row = cells b p i (p + 1) l in
-    let more : suc n * (p + 1) ≡ (n + 1) * (p + 1) = ap (λ (k : ℕ). k * (p + 1)) (omega arith) in
-    omega (arith, length-rows b p (i + 1) n row, length-cells b p i (p + 1) l, row-more n p)
-
-length-factored : (b : List Float) (p len : ℕ) → length (factored b p len) ≡ len * (p + 1)
-unfolding factored
-length-factored b p len = length-rows b p 0 len [] ∙ zero-add (len * (p + 1))
-
-length-forward : (band rhs : List Float) (p n : ℕ) (y : List Float) → length (forward band rhs p n y) ≡ length y + n
-unfolding forward
-length-forward band rhs p zero y = omega arith
-length-forward band rhs p (suc n) y =
-    let next = y ++ (forwardAt band rhs p y ∷ []) in
-    omega (arith, length-forward band rhs p n next, length-append y (forwardAt band rhs p y ∷ []))
-
-length-backward : (band y : List Float) (p len n : ℕ) (x : List Float) → length (backward band y p len n x) ≡ length x + n
-unfolding backward
-length-backward band y p len zero x = omega arith
-length-backward band y p len (suc i) x =
-    omega (arith, length-backward band y p len i (backwardAt band y p len i x ∷ x))
-
 -- ---- The equations, laid down and solved
 
--- the right sides, the band's rows, and the results of both solves: each list from the areas as the stages before left them
+-- the right sides, the band's rows, and the results of both solves: each list from the areas as the stages before it
+-- left them
 module _ (w w₁ w₂ w₃ w₄ : List Float) (size g len p b band rhs y x : ℕ)
-    (hb : b + (p + 1) ≤ band) (hr : band + len * (p + 1) ≤ rhs) (hy : rhs + len ≤ y) (hx : y + len ≤ x) (room : x + len ≤ length w)
+    (hb : b + (p + 1) ≤ band) (hr : band + len * (p + 1) ≤ rhs) (hy : rhs + len ≤ y) (hx : y + len ≤ x)
+    (room : x + len ≤ length w)
     (sides factors firsts results : List Float)
     (es : sides ≡ rightSides (area w 0 size) g len (area w b (p + 1)) p)
     (ef : factors ≡ factored (area w₁ b (p + 1)) p len)
     (ey : firsts ≡ forward (area w₂ band (len * (p + 1))) (area w₂ rhs len) p len [])
     (ex : results ≡ backward (area w₃ band (len * (p + 1))) (area w₃ y len) p len len [])
-    (e₁ : w₁ ≡ sets w rhs sides) (e₂ : w₂ ≡ sets w₁ band factors) (e₃ : w₃ ≡ sets w₂ y firsts) (e₄ : w₄ ≡ sets w₃ x results) where
+    (e₁ : w₁ ≡ sets w rhs sides) (e₂ : w₂ ≡ sets w₁ band factors)
+    (e₃ : w₃ ≡ sets w₂ y firsts) (e₄ : w₄ ≡ sets w₃ x results) where
   count-sides : length sides ≡ len
   count-sides = ap length es ∙ length-sides (area w 0 size) g len (area w b (p + 1)) p
 
@@ -114,7 +93,8 @@ module _ (w w₁ w₂ w₃ w₄ : List Float) (size g len p b band rhs y x : ℕ
   count-firsts = ap length ey ∙ length-forward (area w₂ band (len * (p + 1))) (area w₂ rhs len) p len [] ∙ zero-add len
 
   count-results : length results ≡ len
-  count-results = ap length ex ∙ length-backward (area w₃ band (len * (p + 1))) (area w₃ y len) p len len [] ∙ zero-add len
+  count-results =
+      ap length ex ∙ length-backward (area w₃ band (len * (p + 1))) (area w₃ y len) p len len [] ∙ zero-add len
 
   count₁ : length w₁ ≡ length w
   count₁ = run-count w w₁ sides rhs e₁
@@ -157,8 +137,7 @@ module _ (w w₁ w₂ w₃ w₄ : List Float) (size g len p b band rhs y x : ℕ
       ∙ ap (λ (l : List Float). backward l (area w₃ y len) p len len []) band-still
       ∙ ap (λ (l : List Float). backward factors l p len len []) (firsts-stand ∙ firsts-same)
       ∙ ap (λ (l : List Float). backward l (forward l sides p len []) p len len []) factors-same
-      ∙ ap (λ (l : List Float). backward (factored (area w b (p + 1)) p len) (forward (factored (area w b (p + 1)) p len) l p len []) p len len [])
-      es
+      ∙ ap (λ (l : List Float). solveBanded (area w b (p + 1)) l p len) es
 
   all-kept : (end : ℕ) → x + len ≤ end → Only band end w w₄
   all-kept end h =
@@ -171,7 +150,8 @@ module _ (w w₁ w₂ w₃ w₄ : List Float) (size g len p b band rhs y x : ℕ
       (run-only w₃ w₄ results x len band end e₄ count-results (omega arith) h)
 
   pub gap-solved : (from end : ℕ) → from ≡ x → x + len ≤ end
-      → (area w₄ from len ≡ solveBanded (area w b (p + 1)) (rightSides (area w 0 size) g len (area w b (p + 1)) p) p len)
+      → (area w₄ from len
+      ≡ solveBanded (area w b (p + 1)) (rightSides (area w 0 size) g len (area w b (p + 1)) p) p len)
       × Only band end w w₄
   gap-solved from end e h = (
     ap (λ (k : ℕ). area w₄ k len) e ∙ run-stands w₃ w₄ results x len e₄ count-results (rw count₃ room) ∙ results-same,
@@ -197,9 +177,11 @@ pass-solved w w₁ w₂ w₃ size g len p room model first e₂ results last =
     let count : length (coefAutocorr coefs p) ≡ p + 1 = length-coefs coefs p in
     let there : b + (p + 1) ≤ length w₁ = rw (first .count) (omega arith) in
     let sums : area w₂ b (p + 1) ≡ coefAutocorr (estimate (area w 0 size) g len p) p =
-    run-stands w₁ w₂ (coefAutocorr coefs p) b (p + 1) e₂ count there ∙ ap (λ (l : List Float). coefAutocorr l p) model in
+    run-stands w₁ w₂ (coefAutocorr coefs p) b (p + 1) e₂ count there
+    ∙ ap (λ (l : List Float). coefAutocorr l p) model in
     let window : area w₂ 0 size ≡ area w 0 size =
-    run-before w₁ w₂ (coefAutocorr coefs p) b 0 size e₂ (omega arith) ∙ only-before size b 0 size w w₁ first (omega arith) in
+    run-before w₁ w₂ (coefAutocorr coefs p) b 0 size e₂ (omega arith)
+    ∙ only-before size b 0 size w w₁ first (omega arith) in
     let kept : Only size end w w₂ =
     only-then size end w w₁ w₂
     (only-wider size b size end w w₁ (omega arith) (omega arith) first)

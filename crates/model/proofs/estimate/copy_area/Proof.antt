@@ -1,5 +1,5 @@
--- `model::estimate::copy_area` meets its contract. The loop's invariant: the first j places are copied, from the workspace
--- as it was. The measure is how many places are left. Assumes nothing.
+-- `model::estimate::copy_area` meets its contract. The loop's invariant: the first j places are copied, from the
+-- workspace as it was. The measure is how many places are left. Assumes nothing.
 use Prim.Native.Nat.{_+_, _-_, _≤_, _<_}
 use native.Mathlib.Omega.{arith}
 use mathlib.Core.Path.{_≡_, refl}
@@ -49,8 +49,9 @@ loop-again : tie.Need-loop-again Inv-loop μ-loop
 loop-again c =
     let turn = c .before in
     let inv = turn .before .loop .inv in
-    let before : turn .before .before .args .copy + turn .before .loop .j < turn .before .before .args .a = omega arith in
-    (omega arith, simp length-set (inv .1), copy-turn (turn .before .before .args .work .now) _ _ _ _ before (inv .2))
+    let a = turn .before .before .args in
+    let before : a .copy + turn .before .loop .j < a .a = omega arith in
+    (omega arith, simp length-set (inv .1), copy-turn (a .work .now) _ _ _ _ before (inv .2))
 
 same-length : tie.Need-same-length Inv-loop μ-loop
 same-length c = c .before .loop .inv .1

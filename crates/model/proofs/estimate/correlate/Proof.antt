@@ -1,5 +1,5 @@
--- `model::estimate::correlate` meets its contract. The loop's invariant: the first lags stand behind the window, which is
--- as it was. The measure is how many are left. Assumes nothing.
+-- `model::estimate::correlate` meets its contract. The loop's invariant: the first lags stand behind the window, which
+-- is as it was. The measure is how many are left. Assumes nothing.
 use Prim.Native.Nat.{_+_, _-_, _≤_}
 use native.Mathlib.Omega.{arith}
 use mathlib.Core.Path.{_≡_, refl}

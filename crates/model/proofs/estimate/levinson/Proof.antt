@@ -1,11 +1,10 @@
--- `model::estimate::levinson` meets its contract. The loop's invariant: the orders that are left, from the coefficients as
--- they stand, give the whole, and nothing but the copy and the coefficients was written. The measure is how many orders are
--- left. Assumes nothing.
+-- `model::estimate::levinson` meets its contract. The loop's invariant: the orders that are left, from the coefficients
+-- as they stand, give the whole, and nothing but the copy and the coefficients was written. The measure is how many
+-- orders are left. Assumes nothing.
 use Prim.Native.Nat.{ℕ, _+_, _-_, _*_, _≤_}
 use native.Mathlib.Omega.{arith}
 use borrow.Author.Needs.{needs}
-use mathlib.Core.Path.{_≡_, refl, sym, ap, _∙_}
-use mathlib.Core.List.{List}
+use mathlib.Core.Path.{_≡_, refl, _∙_}
 use lib.ListN.{length, length-take, length-drop}
 use lib.Ieee.{neg}
 use Rattle.leaves.specs.Arithmetic.{_/₆₄_}
@@ -26,58 +25,63 @@ Inv-loop work₀ r p copy a e₀ i₀ work e i =
 abbrev μ-loop : tie.MeasureT-loop
 μ-loop work₀ r p copy a e₀ i₀ work e i = p + 1 - i
 
--- from a turn's shortfall, back to the turn, and to the workspace that the loop began with
+-- from the loop, back to the workspace that it began with, and to the entry: where the lags and the coefficients stand,
+-- and how many they are
+abbrev begun : tie.At-loop Inv-loop μ-loop → tie.After-start-unit Inv-loop μ-loop
+begun l = l .before .before .before .before
+
+abbrev entry : tie.At-loop Inv-loop μ-loop → tie.Start Inv-loop μ-loop
+entry l = begun l .before .before .before
+
+abbrev lags : tie.At-loop Inv-loop μ-loop → ℕ
+lags l = entry l .args .r
+
+abbrev count : tie.At-loop Inv-loop μ-loop → ℕ
+count l = entry l .args .p + 1
+
+abbrev coefs : tie.At-loop Inv-loop μ-loop → ℕ
+coefs l = lags l + 2 * count l
+
+-- from a turn's shortfall, back to the turn; and from an order that was copied, to the test of e, and to the turn
 abbrev turn : tie.After-order-shortfall Inv-loop μ-loop → tie.In-loop Inv-loop μ-loop
 turn c = c .before .before .before .before
 
-abbrev begun : tie.At-loop Inv-loop μ-loop → tie.After-start-unit Inv-loop μ-loop
-begun c = c .before .before .before .before
+abbrev large : tie.After-copy-area Inv-loop μ-loop → tie.Else1 Inv-loop μ-loop
+large c = c .before .before .before .before .before .before
 
-abbrev entry : tie.At-loop Inv-loop μ-loop → tie.Start Inv-loop μ-loop
-entry c = begun c .before .before .before
+abbrev looped : tie.After-copy-area Inv-loop μ-loop → tie.At-loop Inv-loop μ-loop
+looped c = turn (large c .before .before) .before
 
 -- the coefficients end within the workspace as it stands
-roomy : (c : tie.At-loop Inv-loop μ-loop)
-    → entry c .args .r + 2 * (entry c .args .p + 1) + (entry c .args .p + 1) ≤ length (c .loop .work)
-roomy c = omega arith
+roomy : (l : tie.At-loop Inv-loop μ-loop) → coefs l + count l ≤ length (l .loop .work)
+roomy l = omega arith
 
 -- the shortfall is that of the coefficients as they stand and of the lags
 made-up : (c : tie.After-order-shortfall Inv-loop μ-loop)
-    → c .order-shortfall .result
-    ≡ shortfall
-    (area (turn c .before .loop .work) (entry (turn c .before) .args .r + 2 * (entry (turn c .before) .args .p + 1))
-    (entry (turn c .before) .args .p + 1))
-    (area (begun (turn c .before) .start-unit .last .0) (entry (turn c .before) .args .r) (entry (turn c .before) .args .p + 1))
-    (turn c .before .loop .i)
+    → let l = turn c .before in
+    c .order-shortfall .result
+    ≡ shortfall (area (l .loop .work) (coefs l) (count l)) (area (begun l .start-unit .last .0) (lags l) (count l))
+    (l .loop .i)
 made-up c =
-    let loop = turn c .before in
-    let a = entry loop .args in
-    let coefs : a .r + 2 * (a .p + 1) + (a .p + 1) - (a .r + 2 * (a .p + 1)) ≡ a .p + 1 = omega arith in
-    let lags : a .r + (a .p + 1) - a .r ≡ a .p + 1 = omega arith in
-    shortfall-here (begun loop .start-unit .last .0) (loop .loop .work) (a .r) (a .r + (a .p + 1)) (a .r + 2 * (a .p + 1)) (a .p)
-    (a .r + 3 * (a .p + 1)) _ _ _ _ coefs lags (omega arith) (loop .loop .inv .3) (c .order-shortfall .ensures)
-
--- from an order that was copied, back to the test of e, and to the turn
-abbrev ordered : tie.After-copy-area Inv-loop μ-loop → tie.After-magnitude64 Inv-loop μ-loop
-ordered c = c .before .before .before .before .before .before .before
-
-abbrev looped : tie.After-copy-area Inv-loop μ-loop → tie.At-loop Inv-loop μ-loop
-looped c = turn (ordered c .before) .before
+    let l = turn c .before in
+    let coefs-lent : coefs l + count l - coefs l ≡ count l = omega arith in
+    let lags-lent : lags l + count l - lags l ≡ count l = omega arith in
+    shortfall-here (begun l .start-unit .last .0) (l .loop .work) (lags l) (lags l + count l) (coefs l)
+    (entry l .args .p) (lags l + 3 * count l) _ _ _ _ coefs-lent lags-lent (omega arith) (l .loop .inv .3)
+    (c .order-shortfall .ensures)
 
 -- the coefficients are those of the order, and nothing but the copy and they was written
 raised-here : (c : tie.After-copy-area Inv-loop μ-loop)
-    → (area (c .copy-area .last .0) (entry (looped c) .args .r + 2 * (entry (looped c) .args .p + 1)) (entry (looped c) .args .p + 1)
-    ≡ raised
-    (area (looped c .loop .work) (entry (looped c) .args .r + 2 * (entry (looped c) .args .p + 1)) (entry (looped c) .args .p + 1))
-    (looped c .loop .i)
-    (neg (ordered c .before .order-shortfall .result) /₆₄ looped c .loop .e))
-    × Only (entry (looped c) .args .r + (entry (looped c) .args .p + 1)) (entry (looped c) .args .r + 3 * (entry (looped c) .args .p + 1))
-    (looped c .loop .work) (c .copy-area .last .0)
+    → let l = looped c in
+    let k = neg (large c .before .before .order-shortfall .result) /₆₄ l .loop .e in
+    (area (c .copy-area .last .0) (coefs l) (count l)
+    ≡ raised (area (l .loop .work) (coefs l) (count l)) (l .loop .i) k)
+    × Only (lags l + count l) (lags l + 3 * count l) (l .loop .work) (c .copy-area .last .0)
 raised-here c =
+    let l = looped c in
     let order = c .before .before .before .before in
-    let a = entry (looped c) .args in
-    order-stands (looped c .loop .work) (order .raise-order .last .0) (c .copy-area .last .0) (a .r + (a .p + 1))
-    (a .r + 2 * (a .p + 1)) (a .p) _ (a .r + 3 * (a .p + 1)) _ (omega arith) (roomy (looped c)) (omega arith)
+    order-stands (l .loop .work) (order .raise-order .last .0) (c .copy-area .last .0) (lags l + count l) (coefs l)
+    (entry l .args .p) _ (lags l + 3 * count l) _ (omega arith) (roomy l) (omega arith)
     (order .raise-order .ensures) (c .copy-area .ensures)
 
 add-copy : tie.Need-add-copy Inv-loop μ-loop
@@ -158,12 +162,12 @@ same-length c = search needs
 returns : tie.Need-returns Inv-loop μ-loop
 returns c =
     let short = c .before .before in
-    let loop = turn short .before in
-    let a = entry loop .args in
-    let inv = loop .loop .inv in
-    levinson-ends (a .work .now) _ _ (a .r) (a .p) (entry loop .pre .0) (begun loop .start-unit .ensures) (inv .3)
-    (orders-small _ _ _ _ _ _ (inv .4) _ _ _ _ (turn short .loop-test .taken) (c .before .magnitude64 .ensures) (made-up short) refl refl
-    (c .if1 .taken))
+    let l = turn short .before in
+    let stopped =
+    orders-small _ _ _ _ _ _ (l .loop .inv .4) _ _ _ _ (turn short .loop-test .taken) (c .before .magnitude64 .ensures)
+    (made-up short) refl refl (c .if1 .taken) in
+    levinson-ends (entry l .args .work .now) _ _ (lags l) (entry l .args .p) (entry l .pre .0)
+    (begun l .start-unit .ensures) (l .loop .inv .3) stopped
 
 raise-order-requires : tie.Need-raise-order-requires Inv-loop μ-loop
 raise-order-requires c κs = search needs
@@ -180,15 +184,14 @@ same-length-2 c = search needs
 returns-2 : tie.Need-returns-2 Inv-loop μ-loop
 returns-2 c =
     let copied = c .before .before .before in
-    let sized = ordered copied in
-    let loop = looped copied in
-    let a = entry loop .args in
-    let inv = loop .loop .inv in
+    let sized = large copied .before in
+    let l = looped copied in
     let done = raised-here copied in
-    levinson-ends (a .work .now) _ _ (a .r) (a .p) (entry loop .pre .0) (begun loop .start-unit .ensures) (only-then _ _ _ _ _ (inv .3) (done .1))
-    (done .0
-    ∙ orders-ended _ _ _ _ _ _ (inv .4) _ _ _ _ (turn (sized .before) .loop-test .taken) (sized .magnitude64 .ensures) (made-up (sized .before)) refl refl
-    (copied .before .before .before .before .before .before .if1 .left) (c .if2 .taken))
+    let ended =
+    orders-ended _ _ _ _ _ _ (l .loop .inv .4) _ _ _ _ (turn (sized .before) .loop-test .taken)
+    (sized .magnitude64 .ensures) (made-up (sized .before)) refl refl (large copied .if1 .left) (c .if2 .taken) in
+    levinson-ends (entry l .args .work .now) _ _ (lags l) (entry l .args .p) (entry l .pre .0)
+    (begun l .start-unit .ensures) (only-then _ _ _ _ _ (l .loop .inv .3) (done .1)) (done .0 ∙ ended)
 
 add-i : tie.Need-add-i Inv-loop μ-loop
 add-i c = omega arith
@@ -199,26 +202,27 @@ loop-less c = omega arith
 loop-again : tie.Need-loop-again Inv-loop μ-loop
 loop-again c =
     let copied = c .before .before .before in
-    let sized = ordered copied in
-    let loop = looped copied in
-    let a = entry loop .args in
-    let inv = loop .loop .inv in
+    let sized = large copied .before in
+    let l = looped copied in
     let done = raised-here copied in
     let on =
-    orders-next _ _ _ _ _ _ (inv .4) _ _ _ _ (turn (sized .before) .loop-test .taken) (sized .magnitude64 .ensures) (made-up (sized .before)) refl refl
-    (copied .before .before .before .before .before .before .if1 .left) (c .if2 .left) in
-    (omega arith, omega arith, done .1 .count ∙ inv .2, only-then _ _ _ _ _ (inv .3) (done .1), rw (done .0) on)
+    orders-next _ _ _ _ _ _ (l .loop .inv .4) _ _ _ _ (turn (sized .before) .loop-test .taken)
+    (sized .magnitude64 .ensures) (made-up (sized .before)) refl refl (large copied .if1 .left) (c .if2 .left) in (
+      omega arith,
+      omega arith,
+      done .1 .count ∙ l .loop .inv .2,
+      only-then _ _ _ _ _ (l .loop .inv .3) (done .1),
+      rw (done .0) on,
+    )
 
 same-length-3 : tie.Need-same-length-3 Inv-loop μ-loop
 same-length-3 c = search needs
 
 returns-3 : tie.Need-returns-3 Inv-loop μ-loop
 returns-3 c =
-    let loop = c .before in
-    let a = entry loop .args in
-    let inv = loop .loop .inv in
-    levinson-ends (a .work .now) _ _ (a .r) (a .p) (omega arith) (begun loop .start-unit .ensures) (inv .3)
-    (orders-done _ _ _ _ _ _ (inv .4) (c .loop-test .left))
+    let l = c .before in
+    levinson-ends (entry l .args .work .now) _ _ (lags l) (entry l .args .p) (entry l .pre .0)
+    (begun l .start-unit .ensures) (l .loop .inv .3) (orders-done _ _ _ _ _ _ (l .loop .inv .4) (c .loop-test .left))
 
 pub levinson-spec : {M : Type 1} → statement M
 levinson-spec =

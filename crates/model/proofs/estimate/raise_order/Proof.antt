@@ -1,5 +1,5 @@
--- `model::estimate::raise_order` meets its contract. The loop's invariant: the first j coefficients of the order stand at
--- `copy`, from those that stood at a. The measure is how many are left. Assumes nothing.
+-- `model::estimate::raise_order` meets its contract. The loop's invariant: the first j coefficients of the order stand
+-- at `copy`, from those that stood at a. The measure is how many are left. Assumes nothing.
 use Prim.Native.Nat.{_+_, _-_, _≤_}
 use native.Mathlib.Omega.{arith}
 use mathlib.Core.Path.{_≡_, refl}

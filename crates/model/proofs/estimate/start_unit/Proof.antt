@@ -1,5 +1,5 @@
--- `model::estimate::start_unit` meets its contract. The loop's invariant: storing +0 at what is left gives the whole. The
--- measure is how many places are left. Assumes nothing.
+-- `model::estimate::start_unit` meets its contract. The loop's invariant: storing +0 at what is left gives the whole.
+-- The measure is how many places are left. Assumes nothing.
 use Prim.Native.Nat.{_+_, _-_, _≤_, _<_}
 use native.Mathlib.Omega.{arith}
 use mathlib.Core.Path.{_≡_, refl}
@@ -14,7 +14,8 @@ use Rattle.model.proofs.estimate.start_unit.Tie as tie
 abbrev Inv-loop : tie.InvT-loop
 Inv-loop work₀ a p j₀ work j =
     (1 ≤ j) × (j ≤ p + 1) × (length work ≡ length work₀)
-    × (sets work (a + j) (replicate (p + 1 - j) (ofBits binary64 0)) ≡ sets work₀ (a + 1) (replicate p (ofBits binary64 0)))
+    × (sets work (a + j) (replicate (p + 1 - j) (ofBits binary64 0))
+    ≡ sets work₀ (a + 1) (replicate p (ofBits binary64 0)))
 
 abbrev μ-loop : tie.MeasureT-loop
 μ-loop work₀ a p j₀ work j = p + 1 - j

@@ -1,5 +1,5 @@
--- `model::fill::coef_autocorr` meets its contract. The loop's invariant: the first sums stand at b, and the coefficients
--- are as they were. The measure is how many are left. Assumes nothing.
+-- `model::fill::coef_autocorr` meets its contract. The loop's invariant: the first sums stand at b, and the
+-- coefficients are as they were. The measure is how many are left. Assumes nothing.
 use Prim.Native.Nat.{_+_, _-_, _≤_}
 use native.Mathlib.Omega.{arith}
 use mathlib.Core.Path.{_≡_, refl}

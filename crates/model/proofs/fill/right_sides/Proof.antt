@@ -1,5 +1,5 @@
--- `model::fill::right_sides` meets its contract. The loop's invariant: the first right sides stand at `rhs`, and the window
--- and b are as they were. The measure is how many are left. Assumes nothing.
+-- `model::fill::right_sides` meets its contract. The loop's invariant: the first right sides stand at `rhs`, and the
+-- window and b are as they were. The measure is how many are left. Assumes nothing.
 use Prim.Native.Nat.{_+_, _-_, _≤_}
 use native.Mathlib.Omega.{arith}
 use mathlib.Core.Path.{_≡_, refl}

@@ -1,5 +1,5 @@
--- `model::fill::solve_gap` meets its contract: right sides, band, forward and back solve, each from the areas as the stages
--- before it left them. Assumes nothing.
+-- `model::fill::solve_gap` meets its contract: right sides, band, forward and back solve, each from the areas as the
+-- stages before it left them. Assumes nothing.
 use Prim.Native.Nat.{_+_, _*_, _≤_}
 use native.Mathlib.Omega.{arith}
 use mathlib.Core.Path.{_≡_, refl}
@@ -71,8 +71,9 @@ returns c =
     let y = rhs + a .len in
     let room : y + a .len + a .len ≤ length (a .work .now) = omega arith in
     let there : resultsAt (a .size) (a .len) (a .p) ≡ y + a .len = omega arith in
-    gap-solved (a .work .now) (sided .right-sides .last .0) (banded .factor .last .0) (forth .forward-solve .last .0) (back .back-solve .last .0)
-    (a .size) (a .g) (a .len) (a .p) b band rhs y (y + a .len) (omega arith) (omega arith) (omega arith) (omega arith) room _ _ _ _ refl refl refl refl
+    gap-solved (a .work .now) (sided .right-sides .last .0) (banded .factor .last .0) (forth .forward-solve .last .0)
+    (back .back-solve .last .0) (a .size) (a .g) (a .len) (a .p) b band rhs y (y + a .len) (omega arith) (omega arith)
+    (omega arith) (omega arith) room _ _ _ _ refl refl refl refl
     (sided .right-sides .ensures) (banded .factor .ensures) (forth .forward-solve .ensures) (back .back-solve .ensures)
     (resultsAt (a .size) (a .len) (a .p)) (doublesFor (a .size) (a .len) (a .p)) there (omega arith)
 
