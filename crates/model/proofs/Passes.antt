@@ -114,7 +114,7 @@ pass-stores g len p seg h =
     let n : length l ≡ len = solved-length seg g len p in
     sym (sets-eq l seg g (rw n h) ∙ append-assoc (take g seg) l (drop (g + length l) seg) ∙ ap (λ (k : ℕ). take g seg ++ (l ++ drop (g + k) seg)) n)
 
-stored-same : (g len : ℕ) (seg l : List Float) → length l ≡ len → Same g len seg (sets seg g l)
+pub stored-same : (g len : ℕ) (seg l : List Float) → length l ≡ len → Same g len seg (sets seg g l)
 stored-same g len seg l n =
     record {
       count = length-sets seg g l;
