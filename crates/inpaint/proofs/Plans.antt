@@ -16,7 +16,10 @@ use Rattle.model.specs.Model.{orderFor, filled}
 use Rattle.model.proofs.Parts.{part-before-sets, part-behind-sets}
 use Rattle.model.proofs.Passes.{Same, stored-same, solved-same, one-pass}
 use Rattle.inpaint.specs.Gap.{gapWrong, byLine, context, from, to, windowSize, window, float, narrowWord, needed}
-use Rattle.inpaint.specs.Gap.{knownBefore, knownBehind, readable, allReadable, leftOf, rightOf, line, model, repaired, gapPlan}
+use Rattle.recording.specs.Recording.{Plan, refuse, if_then_else_}
+use Rattle.recording.specs.declared.Reason.the-variants.{Gap, Workspace}
+use Rattle.recording.specs.declared.Answer.{Answer}
+use Rattle.inpaint.specs.Gap.{unlessRead, knownBefore, knownBehind, readable, allReadable, leftOf, rightOf, line, model, repaired, gapPlan}
 use Rattle.inpaint.specs.Consequences.{EveryCount, GapHasNoSay}
 
 -- a gap that refusal 5 does not turn away lies within the recording
@@ -106,25 +109,104 @@ map-stores f l [] g = refl
 map-stores {B = B} f l (w ∷ ws) g = map-stores f (set l g w) ws (suc g) ∙ ap (λ (m : List B). sets m (suc g) (map f ws)) (map-set f l g w)
 
 module _ (start len : ℕ) (samples words : List ℕ) (count : length words ≡ len) (inside : start + len ≤ length samples) where
-  other : List ℕ
-  other = sets samples start words
-
-  as-many : length other ≡ length samples
+  as-many : length (sets samples start words) ≡ length samples
   as-many = length-sets samples start words
 
-  known-same : allReadable other start len ≡ allReadable samples start len
-  unfolding allReadable knownBefore knownBehind other
+  known-same : allReadable (sets samples start words) start len ≡ allReadable samples start len
+  unfolding allReadable knownBefore knownBehind
   known-same =
       rw (
         as-many,
-        part-before-sets samples words start (from start len) (start - from start len) (omega arith),
-        part-behind-sets samples words start (start + len) (to (length samples) start len - (start + len)) (omega (arith, count)),
+        part-before-sets samples words start (from start len) (start - from start len) (before (context len)),
+        part-behind-sets samples words start (start + len) (to (length samples) start len - (start + len)) behind,
       ) refl
+    where
+      before : (c : ℕ) → start - c + (start - (start - c)) ≤ start
+      before c = omega arith
 
-  line-same : line other start len ≡ line samples start len
-  unfolding line leftOf rightOf other
-  line-same = ?
+      behind : start + length words ≤ start + len
+      behind = omega (arith, count)
 
-  window-same : Same (start - from start len) len (map float (window samples start len)) (map float (window other start len))
-  unfolding window other
-  window-same = ?
+  left-same : leftOf (sets samples start words) start ≡ leftOf samples start
+  unfolding leftOf
+  left-same =
+      elim (truth (eqb start 0)) [
+        | inl first ↦ rw first refl
+        | inr later ↦ rw (later, read-before samples words start (start - 1) 0 (one-before (eqb-false start 0 later))) refl
+      ]
+    where
+      one-before : (start ≡ 0 → ⊥) → start - 1 < start
+      one-before h = omega (arith, h)
+
+  right-same : rightOf (sets samples start words) (start + len) ≡ rightOf samples (start + len)
+  unfolding rightOf
+  right-same = rw (as-many, read-after samples words start (start + len) 0 (omega (arith, count))) refl
+
+  line-same : line (sets samples start words) start len ≡ line samples start len
+  unfolding line
+  line-same = rw (left-same, right-same) refl
+
+  -- the window has the other words at the gap's place in it
+  window-stores : window (sets samples start words) start len ≡ sets (window samples start len) (start - from start len) words
+  unfolding window
+  window-stores =
+      rw (as-many, drop-stores samples words start (from start len) (lower (context len)))
+      (take-stores (drop (from start len) samples) words (start - from start len) (windowSize (length samples) start len)
+      (rw count (holds-gap (length samples) start len (context len) inside)))
+    where
+      lower : (c : ℕ) → start - c ≤ start
+      lower c = omega arith
+
+  model-same : (passes : ℕ) → model passes (sets samples start words) start len ≡ model passes samples start len
+  unfolding model
+  model-same passes =
+      let g = start - from start len in
+      let seg = map float (window samples start len) in
+      let stored : map float (window (sets samples start words) start len) ≡ sets seg g (map float words) =
+      ap (map float) window-stores ∙ map-stores float (window samples start len) words g in
+      let many : length (map float words) ≡ len = length-map float words ∙ count in
+      let same = stored-same g len seg (map float words) many in
+      let within = gap-in-window samples start len inside in
+      rw stored
+      (ap (map narrowWord)
+      (one-pass passes (sets seg g (map float words)) g len (rw (same .count) within)
+      ∙ solved-same g len seg (sets seg g (map float words)) same (orderFor len)
+      ∙ sym (one-pass passes seg g len within)))
+
+  repaired-same : (passes : ℕ) → repaired passes (sets samples start words) start len ≡ repaired passes samples start len
+  unfolding repaired
+  repaired-same passes = rw (line-same, model-same passes) refl
+
+-- the plan, from the number of samples, what is read and what is repaired
+planned : ℕ → ℕ → ℕ → ℕ → Answer → Plan → Plan
+planned start len room n read made =
+    if gapWrong n start len then refuse Gap else
+    if ltb room (needed n start len) then refuse Workspace else
+    unlessRead read made
+
+as-planned : (start len passes room : ℕ) (samples : List ℕ)
+    → gapPlan start len passes room samples
+    ≡ planned start len room (length samples) (allReadable samples start len) (repaired passes samples start len)
+unfolding gapPlan planned
+as-planned start len passes room samples = refl
+
+-- where the gap is turned away, nothing else matters
+turned-away : (start len room n : ℕ) (read read' : Answer) (made made' : Plan) → gapWrong n start len ≡ true
+    → planned start len room n read made ≡ planned start len room n read' made'
+unfolding planned
+turned-away start len room n read read' made made' wrong = rw wrong refl
+
+pub gap-has-no-say : GapHasNoSay
+gap-has-no-say start len passes room samples words count =
+    let n = length samples in
+    let other = sets samples start words in
+    as-planned start len passes room other
+    ∙ ap (λ (k : ℕ). planned start len room k (allReadable other start len) (repaired passes other start len)) (length-sets samples start words)
+    ∙ elim (truth (gapWrong n start len)) [
+      | inl wrong ↦ turned-away start len room n _ _ _ _ wrong
+      | inr right ↦
+          let inside = gap-inside n start len right in
+          ap (λ (r : Answer). planned start len room n r (repaired passes other start len)) (known-same start len samples words count inside)
+          ∙ ap (planned start len room n (allReadable samples start len)) (repaired-same start len samples words count inside passes)
+    ]
+    ∙ sym (as-planned start len passes room samples)
