@@ -1,6 +1,7 @@
 -- `inpaint::auto::next_run` meets its contract. The outer loop's invariant: the search from here on gives what the
 -- search from `from` on gives, and nothing is found yet. The inner loop's: all from the run's start to before `end` are
--- dropouts, so that the run is so long and what follows from `end` on. The measures are the places left. Assumes nothing.
+-- dropouts, so that the run has these and what follows from `end` on. The measures are how many places are left.
+-- Assumes nothing.
 use Prim.Native.Nat.{_+_, _-_, _≤_}
 use mathlib.Core.Path.{_≡_, refl, sym, _∙_}
 use native.Mathlib.Omega.{arith}
