@@ -1,3 +1,4 @@
 pub mod Gap
 pub mod Auto
+pub mod Runs
 pub mod Inner

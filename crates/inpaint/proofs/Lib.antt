@@ -1,0 +1,2 @@
+-- Laws of the gap's and the scan's rules.
+pub mod Scans
