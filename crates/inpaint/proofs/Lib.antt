@@ -1,4 +1,6 @@
--- Laws that several of this crate's proofs cite, what the plan of a gap does not depend on, and that its repair is lawful.
+-- Laws that several of this crate's proofs cite, what the plan of a gap does not depend on, that its repair is lawful, and what a
+-- scan comes to.
 pub mod Stores
 pub mod Plans
 pub mod Lawful
+pub mod Scans

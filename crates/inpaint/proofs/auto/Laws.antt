@@ -1,16 +1,17 @@
 -- The scan for dropouts: what the code's tests tell of a float and of a run, the search for a run place by place, and
 -- the scan run by run. Assumes nothing.
 use mathlib.Core.Path.{_≡_, refl, sym, ap, subst, _∙_}
-use mathlib.Core.Bool.{Bool, true, false, not, _&&_, _||_, cond, and-false, true≢false, false≢true}
+use mathlib.Core.Bool.{Bool, true, false, not, _&&_, cond, and-false, true≢false, false≢true}
 use mathlib.Core.List.{List}
 use mathlib.Core.Logic.{inl, inr}
-use Prim.Native.Nat.{ℕ, zero, suc, _+_, _-_, _*_, _/_, _^_, _≤_, _<_, min}
+use Prim.Native.Nat.{ℕ, zero, suc, _+_, _-_, _*_, _/_, _≤_, _<_, min}
+use native.Mathlib.Decide.{ℕ-discrete}
 use native.Mathlib.Omega.{arith}
-use native.Mathlib.Nat.{le-div-iff-mul-le, min-eq-right}
+use native.Mathlib.Nat.{le-div-iff-mul-le}
 use lib.Dec.{T, leb, ltb, eqb}
 use lib.IntN.{pos}
 use lib.ListN.{length, getD}
-use lib.Ieee.{Float, nan, inf, fin, binary32, up, down, neg, div, mul, lt, eq, ne, isNan, toUnsigned, ofBits, ofInt}
+use lib.Ieee.{Float, nan, inf, fin, binary32, up, down, neg, div, mul, lt, eq, ne, toUnsigned, ofBits, ofInt}
 use lib.Ieee.Fits.{down-pos}
 use lib.Ieee.Scale.{finite}
 use borrow.Author.Tests.{lt-ltb, le-ltb, le-leb, lt-leb, eq-eqb, ne-eqb, ltb-true, ltb-false, leb-true}
@@ -301,62 +302,91 @@ search-ends samples most i whole h e =
 
 -- ---- a run that is found
 
--- all four tests of a run that qualifies
-four : (a b c d : Bool) → a && b && c && d ≡ true → (a ≡ true) × (b ≡ true) × (c ≡ true) × (d ≡ true)
-four true true true true h = (refl, refl, refl, refl)
-four true true true false h = absurd (false≢true h)
-four true true false d h = absurd (false≢true h)
-four true false c d h = absurd (false≢true h)
-four false b c d h = absurd (false≢true h)
+-- both tests, and all four
+two-tests : (a b : Bool) → a && b ≡ true → (a ≡ true) × (b ≡ true)
+two-tests true true h = (refl, refl)
+two-tests true false h = absurd (false≢true h)
+two-tests false b h = absurd (false≢true h)
 
--- where a run lies that is found from place i on: it has two samples or more, and touches neither end
-pub record Found (samples : List ℕ) (i start len : ℕ) : Type 0 where
+qualifies-long-inside : (n most start len : ℕ) → qualifies n most start len ≡ true → (2 ≤ len) × (start + len < n)
+qualifies-long-inside n most start len h =
+    let last = two-tests (leb 2 len && leb len most && ltb 0 start) (ltb (start + len) n) h in
+    let third = two-tests (leb 2 len && leb len most) (ltb 0 start) (last .0) in
+    let second = two-tests (leb 2 len) (leb len most) (third .0) in
+    (leb-true 2 len (second .0), ltb-true (start + len) n (last .1))
+
+-- a run starts at place i that qualifies
+abbrev pub starts : List ℕ → ℕ → ℕ → Bool
+starts samples most i = begins samples i && qualifies (length samples) most i (runAt samples i)
+
+-- the run that is found from place i on: it starts there, so long, and none does before; so it has two samples or
+-- more, and ends before the recording does
+pub record Found (samples : List ℕ) (most i start len : ℕ) : Type 0 where
   pub from : i ≤ start
+  pub long : runAt samples start ≡ len
+  pub here : starts samples most start ≡ true
+  pub none-before : (j : ℕ) → i ≤ j → j < start → starts samples most j ≡ false
   pub two : 2 ≤ len
-  pub behind : start + len < length samples
+  pub inside : start + len < length samples
 
--- at place i, if those from the next place on lie so
-found-here : (samples : List ℕ) (most i n start len : ℕ)
-    → (nextAmong samples most (i + 1) n ≡ At start len → Found samples (i + 1) start len)
-    → nextAmong samples most i (suc n) ≡ At start len → Found samples i start len
-unfolding nextAmong
-found-here samples most i n start len later h =
-    go (truth (begins samples i)) (truth (qualifies (length samples) most i (runAt samples i)))
+-- place i itself, or what is found from the next on
+found-there : (samples : List ℕ) (most i : ℕ) → starts samples most i ≡ true → Found samples most i i (runAt samples i)
+found-there samples most i t =
+    let len = runAt samples i in
+    let fits = qualifies-long-inside (length samples) most i len (two-tests (begins samples i) _ t .1) in
+    record {
+      from = omega arith;
+      long = refl;
+      here = t;
+      none-before = λ j a b. absurd (omega arith);
+      two = fits .0;
+      inside = fits .1;
+    }
+
+found-later : (samples : List ℕ) (most i start len : ℕ) → starts samples most i ≡ false
+    → Found samples most (i + 1) start len → Found samples most i start len
+found-later samples most i start len t f =
+    record {
+      from = omega (arith, f .from);
+      long = f .long;
+      here = f .here;
+      none-before = before;
+      two = f .two;
+      inside = f .inside;
+    }
   where
-    on : begins samples i && qualifies (length samples) most i (runAt samples i) ≡ false → Found samples i start len
-    on t =
-        let step : nextAmong samples most i (suc n) ≡ nextAmong samples most (i + 1) n = rw t refl in
-        let f = later (sym step ∙ h) in
-        record { from = omega (arith, f .from); two = f .two; behind = f .behind }
+    before : (j : ℕ) → i ≤ j → j < start → starts samples most j ≡ false
+    before j a b =
+        elim (ℕ-discrete j i) [ yes e ↦ ap (starts samples most) e ∙ t | no n ↦ f .none-before j (omega arith) b ]
 
-    go : EitherWay (begins samples i) → EitherWay (qualifies (length samples) most i (runAt samples i))
-        → Found samples i start len
-    go (inl b) (inl q) =
-        let len' = runAt samples i in
-        let step : nextAmong samples most i (suc n) ≡ At i len' = rw (b, q) refl in
-        let same : At i len' ≡ At start len = sym step ∙ h in
-        let first : i ≡ start = cc in
-        let long : len' ≡ len = cc in
-        let tests = four (leb 2 len') (leb len' most) (ltb 0 i) (ltb (i + len') (length samples)) q in
-        record {
-          from = omega (arith, first);
-          two = omega (arith, long, leb-true 2 len' (tests .0));
-          behind = omega (arith, first, long, ltb-true (i + len') (length samples) (tests .3));
-        }
-    go (inl b) (inr q) = on (rw (b, q) refl)
-    go (inr b) q = on (rw b refl)
+-- a run is one only
+same-run : (P : ℕ → ℕ → Type 0) (i j k l : ℕ) → At i j ≡ At k l → P i j → P k l
+same-run P i j k l e p =
+    let first : i ≡ k = cc in
+    let second : j ≡ l = cc in
+    subst (λ (m : ℕ). P m l) first (subst (λ (m : ℕ). P i m) second p)
 
 found-among : (samples : List ℕ) (most i n start len : ℕ)
-    → nextAmong samples most i n ≡ At start len → Found samples i start len
+    → nextAmong samples most i n ≡ At start len → Found samples most i start len
 unfolding nextAmong
 found-among samples most i zero start len h =
     let none : _≡_ {A = ℕ} 0 1 = cc in
     absurd (omega arith)
 found-among samples most i (suc n) start len h =
-    found-here samples most i n start len (found-among samples most (i + 1) n start len) h
+    go (truth (starts samples most i)) (found-among samples most (i + 1) n start len)
+  where
+    go : EitherWay (starts samples most i)
+        → (nextAmong samples most (i + 1) n ≡ At start len → Found samples most (i + 1) start len)
+        → Found samples most i start len
+    go (inl t) later =
+        let step : nextAmong samples most i (suc n) ≡ At i (runAt samples i) = rw t refl in
+        same-run (Found samples most i) i (runAt samples i) start len (sym step ∙ h) (found-there samples most i t)
+    go (inr t) later =
+        let step : nextAmong samples most i (suc n) ≡ nextAmong samples most (i + 1) n = rw t refl in
+        found-later samples most i start len t (later (sym step ∙ h))
 
 pub found-run : (samples : List ℕ) (most i start len : ℕ)
-    → nextRun samples most i ≡ At start len → Found samples i start len
+    → nextRun samples most i ≡ At start len → Found samples most i start len
 found-run samples most i start len h = found-among samples most i (length samples - i) start len h
 
 -- ---- the scan, run by run

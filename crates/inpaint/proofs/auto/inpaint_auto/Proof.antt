@@ -46,8 +46,9 @@ turned c = state (c .loop .samples) (c .loop .marks) (c .loop .journal) (c .loop
 
 -- where the run lies that a turn finds
 run-found : (c : tie.After-found Inv-loop μ-loop)
-    → let at = c .before .before .before .before .before .loop in
-    Found (at .samples) (at .at) (c .found .given .0 .0) (c .found .given .0 .1 .0)
+    → let at = c .before .before .before .before .before in
+    Found (at .loop .samples) (at .before .longest-run .result) (at .loop .at) (c .found .given .0 .0)
+    (c .found .given .0 .1 .0)
 run-found c = found-run _ _ _ _ _ (sym (c .before .before .next-run .ensures) ∙ c .found .given .1)
 
 -- the samples fill a part of the memory

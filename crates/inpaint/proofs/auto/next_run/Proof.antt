@@ -7,7 +7,6 @@ use mathlib.Core.Path.{_≡_, refl, sym, _∙_}
 use native.Mathlib.Omega.{arith}
 use borrow.Author.Needs.{needs}
 use borrow.Author.Tests.{not-true, not-false}
-use lib.ListN.{length}
 use Rattle.inpaint.specs.Auto.{runAt, nextRun}
 use Rattle.inpaint.specs.declared.Run.the-variants.{Nowhere}
 use Rattle.inpaint.proofs.auto.Laws.{run-on, run-stops, run-touches}

@@ -1,0 +1,515 @@
+-- The scan is a sequence of gap repairs, one for each run that qualified as the call began: a repair changes nothing
+-- behind its run, and there stands a sample that is no dropout. Assumes nothing.
+use mathlib.Core.Path.{_≡_, refl, sym, ap, _∙_}
+use mathlib.Core.Bool.{Bool, true, false, _||_, and-false, true≢false}
+use mathlib.Core.List.{List, [], _∷_}
+use mathlib.Core.Logic.{inl, inr}
+use Prim.Native.Nat.{ℕ, zero, suc, _+_, _-_, _≤_, _<_}
+use native.Mathlib.Decide.{ℕ-discrete}
+use native.Mathlib.Nat.{sub-zero, zero-add}
+use native.Mathlib.Omega.{arith}
+use lib.ListN.{length, getD, length-map, length-take, replicate}
+use lib.Seq.{length-sets}
+use lib.Dec.{leb, ltb, eqb}
+use lib.Ieee.{Float}
+use borrow.Author.Tests.{ne-eqb, leb-false, ltb-false}
+use Rattle.leaves.specs.Arithmetic.{nought}
+use Rattle.recording.specs.Recording.{State, Ended, places, put, span, Plan, refuse, change, if_then_else_}
+use Rattle.recording.specs.Recording.{fitting, ranged, entered, committed, carried, performed, unlessRefused}
+use Rattle.recording.specs.Recording.{entrySize, clears, workAfter}
+use Rattle.recording.specs.History.{Ascending, Keeps, LawfulRepair, Lawful, run, did}
+use Rattle.recording.specs.declared.Reason.{Reason}
+use Rattle.recording.specs.declared.Answer.{Answer}
+use Rattle.recording.specs.declared.Answer.the-variants.{Done, Refused}
+use Rattle.recording.proofs.open.Laws.{EitherWay, truth}
+use Rattle.recording.proofs.Performing.{span-ascends}
+use Rattle.recording.proofs.Put.{Among, length-put, put-elsewhere}
+use Rattle.model.specs.Model.{filled}
+use Rattle.inpaint.specs.Gap.{gapWrong, byLine, needed, allReadable, unlessRead, leftOf, rightOf, line, lineFrom}
+use Rattle.inpaint.specs.Gap.{model, repaired, gapPlan, gapRepair}
+use Rattle.inpaint.specs.Auto.{limit, dropout, begins, runLength, runAt, nextAmong, nextRun}
+use Rattle.inpaint.specs.Auto.{Scan, scan, repairAt, scanFrom, scannable, automatic}
+use Rattle.inpaint.specs.Runs.{Stretch, runsAmong, gapCalls, ScanIsItsRuns, ScanCountsItsRuns}
+use Rattle.inpaint.specs.declared.Run.{Run}
+use Rattle.inpaint.specs.declared.Run.the-variants.{At, Nowhere}
+use Rattle.inpaint.proofs.auto.Laws.{starts, Found, found-run, scan-stops, scan-takes}
+use Rattle.inpaint.proofs.auto.Laws.{automatic-refused, automatic-scanned}
+
+abbrev stretch : ℕ → ℕ → Stretch
+stretch start len = record { start = start; len = len }
+
+-- ---- A repair changes nothing behind its gap
+
+-- t has as many elements as l, and from place `end` on the same ones
+record Behind (end : ℕ) (l t : List ℕ) : Type 0 where
+  count : length t ≡ length l
+  same : (j : ℕ) → end ≤ j → getD t j 0 ≡ getD l j 0
+
+unchanged : (end : ℕ) (l : List ℕ) → Behind end l l
+unchanged end l = record { count = refl; same = λ j h. refl }
+
+-- what holds of both holds of the one that a test picks
+picks : {A : Type 0} (P : A → Type 0) (b : Bool) (x y : A) → P x → P y → P (if b then x else y)
+picks P true x y p q = p
+picks P false x y p q = q
+
+-- the places of a span lie before its end
+span-places : (j i : ℕ) (ws : List ℕ) → Among j (places (span i ws)) → j < i + length ws
+unfolding span
+span-places j i [] none = absurd none
+span-places j i (w ∷ ws) (inl e) = omega arith
+span-places j i (w ∷ ws) (inr a) = omega (arith, span-places j (i + 1) ws a)
+
+put-behind : (end start : ℕ) (ws l : List ℕ) → start + length ws ≤ end → Behind end l (put (span start ws) l)
+put-behind end start ws l h =
+    record {
+      count = length-put (span start ws) l;
+      same =
+          λ j k. put-elsewhere j (span start ws) l
+          (λ (a : Among j (places (span start ws))). absurd (omega (arith, span-places j start ws a)));
+    }
+
+-- as many words as the gap has samples, or fewer
+line-count : (left right : Float) (len i n : ℕ) → length (lineFrom left right len i n) ≡ n
+unfolding lineFrom
+line-count left right len i zero = refl
+line-count left right len i (suc n) = ap suc (line-count left right len (i + 1) n)
+
+line-within : (samples : List ℕ) (start len : ℕ) → length (line samples start len) ≤ len
+unfolding line
+line-within samples start len =
+    omega (arith, line-count (leftOf samples start) (rightOf samples (start + len)) len 0 len)
+
+model-within : (passes : ℕ) (samples : List ℕ) (start len : ℕ) → length (model passes samples start len) ≤ len
+unfolding model filled
+model-within passes samples start len = simp (length-map, length-take) (omega arith)
+
+-- a plan names nothing behind the gap
+abbrev Before : ℕ → List ℕ → Plan → Type 0
+Before end l (refuse why) = Unit {0}
+Before end l (change mark cs) = Behind end l (put cs l)
+
+plan-before : (start len passes room : ℕ) (samples : List ℕ)
+    → Before (start + len) samples (gapPlan start len passes room samples)
+unfolding gapPlan repaired
+plan-before start len passes room samples =
+    picks P (gapWrong (length samples) start len) _ _ tt
+    (picks P (ltb room (needed (length samples) start len)) _ _ tt (read (allReadable samples start len)))
+  where
+    P : Plan → Type 0
+    P = Before (start + len) samples
+
+    words : P (repaired passes samples start len)
+    words =
+        picks P (byLine len) _ _
+        (put-behind (start + len) start (line samples start len) samples (omega (arith, line-within samples start len)))
+        (put-behind (start + len) start (model passes samples start len) samples
+        (omega (arith, model-within passes samples start len)))
+
+    read : (a : Answer) → P (unlessRead a (repaired passes samples start len))
+    read (Done m) = words
+    read (Refused why) = tt
+
+-- so the call leaves what stands there
+module _ (end : ℕ) (s : State) where
+  abbrev Leaves : Ended → Type 0
+  Leaves e = Behind end (s .samples) (e .after .samples)
+
+  unless : (a : Answer) (e : Ended) → Leaves e → Leaves (unlessRefused a s e)
+  unless (Done m) e h = h
+  unless (Refused why) e h = unchanged end (s .samples)
+
+  carried-leaves : (p : Plan) → Before end (s .samples) p → Leaves (carried s p)
+  unfolding carried entered committed
+  carried-leaves (refuse why) h = unchanged end (s .samples)
+  carried-leaves (change mark cs) h =
+      unless (ranged cs) _
+      (picks Leaves (eqb (length cs) 0) _ _ (unchanged end (s .samples))
+      (picks Leaves (ltb (length (s .journal) - s .used) (entrySize (length cs))) _ _ (unchanged end (s .samples)) h))
+
+  performed-leaves : (p : Plan) → Before end (s .samples) p → Leaves (performed s p)
+  unfolding performed
+  performed-leaves p h = unless (fitting s) _ (carried-leaves p h)
+
+repair-leaves : (start len passes room : ℕ) (s : State)
+    → Behind (start + len) (s .samples) (gapRepair start len passes room s .after .samples)
+unfolding gapRepair
+repair-leaves start len passes room s =
+    let p = gapPlan start len passes room (s .samples) in
+    performed-leaves (start + len) s p (plan-before start len passes room (s .samples))
+
+-- the workspace keeps its size
+work-count : (n : ℕ) (a : Answer) (w : List Float) → length (workAfter nought n a w) ≡ length w
+work-count n a w =
+    picks (λ (v : List Float). length v ≡ length w) (clears a) _ _ (length-sets w 0 (replicate n nought)) refl
+
+-- ---- What a run is made of
+
+-- dropouts, as many as it is long
+run-dropouts : (samples : List ℕ) (i n j : ℕ) → j < runLength samples i n → dropout (getD samples (i + j) 0) ≡ true
+unfolding runLength
+run-dropouts samples i zero j h = absurd (omega arith)
+run-dropouts samples i (suc n) j h = go (truth (dropout (getD samples i 0))) j h (run-dropouts samples (i + 1) n)
+  where
+    go : EitherWay (dropout (getD samples i 0)) → (j : ℕ) → j < runLength samples i (suc n)
+        → ((k : ℕ) → k < runLength samples (i + 1) n → dropout (getD samples (i + 1 + k) 0) ≡ true)
+        → dropout (getD samples (i + j) 0) ≡ true
+    go (inl d) zero h later = ap (λ (k : ℕ). dropout (getD samples k 0)) (omega arith) ∙ d
+    go (inl d) (suc j) h later =
+        let long : runLength samples i (suc n) ≡ suc (runLength samples (i + 1) n) = rw d refl in
+        ap (λ (k : ℕ). dropout (getD samples k 0)) (omega arith) ∙ later j (omega (arith, long))
+    go (inr d) j h later =
+        let none : runLength samples i (suc n) ≡ 0 = rw d refl in
+        absurd (omega (arith, none))
+
+-- and a sample that is none behind them, if it does not touch the end
+run-behind : (samples : List ℕ) (i n : ℕ) → runLength samples i n < n
+    → dropout (getD samples (i + runLength samples i n) 0) ≡ false
+unfolding runLength
+run-behind samples i zero h = absurd (omega arith)
+run-behind samples i (suc n) h = go (truth (dropout (getD samples i 0))) (run-behind samples (i + 1) n)
+  where
+    go : EitherWay (dropout (getD samples i 0))
+        → (runLength samples (i + 1) n < n → dropout (getD samples (i + 1 + runLength samples (i + 1) n) 0) ≡ false)
+        → dropout (getD samples (i + runLength samples i (suc n)) 0) ≡ false
+    go (inl d) later =
+        let long : runLength samples i (suc n) ≡ suc (runLength samples (i + 1) n) = rw d refl in
+        ap (λ (k : ℕ). dropout (getD samples k 0)) (omega (arith, long)) ∙ later (omega (arith, long))
+    go (inr d) later =
+        let none : runLength samples i (suc n) ≡ 0 = rw d refl in
+        ap (λ (k : ℕ). dropout (getD samples k 0)) (omega (arith, none)) ∙ d
+
+-- no run begins behind a dropout, nor where there is none
+begins-not-behind : (samples : List ℕ) (i : ℕ) → dropout (getD samples i 0) ≡ true → begins samples (i + 1) ≡ false
+unfolding begins
+begins-not-behind samples i h =
+    let back : i + 1 - 1 ≡ i = omega arith in
+    let no : eqb (i + 1) 0 ≡ false = ne-eqb (i + 1) 0 (λ e. absurd (omega arith)) in
+    rw (back, no, h, and-false) refl
+
+begins-not-there : (samples : List ℕ) (i : ℕ) → dropout (getD samples i 0) ≡ false → begins samples i ≡ false
+unfolding begins
+begins-not-there samples i h = rw h refl
+
+-- ---- The first of the runs is what the search answers
+
+-- place i is passed over
+runs-pass : (samples : List ℕ) (most i n : ℕ) → starts samples most i ≡ false
+    → runsAmong samples most i (suc n) ≡ runsAmong samples most (i + 1) n
+unfolding runsAmong
+runs-pass samples most i n t = rw t refl
+
+-- place i has a run
+runs-take : (samples : List ℕ) (most i n : ℕ) → starts samples most i ≡ true
+    → runsAmong samples most i (suc n) ≡ stretch i (runAt samples i) ∷ runsAmong samples most (i + 1) n
+unfolding runsAmong
+runs-take samples most i n t = rw t refl
+
+-- the places before i + k, of which none has a run, are passed over
+runs-skip : (samples : List ℕ) (most k i n m : ℕ) → n ≡ k + m
+    → ((j : ℕ) → i ≤ j → j < i + k → starts samples most j ≡ false)
+    → runsAmong samples most i n ≡ runsAmong samples most (i + k) m
+runs-skip samples most zero i n m e none =
+    let there : i ≡ i + 0 = omega arith in
+    ap (runsAmong samples most i) (e ∙ zero-add m) ∙ ap (λ (j : ℕ). runsAmong samples most j m) there
+runs-skip samples most (suc k) i n m e none =
+    let more : n ≡ suc (k + m) = omega arith in
+    ap (runsAmong samples most i) more
+    ∙ runs-pass samples most i (k + m) (none i (omega arith) (omega arith))
+    ∙ runs-skip samples most k (i + 1) (k + m) m refl (λ j a b. none j (omega arith) (omega arith))
+    ∙ ap (λ (j : ℕ). runsAmong samples most j m) (omega arith)
+
+-- where it answers with nothing, there are none
+none-among : (samples : List ℕ) (most i n : ℕ) → nextAmong samples most i n ≡ Nowhere → runsAmong samples most i n ≡ []
+unfolding nextAmong runsAmong
+none-among samples most i zero h = refl
+none-among samples most i (suc n) h =
+    go (truth (starts samples most i)) (none-among samples most (i + 1) n)
+  where
+    go : EitherWay (starts samples most i)
+        → (nextAmong samples most (i + 1) n ≡ Nowhere → runsAmong samples most (i + 1) n ≡ [])
+        → runsAmong samples most i (suc n) ≡ []
+    go (inl t) later =
+        let step : nextAmong samples most i (suc n) ≡ At i (runAt samples i) = rw t refl in
+        let wrong : At i (runAt samples i) ≡ Nowhere = sym step ∙ h in
+        let none : _≡_ {A = ℕ} 0 1 = cc in
+        absurd (omega arith)
+    go (inr t) later =
+        let step : nextAmong samples most i (suc n) ≡ nextAmong samples most (i + 1) n = rw t refl in
+        runs-pass samples most i n t ∙ later (sym step ∙ h)
+
+-- what is found is the first of them, and the others begin behind its end: within it, and at its end, none begins
+runs-behind : (samples : List ℕ) (most i start len : ℕ) → nextRun samples most i ≡ At start len
+    → runsAmong samples most i (length samples - i)
+    ≡ stretch start len ∷ runsAmong samples most (start + len) (length samples - (start + len))
+runs-behind samples most i start len h =
+    to-start
+    ∙ ap (runsAmong samples most start) one
+    ∙ runs-take samples most start (n - (start + 1)) (f .here)
+    ∙ ap (λ (m : ℕ). stretch start m ∷ runsAmong samples most (start + 1) (n - (start + 1))) (f .long)
+    ∙ ap (λ (rs : List Stretch). stretch start len ∷ rs) to-end
+  where
+    n : ℕ
+    n = length samples
+
+    f : Found samples most i start len
+    f = found-run samples most i start len h
+
+    to-start : runsAmong samples most i (n - i) ≡ runsAmong samples most start (n - start)
+    to-start =
+        let left : n - i ≡ start - i + (n - start) = omega (arith, f .from, f .inside) in
+        let there : i + (start - i) ≡ start = omega (arith, f .from) in
+        runs-skip samples most (start - i) i (n - i) (n - start) left
+        (λ j a b. f .none-before j a (omega (arith, there)))
+        ∙ ap (λ (m : ℕ). runsAmong samples most m (n - start)) there
+
+    one : n - start ≡ suc (n - (start + 1))
+    one = omega (arith, f .inside)
+
+    none : (j : ℕ) → start + 1 ≤ j → j < start + 1 + (len - 1) → starts samples most j ≡ false
+    none j a b =
+        let k = j - start - 1 in
+        let back : j ≡ start + k + 1 = omega arith in
+        let dropped = run-dropouts samples start (n - start) k (omega (arith, f .long, f .two)) in
+        rw (ap (begins samples) back ∙ begins-not-behind samples (start + k) dropped) refl
+
+    to-end : runsAmong samples most (start + 1) (n - (start + 1))
+        ≡ runsAmong samples most (start + len) (n - (start + len))
+    to-end =
+        let left : n - (start + 1) ≡ len - 1 + (n - (start + len)) = omega (arith, f .two, f .inside) in
+        let there : start + 1 + (len - 1) ≡ start + len = omega (arith, f .two) in
+        runs-skip samples most (len - 1) (start + 1) (n - (start + 1)) (n - (start + len)) left none
+        ∙ ap (λ (m : ℕ). runsAmong samples most m (n - (start + len))) there
+
+-- behind a run that is found stands a sample that is no dropout
+found-behind : (samples : List ℕ) (most i start len : ℕ) → nextRun samples most i ≡ At start len
+    → dropout (getD samples (start + len) 0) ≡ false
+found-behind samples most i start len h =
+    let f = found-run samples most i start len h in
+    let inside : runAt samples start < length samples - start = omega (arith, f .long, f .inside) in
+    ap (λ (m : ℕ). dropout (getD samples (start + m) 0)) (sym (f .long))
+    ∙ run-behind samples start (length samples - start) inside
+
+-- ---- The runs from a place on are the same in a recording that is the same from there on
+
+length-same : (samples t : List ℕ) (i n : ℕ) → ((j : ℕ) → i ≤ j → getD t j 0 ≡ getD samples j 0)
+    → runLength t i n ≡ runLength samples i n
+unfolding runLength
+length-same samples t i zero same = refl
+length-same samples t i (suc n) same =
+    let here : getD t i 0 ≡ getD samples i 0 = same i (omega arith) in
+    let later = length-same samples t (i + 1) n (λ j h. same j (omega arith)) in
+    rw (here, later) refl
+
+begins-same : (samples t : List ℕ) (i : ℕ) → getD t i 0 ≡ getD samples i 0 → getD t (i - 1) 0 ≡ getD samples (i - 1) 0
+    → begins t i ≡ begins samples i
+unfolding begins
+begins-same samples t i here before = rw (here, before) refl
+
+runs-same : (samples t : List ℕ) (most i n : ℕ) → length t ≡ length samples
+    → ((j : ℕ) → i ≤ j → getD t j 0 ≡ getD samples j 0)
+    → ((j : ℕ) → i ≤ j → begins t j ≡ begins samples j)
+    → runsAmong t most i n ≡ runsAmong samples most i n
+unfolding runsAmong
+runs-same samples t most i zero count same begin = refl
+runs-same samples t most i (suc n) count same begin =
+    let later = runs-same samples t most (i + 1) n count (λ j h. same j (omega arith)) (λ j h. begin j (omega arith)) in
+    rw (count, begin i (omega arith), length-same samples t i (length samples - i) same, later) refl
+
+-- behind a gap, where there is no dropout, a repair leaves them
+behind-same : (samples t : List ℕ) (most end n : ℕ) → Behind end samples t → dropout (getD samples end 0) ≡ false
+    → runsAmong t most end n ≡ runsAmong samples most end n
+behind-same samples t most end n b none = runs-same samples t most end n (b .count) (b .same) begin
+  where
+    none' : dropout (getD t end 0) ≡ false
+    none' = ap dropout (b .same end (omega arith)) ∙ none
+
+    begin : (j : ℕ) → end ≤ j → begins t j ≡ begins samples j
+    begin j h =
+        elim (ℕ-discrete j end) [
+          | yes e ↦ rw e (begins-not-there t end none' ∙ sym (begins-not-there samples end none))
+          | no f ↦ begins-same samples t j (b .same j h) (b .same (j - 1) (omega arith))
+        ]
+
+-- ---- The scan
+
+-- a scan from place i on, with at most k runs to come, ends as the calls for its runs end, and counts them
+abbrev Ends : ℕ → ℕ → ℕ → Scan → Type 0
+Ends most i k c =
+    let rs = runsAmong (c .after .samples) most i (length (c .after .samples) - i) in
+    (scanFrom most i k c .after ≡ run (gapCalls (length (c .work)) rs) (c .after))
+    × (scanFrom most i k c .qualified ≡ c .qualified + length rs)
+
+-- no run is left
+ends-none : (most i k : ℕ) (c : Scan) → scanFrom most i k c ≡ c
+    → runsAmong (c .after .samples) most i (length (c .after .samples) - i) ≡ [] → Ends most i k c
+unfolding run
+ends-none most i k c stops none = (
+  ap (λ (d : Scan). d .after) stops
+      ∙ ap (λ (rs : List Stretch). run (gapCalls (length (c .work)) rs) (c .after)) (sym none),
+  ap (λ (d : Scan). d .qualified) stops
+      ∙ omega arith
+      ∙ ap (λ (rs : List Stretch). c .qualified + length rs) (sym none),
+)
+
+-- the first of the calls is the repair of its run
+run-first : (start len room : ℕ) (rs : List Stretch) (s : State)
+    → run (gapCalls room rs) (gapRepair start len 3 room s .after) ≡ run (gapCalls room (stretch start len ∷ rs)) s
+unfolding run did gapRepair
+run-first start len room rs s = refl
+
+-- a run is left
+ends-more : (most i k : ℕ) (c : Scan) (start len : ℕ) → nextRun (c .after .samples) most i ≡ At start len
+    → Ends most (start + len) k (repairAt c start len) → Ends most i (suc k) c
+ends-more most i k c start len h rest = (
+  ap (λ (e : Scan). e .after) step
+      ∙ rest .0
+      ∙ ap (λ (m : ℕ). run (gapCalls m rs') (d .after)) room'
+      ∙ ap (λ (l : List Stretch). run (gapCalls room l) (d .after)) same
+      ∙ run-first start len room rs (c .after)
+      ∙ ap (λ (l : List Stretch). run (gapCalls room l) (c .after)) (sym all),
+  ap (λ (e : Scan). e .qualified) step
+      ∙ rest .1
+      ∙ counted
+      ∙ ap (λ (l : List Stretch). c .qualified + length l) (sym all),
+)
+  where
+    d : Scan
+    d = repairAt c start len
+
+    room : ℕ
+    room = length (c .work)
+
+    room' : length (d .work) ≡ room
+    room' =
+        let size = needed (length (c .after .samples)) start len in
+        work-count size (gapRepair start len 3 room (c .after) .answer) (c .work)
+
+    before : List ℕ
+    before = c .after .samples
+
+    rs : List Stretch
+    rs = runsAmong before most (start + len) (length before - (start + len))
+
+    rs' : List Stretch
+    rs' = runsAmong (d .after .samples) most (start + len) (length (d .after .samples) - (start + len))
+
+    step : scanFrom most i (suc k) c ≡ scanFrom most (start + len) k d
+    step = scan-takes most i k start len c h
+
+    all : runsAmong before most i (length before - i) ≡ stretch start len ∷ rs
+    all = runs-behind before most i start len h
+
+    left : Behind (start + len) before (d .after .samples)
+    left = repair-leaves start len 3 room (c .after)
+
+    same : rs' ≡ rs
+    same =
+        ap (λ (m : ℕ). runsAmong (d .after .samples) most (start + len) (m - (start + len))) (left .count)
+        ∙ behind-same before (d .after .samples) most (start + len) (length before - (start + len)) left
+        (found-behind before most i start len h)
+
+    counted : c .qualified + 1 + length rs' ≡ c .qualified + length (stretch start len ∷ rs)
+    counted =
+        let n : length rs' ≡ length rs = ap length same in
+        omega arith
+
+-- whatever is left, if there are no more places from i on than runs may come
+ends : (most k i : ℕ) (c : Scan) → length (c .after .samples) ≤ i + k → Ends most i k c
+unfolding scanFrom runsAmong
+ends most zero i c h =
+    let none : length (c .after .samples) - i ≡ 0 = omega arith in
+    ends-none most i 0 c refl (ap (runsAmong (c .after .samples) most i) none)
+ends most (suc k) i c h = go (nextRun (c .after .samples) most i) refl (ends most k)
+  where
+    go : (r : Run) → nextRun (c .after .samples) most i ≡ r
+        → ((j : ℕ) (d : Scan) → length (d .after .samples) ≤ j + k → Ends most j k d) → Ends most i (suc k) c
+    go Nowhere e later =
+        ends-none most i (suc k) c (scan-stops most i (suc k) c e)
+        (none-among (c .after .samples) most i (length (c .after .samples) - i) e)
+    go (At start len) e later =
+        let f = found-run (c .after .samples) most i start len e in
+        let left = repair-leaves start len 3 (length (c .work)) (c .after) in
+        ends-more most i k c start len e
+        (later (start + len) (repairAt c start len) (omega (arith, left .count, f .from, f .two)))
+
+-- the scan of a whole call
+whole : (rate : ℕ) (ms : Float) (work : List Float) (s : State) → scannable rate ms s ≡ Done 0
+    → scanFrom (limit ms rate) 0 (length (s .samples)) (scan 0 0 0 s work) ≡ automatic rate ms work s
+whole rate ms work s h = automatic-scanned rate ms work s (Done 0) (sym h) 0 refl (limit ms rate) _ refl refl
+
+all-runs : (most : ℕ) (work : List Float) (s : State) → Ends most 0 (length (s .samples)) (scan 0 0 0 s work)
+all-runs most work s = ends most (length (s .samples)) 0 (scan 0 0 0 s work) (omega arith)
+
+pub scan-is-its-runs : ScanIsItsRuns
+scan-is-its-runs rate ms work s h =
+    let most = limit ms rate in
+    ap (λ (c : Scan). c .after) (sym (whole rate ms work s h))
+    ∙ all-runs most work s .0
+    ∙ ap (λ (n : ℕ). run (gapCalls (length work) (runsAmong (s .samples) most 0 n)) s) (sub-zero (length (s .samples)))
+
+pub scan-counts-its-runs : ScanCountsItsRuns
+scan-counts-its-runs rate ms work s h =
+    let most = limit ms rate in
+    ap (λ (c : Scan). c .qualified) (sym (whole rate ms work s h))
+    ∙ all-runs most work s .1
+    ∙ zero-add (length (runsAmong (s .samples) most 0 (length (s .samples) - 0)))
+    ∙ ap (λ (n : ℕ). length (runsAmong (s .samples) most 0 n)) (sub-zero (length (s .samples)))
+
+-- where refusals 1 to 4 turn it away, the scan leaves the recording
+pub refused-scan : (rate : ℕ) (ms : Float) (work : List Float) (s : State) (why : Reason)
+    → scannable rate ms s ≡ Refused why → automatic rate ms work s .after ≡ s
+refused-scan rate ms work s why h =
+    sym (ap (λ (c : Scan). c .after) (automatic-refused rate ms work s (Refused why) (sym h) why _ refl refl))
+
+-- ---- The calls are lawful
+
+-- what holds of either, as the test tells, holds of the one that it picks
+picks-by : {A : Type 0} (P : A → Type 0) (b : Bool) (x y : A) → (b ≡ true → P x) → (b ≡ false → P y)
+    → P (if b then x else y)
+picks-by P true x y p q = p refl
+picks-by P false x y p q = q refl
+
+neither : (a b c : Bool) → a || b || c ≡ false → (b ≡ false) × (c ≡ false)
+neither false false false h = (refl, refl)
+neither false false true h = absurd (true≢false h)
+neither false true c h = absurd (true≢false h)
+neither true b c h = absurd (true≢false h)
+
+-- a gap that refusal 5 does not turn away lies within the recording
+gap-inside : (n start len : ℕ) → gapWrong n start len ≡ false → start + len ≤ n
+gap-inside n start len h =
+    let right = neither (eqb len 0) (leb n start) (ltb (n - start) len) h in
+    omega (arith, leb-false n start (right .0), ltb-false (n - start) len (right .1))
+
+-- whatever the samples, a gap repair refuses, or sets mark 1 or 2 at ascending places of the recording
+pub gap-lawful : (start len passes room : ℕ) → LawfulRepair (gapPlan start len passes room)
+unfolding gapPlan repaired
+gap-lawful start len passes room samples =
+    picks-by P (gapWrong n start len) _ _ (λ h. tt)
+    (λ h. let inside = gap-inside n start len h in
+    picks P (ltb room (needed n start len)) _ _ tt (read inside (allReadable samples start len)))
+  where
+    n : ℕ
+    n = length samples
+
+    P : Plan → Type 0
+    P = Keeps n
+
+    spans : (ws : List ℕ) → start + length ws ≤ n → Ascending n 0 (span start ws)
+    spans ws h = span-ascends n 0 start ws (omega arith) h
+
+    words : start + len ≤ n → P (repaired passes samples start len)
+    words h =
+        picks P (byLine len) _ _
+        (refl, spans (line samples start len) (omega (arith, line-within samples start len)))
+        (refl, spans (model passes samples start len) (omega (arith, model-within passes samples start len)))
+
+    read : start + len ≤ n → (a : Answer) → P (unlessRead a (repaired passes samples start len))
+    read h (Done m) = words h
+    read h (Refused why) = tt
+
+-- so are all the calls of a scan
+pub scan-lawful : (room : ℕ) (rs : List Stretch) → Lawful (gapCalls room rs)
+scan-lawful room [] = tt
+scan-lawful room (r ∷ rs) = (gap-lawful (r .start) (r .len) 3 room, scan-lawful room rs)
