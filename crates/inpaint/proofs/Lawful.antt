@@ -9,12 +9,13 @@ use native.Mathlib.Omega.{arith}
 use lib.Dec.{ltb}
 use lib.ListN.{length}
 use Rattle.recording.specs.Recording.{Plan, change, span, made, if_then_else_, gapByModel, gapByLine}
-use Rattle.recording.specs.History.{Keeps, LawfulRepair}
+use Rattle.recording.specs.History.{Keeps}
 use Rattle.recording.specs.declared.Answer.{Answer}
 use Rattle.recording.specs.declared.Answer.the-variants.{Done, Refused}
 use Rattle.recording.proofs.open.Laws.{truth}
 use Rattle.recording.proofs.Performing.{span-ascends}
 use Rattle.inpaint.specs.Gap.{gapWrong, byLine, needed, allReadable, unlessRead, line, model, repaired, gapPlan}
+use Rattle.inpaint.specs.Consequences.{GapIsLawful}
 use Rattle.inpaint.proofs.window.Laws.{gap-right}
 use Rattle.inpaint.proofs.line.Laws.{length-line}
 use Rattle.inpaint.proofs.fill.Laws.{length-model}
@@ -42,7 +43,7 @@ repaired-kept passes samples start len h =
     (span-kept (length samples) start len gapByModel (model passes samples start len) refl
     (length-model samples start len h passes) h)
 
-pub gap-lawful : (start len passes room : ℕ) → LawfulRepair (gapPlan start len passes room)
+pub gap-lawful : GapIsLawful
 unfolding gapPlan
 gap-lawful start len passes room samples =
     elim (truth (gapWrong (length samples) start len)) [

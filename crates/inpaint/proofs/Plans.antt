@@ -1,86 +1,37 @@
 -- What the plan of a gap does not depend on: the number of passes, and what stood in the gap. Assumes nothing.
 use mathlib.Core.Path.{_≡_, refl, sym, ap, _∙_}
-use mathlib.Core.Bool.{Bool, true, false, true≢false, _||_}
+use mathlib.Core.Bool.{true}
 use mathlib.Core.Logic.{inl, inr}
 use mathlib.Core.List.{List, [], _∷_, map}
-use Prim.Native.Nat.{ℕ, zero, suc, _+_, _-_, _≤_, _<_, min}
+use Prim.Native.Nat.{ℕ, zero, suc, _+_, _-_, _≤_, _<_}
 use native.Mathlib.Omega.{arith}
-use lib.ListN.{length, take, drop, set, getD, length-take, length-drop}
+use lib.ListN.{length, take, drop, set, length-map}
 use lib.Seq.{sets, length-sets, drop-set-add, take-set-lt}
-use lib.Dec.{leb, ltb, eqb}
-use lib.Ieee.{Float}
-use borrow.Author.Tests.{leb-false, ltb-false, eqb-false, le-leb}
+use lib.Dec.{ltb, eqb}
+use borrow.Author.Tests.{eqb-false}
 use Rattle.leaves.proofs.Lists.{read-before, read-after}
 use Rattle.recording.proofs.open.Laws.{truth}
-use Rattle.model.specs.Model.{orderFor, filled}
+use Rattle.model.specs.Model.{orderFor}
 use Rattle.model.proofs.Parts.{part-before-sets, part-behind-sets}
-use Rattle.model.proofs.Passes.{Same, stored-same, solved-same, one-pass}
-use Rattle.inpaint.specs.Gap.{gapWrong, byLine, context, from, to, windowSize, window, float, narrowWord, needed}
+use Rattle.model.proofs.Passes.{stored-same, solved-same, one-pass}
+use Rattle.inpaint.specs.Gap.{gapWrong, context, from, to, windowSize, window, float, narrowWord, needed}
 use Rattle.recording.specs.Recording.{Plan, refuse, if_then_else_}
 use Rattle.recording.specs.declared.Reason.the-variants.{Gap, Workspace}
 use Rattle.recording.specs.declared.Answer.{Answer}
-use Rattle.inpaint.specs.Gap.{unlessRead, knownBefore, knownBehind, readable, allReadable, leftOf, rightOf, line, model, repaired, gapPlan}
+use Rattle.inpaint.specs.Gap.{unlessRead, knownBefore, knownBehind, allReadable, leftOf, rightOf, line, model}
+use Rattle.inpaint.specs.Gap.{repaired, gapPlan}
+use Rattle.inpaint.proofs.window.Laws.{gap-right}
+use Rattle.inpaint.proofs.fill.Laws.{numbers, gap-within, model-passes}
 use Rattle.inpaint.specs.Consequences.{EveryCount, GapHasNoSay}
 
--- a gap that refusal 5 does not turn away lies within the recording
-pub gap-inside : (n start len : ℕ) → gapWrong n start len ≡ false → start + len ≤ n
-gap-inside n start len h = go (eqb len 0) (leb n start) (ltb (n - start) len) (leb-false n start) (ltb-false (n - start) len) h
-  where
-    go : (a b c : Bool) → (b ≡ false → start < n) → (c ≡ false → len ≤ n - start) → a || b || c ≡ false → start + len ≤ n
-    go true b c inside fits h = absurd (true≢false h)
-    go false true c inside fits h = absurd (true≢false h)
-    go false false true inside fits h = absurd (true≢false h)
-    go false false false inside fits h =
-        let within : start < n = inside refl in
-        let room : len ≤ n - start = fits refl in
-        omega arith
-
--- ---- The window
-
--- with a context of c, the window holds the gap
-holds-gap : (n start len c : ℕ) → start + len ≤ n → start - (start - c) + len ≤ min n (start + len + c) - (start - c)
-holds-gap n start len c h = omega arith
-
-within-end : (n e : ℕ) → min n e ≤ n
-within-end n e = omega arith
-
-pub window-length : (samples : List ℕ) (start len : ℕ) → length (window samples start len) ≡ windowSize (length samples) start len
-unfolding window
-window-length samples start len =
-    let n = length samples in
-    let before : to n start len ≤ n = within-end n (start + len + context len) in
-    length-take (windowSize n start len) (drop (from start len) samples)
-    ∙ ap (min (windowSize n start len)) (length-drop (from start len) samples)
-    ∙ short (to n start len) n (from start len) before
-  where
-    short : (t n f : ℕ) → t ≤ n → min (t - f) (n - f) ≡ t - f
-    short t n f h = omega arith
-
-length-map : {A B : Type 0} (f : A → B) (l : List A) → length (map f l) ≡ length l
-length-map f [] = refl
-length-map f (x ∷ l) = ap suc (length-map f l)
-
-pub gap-in-window : (samples : List ℕ) (start len : ℕ) → start + len ≤ length samples
-    → start - from start len + len ≤ length (map float (window samples start len))
-gap-in-window samples start len h =
-    rw (length-map float (window samples start len), window-length samples start len) (holds-gap (length samples) start len (context len) h)
-
 -- ---- Every count gives the answer of one pass
-
-pub model-once : (passes : ℕ) (samples : List ℕ) (start len : ℕ) → start + len ≤ length samples
-    → model passes samples start len ≡ model 1 samples start len
-unfolding model
-model-once passes samples start len h =
-    let within = gap-in-window samples start len h in
-    let seg = map float (window samples start len) in
-    ap (map narrowWord) (one-pass passes seg (start - from start len) len within ∙ sym (one-pass 1 seg (start - from start len) len within))
 
 pub every-count : EveryCount
 unfolding gapPlan repaired
 every-count start len passes room samples =
     elim (truth (gapWrong (length samples) start len)) [
       | inl wrong ↦ rw wrong refl
-      | inr right ↦ rw (right, model-once passes samples start len (gap-inside (length samples) start len right)) refl
+      | inr right ↦ rw (right, ← model-passes samples start len (gap-right (length samples) start len right .inside) passes) refl
     ]
 
 -- ---- What stood in the gap has no say
@@ -152,7 +103,7 @@ module _ (start len : ℕ) (samples words : List ℕ) (count : length words ≡ 
   window-stores =
       rw (as-many, drop-stores samples words start (from start len) (lower (context len)))
       (take-stores (drop (from start len) samples) words (start - from start len) (windowSize (length samples) start len)
-      (rw count (holds-gap (length samples) start len (context len) inside)))
+      (rw count (numbers (length samples) start len (context len) inside .within)))
     where
       lower : (c : ℕ) → start - c ≤ start
       lower c = omega arith
@@ -164,9 +115,9 @@ module _ (start len : ℕ) (samples words : List ℕ) (count : length words ≡ 
       let seg = map float (window samples start len) in
       let stored : map float (window (sets samples start words) start len) ≡ sets seg g (map float words) =
       ap (map float) window-stores ∙ map-stores float (window samples start len) words g in
-      let many : length (map float words) ≡ len = length-map float words ∙ count in
+      let many : length (map float words) ≡ len = length-map words float ∙ count in
       let same = stored-same g len seg (map float words) many in
-      let within = gap-in-window samples start len inside in
+      let within = gap-within samples start len inside in
       rw stored
       (ap (map narrowWord)
       (one-pass passes (sets seg g (map float words)) g len (rw (same .count) within)
@@ -205,7 +156,7 @@ gap-has-no-say start len passes room samples words count =
     ∙ elim (truth (gapWrong n start len)) [
       | inl wrong ↦ turned-away start len room n _ _ _ _ wrong
       | inr right ↦
-          let inside = gap-inside n start len right in
+          let inside = gap-right n start len right .inside in
           ap (λ (r : Answer). planned start len room n r (repaired passes other start len)) (known-same start len samples words count inside)
           ∙ ap (planned start len room n (allReadable samples start len)) (repaired-same start len samples words count inside passes)
     ]

@@ -1,7 +1,7 @@
 -- The scan is a sequence of gap repairs, one for each run that qualified as the call began: a repair changes nothing
 -- behind its run, and there stands a sample that is no dropout. Assumes nothing.
 use mathlib.Core.Path.{_≡_, refl, sym, ap, _∙_}
-use mathlib.Core.Bool.{Bool, true, false, _||_, and-false, true≢false}
+use mathlib.Core.Bool.{Bool, true, false, and-false}
 use mathlib.Core.List.{List, [], _∷_}
 use mathlib.Core.Logic.{inl, inr}
 use Prim.Native.Nat.{ℕ, zero, suc, _+_, _-_, _≤_, _<_}
@@ -10,22 +10,21 @@ use native.Mathlib.Nat.{sub-zero, zero-add}
 use native.Mathlib.Omega.{arith}
 use lib.ListN.{length, getD, length-map, length-take, replicate}
 use lib.Seq.{length-sets}
-use lib.Dec.{leb, ltb, eqb}
+use lib.Dec.{ltb, eqb}
 use lib.Ieee.{Float}
-use borrow.Author.Tests.{ne-eqb, leb-false, ltb-false}
+use borrow.Author.Tests.{ne-eqb}
 use Rattle.leaves.specs.Arithmetic.{nought}
 use Rattle.recording.specs.Recording.{State, Ended, places, put, span, Plan, refuse, change, if_then_else_}
 use Rattle.recording.specs.Recording.{fitting, ranged, entered, committed, carried, performed, unlessRefused}
 use Rattle.recording.specs.Recording.{entrySize, clears, workAfter}
-use Rattle.recording.specs.History.{Ascending, Keeps, LawfulRepair, Lawful, run, did}
+use Rattle.recording.specs.History.{Lawful, run, did}
 use Rattle.recording.specs.declared.Reason.{Reason}
 use Rattle.recording.specs.declared.Answer.{Answer}
 use Rattle.recording.specs.declared.Answer.the-variants.{Done, Refused}
 use Rattle.recording.proofs.open.Laws.{EitherWay, truth}
-use Rattle.recording.proofs.Performing.{span-ascends}
 use Rattle.recording.proofs.Put.{Among, length-put, put-elsewhere}
 use Rattle.model.specs.Model.{filled}
-use Rattle.inpaint.specs.Gap.{gapWrong, byLine, needed, allReadable, unlessRead, leftOf, rightOf, line, lineFrom}
+use Rattle.inpaint.specs.Gap.{gapWrong, byLine, needed, allReadable, unlessRead, line}
 use Rattle.inpaint.specs.Gap.{model, repaired, gapPlan, gapRepair}
 use Rattle.inpaint.specs.Auto.{limit, dropout, begins, runLength, runAt, nextAmong, nextRun}
 use Rattle.inpaint.specs.Auto.{Scan, scan, repairAt, scanFrom, scannable, automatic}
@@ -34,6 +33,8 @@ use Rattle.inpaint.specs.declared.Run.{Run}
 use Rattle.inpaint.specs.declared.Run.the-variants.{At, Nowhere}
 use Rattle.inpaint.proofs.auto.Laws.{starts, Found, found-run, scan-stops, scan-takes}
 use Rattle.inpaint.proofs.auto.Laws.{automatic-refused, automatic-scanned}
+use Rattle.inpaint.proofs.line.Laws.{length-line}
+use Rattle.inpaint.proofs.Lawful.{gap-lawful}
 
 abbrev stretch : ℕ → ℕ → Stretch
 stretch start len = record { start = start; len = len }
@@ -41,15 +42,15 @@ stretch start len = record { start = start; len = len }
 -- ---- A repair changes nothing behind its gap
 
 -- t has as many elements as l, and from place `end` on the same ones
-record Behind (end : ℕ) (l t : List ℕ) : Type 0 where
-  count : length t ≡ length l
-  same : (j : ℕ) → end ≤ j → getD t j 0 ≡ getD l j 0
+pub record Behind (end : ℕ) (l t : List ℕ) : Type 0 where
+  pub count : length t ≡ length l
+  pub same : (j : ℕ) → end ≤ j → getD t j 0 ≡ getD l j 0
 
 unchanged : (end : ℕ) (l : List ℕ) → Behind end l l
 unchanged end l = record { count = refl; same = λ j h. refl }
 
 -- what holds of both holds of the one that a test picks
-picks : {A : Type 0} (P : A → Type 0) (b : Bool) (x y : A) → P x → P y → P (if b then x else y)
+pub picks : {A : Type 0} (P : A → Type 0) (b : Bool) (x y : A) → P x → P y → P (if b then x else y)
 picks P true x y p q = p
 picks P false x y p q = q
 
@@ -70,17 +71,7 @@ put-behind end start ws l h =
     }
 
 -- as many words as the gap has samples, or fewer
-line-count : (left right : Float) (len i n : ℕ) → length (lineFrom left right len i n) ≡ n
-unfolding lineFrom
-line-count left right len i zero = refl
-line-count left right len i (suc n) = ap suc (line-count left right len (i + 1) n)
-
-line-within : (samples : List ℕ) (start len : ℕ) → length (line samples start len) ≤ len
-unfolding line
-line-within samples start len =
-    omega (arith, line-count (leftOf samples start) (rightOf samples (start + len)) len 0 len)
-
-model-within : (passes : ℕ) (samples : List ℕ) (start len : ℕ) → length (model passes samples start len) ≤ len
+pub model-within : (passes : ℕ) (samples : List ℕ) (start len : ℕ) → length (model passes samples start len) ≤ len
 unfolding model filled
 model-within passes samples start len = simp (length-map, length-take) (omega arith)
 
@@ -102,7 +93,7 @@ plan-before start len passes room samples =
     words : P (repaired passes samples start len)
     words =
         picks P (byLine len) _ _
-        (put-behind (start + len) start (line samples start len) samples (omega (arith, line-within samples start len)))
+        (put-behind (start + len) start (line samples start len) samples (omega (arith, length-line samples start len)))
         (put-behind (start + len) start (model passes samples start len) samples
         (omega (arith, model-within passes samples start len)))
 
@@ -131,7 +122,7 @@ module _ (end : ℕ) (s : State) where
   unfolding performed
   performed-leaves p h = unless (fitting s) _ (carried-leaves p h)
 
-repair-leaves : (start len passes room : ℕ) (s : State)
+pub repair-leaves : (start len passes room : ℕ) (s : State)
     → Behind (start + len) (s .samples) (gapRepair start len passes room s .after .samples)
 unfolding gapRepair
 repair-leaves start len passes room s =
@@ -139,7 +130,7 @@ repair-leaves start len passes room s =
     performed-leaves (start + len) s p (plan-before start len passes room (s .samples))
 
 -- the workspace keeps its size
-work-count : (n : ℕ) (a : Answer) (w : List Float) → length (workAfter nought n a w) ≡ length w
+pub work-count : (n : ℕ) (a : Answer) (w : List Float) → length (workAfter nought n a w) ≡ length w
 work-count n a w =
     picks (λ (v : List Float). length v ≡ length w) (clears a) _ _ (length-sets w 0 (replicate n nought)) refl
 
@@ -187,7 +178,7 @@ begins-not-behind samples i h =
     let no : eqb (i + 1) 0 ≡ false = ne-eqb (i + 1) 0 (λ e. absurd (omega arith)) in
     rw (back, no, h, and-false) refl
 
-begins-not-there : (samples : List ℕ) (i : ℕ) → dropout (getD samples i 0) ≡ false → begins samples i ≡ false
+pub begins-not-there : (samples : List ℕ) (i : ℕ) → dropout (getD samples i 0) ≡ false → begins samples i ≡ false
 unfolding begins
 begins-not-there samples i h = rw h refl
 
@@ -282,7 +273,7 @@ runs-behind samples most i start len h =
         ∙ ap (λ (m : ℕ). runsAmong samples most m (n - (start + len))) there
 
 -- behind a run that is found stands a sample that is no dropout
-found-behind : (samples : List ℕ) (most i start len : ℕ) → nextRun samples most i ≡ At start len
+pub found-behind : (samples : List ℕ) (most i start len : ℕ) → nextRun samples most i ≡ At start len
     → dropout (getD samples (start + len) 0) ≡ false
 found-behind samples most i start len h =
     let f = found-run samples most i start len h in
@@ -434,7 +425,7 @@ ends most (suc k) i c h = go (nextRun (c .after .samples) most i) refl (ends mos
         (later (start + len) (repairAt c start len) (omega (arith, left .count, f .from, f .two)))
 
 -- the scan of a whole call
-whole : (rate : ℕ) (ms : Float) (work : List Float) (s : State) → scannable rate ms s ≡ Done 0
+pub whole : (rate : ℕ) (ms : Float) (work : List Float) (s : State) → scannable rate ms s ≡ Done 0
     → scanFrom (limit ms rate) 0 (length (s .samples)) (scan 0 0 0 s work) ≡ automatic rate ms work s
 whole rate ms work s h = automatic-scanned rate ms work s (Done 0) (sym h) 0 refl (limit ms rate) _ refl refl
 
@@ -463,51 +454,6 @@ refused-scan rate ms work s why h =
     sym (ap (λ (c : Scan). c .after) (automatic-refused rate ms work s (Refused why) (sym h) why _ refl refl))
 
 -- ---- The calls are lawful
-
--- what holds of either, as the test tells, holds of the one that it picks
-picks-by : {A : Type 0} (P : A → Type 0) (b : Bool) (x y : A) → (b ≡ true → P x) → (b ≡ false → P y)
-    → P (if b then x else y)
-picks-by P true x y p q = p refl
-picks-by P false x y p q = q refl
-
-neither : (a b c : Bool) → a || b || c ≡ false → (b ≡ false) × (c ≡ false)
-neither false false false h = (refl, refl)
-neither false false true h = absurd (true≢false h)
-neither false true c h = absurd (true≢false h)
-neither true b c h = absurd (true≢false h)
-
--- a gap that refusal 5 does not turn away lies within the recording
-gap-inside : (n start len : ℕ) → gapWrong n start len ≡ false → start + len ≤ n
-gap-inside n start len h =
-    let right = neither (eqb len 0) (leb n start) (ltb (n - start) len) h in
-    omega (arith, leb-false n start (right .0), ltb-false (n - start) len (right .1))
-
--- whatever the samples, a gap repair refuses, or sets mark 1 or 2 at ascending places of the recording
-pub gap-lawful : (start len passes room : ℕ) → LawfulRepair (gapPlan start len passes room)
-unfolding gapPlan repaired
-gap-lawful start len passes room samples =
-    picks-by P (gapWrong n start len) _ _ (λ h. tt)
-    (λ h. let inside = gap-inside n start len h in
-    picks P (ltb room (needed n start len)) _ _ tt (read inside (allReadable samples start len)))
-  where
-    n : ℕ
-    n = length samples
-
-    P : Plan → Type 0
-    P = Keeps n
-
-    spans : (ws : List ℕ) → start + length ws ≤ n → Ascending n 0 (span start ws)
-    spans ws h = span-ascends n 0 start ws (omega arith) h
-
-    words : start + len ≤ n → P (repaired passes samples start len)
-    words h =
-        picks P (byLine len) _ _
-        (refl, spans (line samples start len) (omega (arith, line-within samples start len)))
-        (refl, spans (model passes samples start len) (omega (arith, model-within passes samples start len)))
-
-    read : start + len ≤ n → (a : Answer) → P (unlessRead a (repaired passes samples start len))
-    read h (Done m) = words h
-    read h (Refused why) = tt
 
 -- so are all the calls of a scan
 pub scan-lawful : (room : ℕ) (rs : List Stretch) → Lawful (gapCalls room rs)

@@ -55,11 +55,11 @@ results-in xs start i h = rw (drop-of-length-le xs h) refl
 -- ---- The window's numbers
 
 -- whatever the context c: the gap is a part of its window, and the window of the samples
-record Numbers (n start len c : ℕ) : Type 0 where
-  within : start - (start - c) + len ≤ min n (start + len + c) - (start - c)
-  inside : start - c + (min n (start + len + c) - (start - c)) ≤ n
+pub record Numbers (n start len c : ℕ) : Type 0 where
+  pub within : start - (start - c) + len ≤ min n (start + len + c) - (start - c)
+  pub inside : start - c + (min n (start + len + c) - (start - c)) ≤ n
 
-numbers : (n start len c : ℕ) → start + len ≤ n → Numbers n start len c
+pub numbers : (n start len c : ℕ) → start + len ≤ n → Numbers n start len c
 numbers n start len c h = record { within = omega arith; inside = omega arith }
 
 -- a window of the model is small
@@ -73,7 +73,7 @@ module _ (samples : List ℕ) (start len : ℕ) (inside : start + len ≤ length
       part-length samples (from start len) (windowSize (length samples) start len)
       (numbers (length samples) start len (context len) inside .inside)
 
-  gap-within : start - from start len + len ≤ length (map float (window samples start len))
+  pub gap-within : start - from start len + len ≤ length (map float (window samples start len))
   gap-within =
       rw (length-map (window samples start len) float, length-window)
       (numbers (length samples) start len (context len) inside .within)
