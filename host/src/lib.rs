@@ -7,4 +7,5 @@ pub mod inpaint;
 pub mod lent;
 pub mod original;
 pub mod recording;
+pub mod shapes;
 pub mod tally;

@@ -9,7 +9,6 @@ mod inpaint {
     pub mod limits;
     pub mod room;
     pub mod scans;
-    pub mod shapes;
     pub mod short;
 }
 
@@ -18,12 +17,12 @@ use cathar_host::inpaint::{Gap, Scan, MOST_RATE};
 use cathar_host::lent::{Lent, LentWork};
 use cathar_host::original;
 use cathar_host::recording::{Answer, Recording};
+use cathar_host::shapes::Shape;
 use inpaint::count::Count;
 use inpaint::gaps::{self, repair, repair_with, Gaps};
 use inpaint::limits::{self, Faults, LOUD, LOUD_GAP};
 use inpaint::room::{self, Room};
 use inpaint::scans::{self, dropped, near, scan, scan_any, Scans, Settings};
-use inpaint::shapes::Shape;
 use inpaint::{lengths, short};
 
 /// How many gaps are tried: in random short recordings over the alphabet, in short ones of each shape, by
@@ -54,21 +53,41 @@ fn any_passes(draw: &mut Draw) -> u32 {
     }
 }
 
-fn repair_any(count: &mut Gaps, draw: &mut Draw, samples: &[u32], gap: Gap) -> Answer {
-    let passes = any_passes(draw);
+fn repair_any(count: &mut Gaps, draw: &mut Draw, samples: &[u32], gap: Gap, passes: u32) -> Answer {
     let room = [Room::any(draw), Room::any(draw)];
     repair_with(count, draw, samples, gap, passes, room)
 }
 
-/// All gaps of all recordings of up to five samples over the alphabet.
+/// All gaps of all recordings of up to five samples over the alphabet, most of them with one pass, since the
+/// original takes its time for each.
 fn repair_short(count: &mut Gaps, draw: &mut Draw) {
     short::each(&mut |samples| {
         for start in 0..samples.len() {
             for len in 1..=samples.len() - start {
-                repair_any(count, draw, samples, Gap { start, len });
+                let passes = if draw.below(8) == 0 { any_passes(draw) } else { 1 };
+                repair_any(count, draw, samples, Gap { start, len }, passes);
             }
         }
     });
+}
+
+/// Gaps of random recordings over the alphabet, and of each shape.
+fn repair_random(count: &mut Gaps, draw: &mut Draw) {
+    count.begin("random ones of 6 to 60 samples");
+    for _ in 0..RANDOM {
+        let samples = short::random(draw);
+        let (gap, passes) = (any_gap(draw, samples.len()), any_passes(draw));
+        repair_any(count, draw, &samples, gap, passes);
+    }
+    count.begin("each shape, 6 to 200 samples");
+    for shape in Shape::ALL {
+        for _ in 0..SHAPED {
+            let n = 6 + draw.below(195) as usize;
+            let samples = shape.samples(draw, n);
+            let (gap, passes) = (any_gap(draw, n), any_passes(draw));
+            repair_any(count, draw, &samples, gap, passes);
+        }
+    }
 }
 
 /// Gaps that are not within the recording, most of them, and calls to which several refusals apply.
@@ -125,21 +144,7 @@ fn repairs() {
     let mut count = Count::new("cathar_inpaint_gap against model and original", gaps::CLASSES);
     count.begin("all recordings of up to 5 samples");
     repair_short(&mut count, &mut draw);
-    count.begin("random ones of 6 to 60 samples");
-    for _ in 0..RANDOM {
-        let samples = short::random(&mut draw);
-        let gap = any_gap(&mut draw, samples.len());
-        repair_any(&mut count, &mut draw, &samples, gap);
-    }
-    count.begin("each shape, 6 to 200 samples");
-    for shape in Shape::ALL {
-        for _ in 0..SHAPED {
-            let n = 6 + draw.below(195) as usize;
-            let samples = shape.samples(&mut draw, n);
-            let gap = any_gap(&mut draw, n);
-            repair_any(&mut count, &mut draw, &samples, gap);
-        }
-    }
+    repair_random(&mut count, &mut draw);
     count.begin("every length from 1 to 200");
     lengths::every(&mut count, &mut draw);
     count.begin("longer than 500");

@@ -1,12 +1,12 @@
 //! One scan by both sides, and by the original where nothing is refused, and what is counted of it.
 use super::count::{Class, Count};
 use super::room::{self, Room};
-use super::shapes::{Shape, ALPHABET};
 use cathar_host::draw::Draw;
 use cathar_host::inpaint::{inpaint_auto, limit, Gap, Scan};
 use cathar_host::lent::{Lent, LentWork};
 use cathar_host::original::inpaint as original;
 use cathar_host::recording::{entry_words, Recording};
+use cathar_host::shapes::{Shape, ALPHABET};
 
 /// A rate and a longest gap in milliseconds.
 pub type Settings = (u32, f32);

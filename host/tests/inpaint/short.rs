@@ -1,6 +1,6 @@
 //! Short recordings over the alphabet: all of them up to five samples, and random ones of up to 60.
-use super::shapes::{words, ALPHABET, IN_RANGE};
 use cathar_host::draw::Draw;
+use cathar_host::shapes::{words, ALPHABET, IN_RANGE};
 
 /// The longest recordings of which all are tried.
 pub const LONGEST: u32 = 5;

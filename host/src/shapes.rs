@@ -1,6 +1,6 @@
 //! Samples of several kinds. Nothing but sums, products and quotients make them, so that they are the same on
 //! every machine.
-use cathar_host::draw::Draw;
+use crate::draw::Draw;
 
 /// Words on which something turns: zeros of both signs, 2^-30, -0.75, 65,536; and those that are not in
 /// range: the next one above it, infinity, a NaN.
@@ -18,7 +18,7 @@ pub enum Shape {
     Noise,
     /// Two tones, in steps of 1/8.
     Steps,
-    /// Any numbers from -2^-30 to 2^-30.
+    /// Two tones, made fainter by 2^-10 to 2^-30: the model's recursion stops early, or at once.
     Quiet,
     /// Zeros of both signs.
     Silence,
@@ -51,7 +51,7 @@ impl Shape {
             Shape::Tone => tones(draw, n).map(|x| (x as f32).to_bits()).collect(),
             Shape::Steps => tones(draw, n).map(|x| ((x * 8.0).round() as f32 / 8.0).to_bits()).collect(),
             Shape::Noise => noise(draw, n, 1.0),
-            Shape::Quiet => noise(draw, n, 1.0 / 1_073_741_824.0),
+            Shape::Quiet => quiet(draw, n),
             Shape::Loud => noise(draw, n, 65536.0),
             Shape::Growth => growth(draw, n),
             Shape::Silence => (0..n).map(|_| ALPHABET[draw.below(2) as usize]).collect(),
@@ -87,6 +87,11 @@ fn tone(draw: &mut Draw) -> impl FnMut() -> f64 {
 fn tones(draw: &mut Draw, n: usize) -> impl Iterator<Item = f64> {
     let (mut one, mut other) = (tone(draw), tone(draw));
     (0..n).map(move |_| one() + other())
+}
+
+fn quiet(draw: &mut Draw, n: usize) -> Vec<u32> {
+    let factor = (1u64 << (10 + draw.below(21))) as f64;
+    tones(draw, n).map(|x| ((x / factor) as f32).to_bits()).collect()
 }
 
 fn noise(draw: &mut Draw, n: usize, most: f32) -> Vec<u32> {
