@@ -12,8 +12,9 @@ const SAMPLES: usize = 48_000;
 const SCANNED: usize = 1_048_576;
 const DROPOUTS: usize = 500;
 
-/// Each is run so often, and the least time is taken.
+/// Each is run so often at least, and for so long, and the least time is taken.
 const RUNS: usize = 3;
+const AT_LEAST: Duration = Duration::from_millis(200);
 
 /// A number from -1 to 1.
 fn number(draw: &mut Draw) -> f64 {
@@ -34,18 +35,21 @@ fn samples(draw: &mut Draw, n: usize) -> Vec<f32> {
     found
 }
 
-/// The least time of a few runs, each on what `make` gives, and what the last run gives.
+/// The least time of several runs, each on what `make` gives, and what the last run gives.
 fn timed<I, O>(make: impl Fn() -> I, run: impl Fn(I) -> O) -> (Duration, O) {
+    let begun = Instant::now();
     let mut least = Duration::MAX;
-    let mut last = None;
-    for _ in 0..RUNS {
+    let mut runs = 0;
+    loop {
         let input = make();
         let start = Instant::now();
         let output = run(input);
         least = least.min(start.elapsed());
-        last = Some(output);
+        runs += 1;
+        if runs >= RUNS && begun.elapsed() >= AT_LEAST {
+            return (least, output);
+        }
     }
-    (least, last.expect("there is a run"))
 }
 
 /// What the library is lent: samples, marks, journal and workspace.
@@ -140,7 +144,7 @@ fn main() {
     let processor = env::var("CATHAR_PROCESSOR").unwrap_or_default();
     println!("processor: {}", if processor.is_empty() { "not known" } else { &processor });
     println!("emulated: {}", if env::var_os("CATHAR_EMULATED").is_some() { "yes, x86-64 on Arm" } else { "no" });
-    println!("the least of {RUNS} runs each; one gap in {SAMPLES} samples");
+    println!("the least time of {RUNS} runs or more each; one gap in {SAMPLES} samples");
     println!("{:<44}{:>15}{:>15}{:>9}", "", "original", "library", "ratio");
     let mut draw = Draw::new(SEED);
     for len in [32, 128, 512, 2048] {

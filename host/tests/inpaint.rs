@@ -109,7 +109,8 @@ fn repair_refused(count: &mut Gaps, draw: &mut Draw) {
     }
 }
 
-/// Repairs and undos of one recording, and at the end undos until there is nothing to take back.
+/// Repairs and undos of one recording, and at the end undos until there is nothing to take back. Once the two
+/// sides have gone apart, there is no more to compare.
 fn repair_and_undo(count: &mut Gaps, draw: &mut Draw) {
     let n = 6 + draw.below(150) as usize;
     let samples = Shape::ALL[draw.below(9) as usize].samples(draw, n);
@@ -118,6 +119,9 @@ fn repair_and_undo(count: &mut Gaps, draw: &mut Draw) {
     let opened = model.clone();
     let mut lent = Lent::new(&model);
     for _ in 0..2 + draw.below(8) {
+        if count.differs() {
+            return;
+        }
         if draw.below(4) == 0 {
             undo(&mut model, &mut lent);
         } else {
@@ -127,8 +131,8 @@ fn repair_and_undo(count: &mut Gaps, draw: &mut Draw) {
             repair(count, &mut model, &mut lent, gap, 1, work);
         }
     }
-    while undo(&mut model, &mut lent).number() == 0 {}
-    assert!(model == opened, "undone to the raw recording");
+    while !count.differs() && undo(&mut model, &mut lent).number() == 0 {}
+    assert!(count.differs() || model == opened, "undone to the raw recording");
 }
 
 fn undo(model: &mut Recording, lent: &mut Lent) -> Answer {
@@ -147,6 +151,8 @@ fn repairs() {
     repair_random(&mut count, &mut draw);
     count.begin("every length from 1 to 200");
     lengths::every(&mut count, &mut draw);
+    count.begin("a sample not in range beside the window");
+    lengths::windows(&mut count, &mut draw);
     count.begin("longer than 500");
     lengths::long(&mut count, &mut draw, LONG);
     count.begin("around 1024, 2048 and 4095");

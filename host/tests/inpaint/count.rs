@@ -48,6 +48,11 @@ impl<C: std::fmt::Debug> Count<C> {
         }
     }
 
+    /// Whether a call differed.
+    pub fn differs(&self) -> bool {
+        self.differences > 0
+    }
+
     /// Prints the whole count, and panics where there are too few calls of a class or a call differed.
     pub fn close(&self, seed: u64) {
         print!("{}", self.report(seed));

@@ -87,6 +87,11 @@ pub const CLASSES: &[Class<Call>] = &[
     Class { name: "answered 6", least: 100, holds: |c| c.answer.number() == 6 },
     Class { name: "workspace one short", least: 100, holds: Call::is_one_double_short },
     Class { name: "answered 7", least: 100, holds: |c| c.answer.number() == 7 },
+    Class {
+        name: "answered 7 past the first 1,000",
+        least: 10,
+        holds: |c| c.answer.number() == 7 && c.answer.value() > 999,
+    },
     Class { name: "answered 7 for a line", least: 10, holds: |c| c.answer.number() == 7 && c.gap.is_line() },
     Class { name: "answered 8", least: 10, holds: |c| c.answer.number() == 8 },
     Class { name: "answered 9", least: 100, holds: |c| c.answer.number() == 9 },

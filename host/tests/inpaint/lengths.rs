@@ -116,3 +116,21 @@ pub fn lines(count: &mut Gaps, draw: &mut Draw, calls: usize) {
         repair_with(count, draw, &samples, gap, passes, room);
     }
 }
+
+/// Gaps whose window ends before the recording does, on both sides, with one sample that is not in range: the
+/// last before the window, its first, those beside the gap, one in the gap, the window's last, and the next
+/// after it. Refusal 7 tells its place where it is read.
+pub fn windows(count: &mut Gaps, draw: &mut Draw) {
+    for len in [1, 2, 32, 33, 128, 129, 255, 256, 257, 300] {
+        let context = (4 * len).max(1024);
+        let gap = Gap { start: context + 7, len };
+        let end = gap.start + len;
+        let samples = Shape::Noise.samples(draw, end + context + 9);
+        for place in [6, 7, 8, gap.start - 1, gap.start, end - 1, end, end + context - 1, end + context] {
+            let mut samples = samples.clone();
+            samples[place] = [0x4780_0001, 0xff80_0000, 0x7fc0_0000][draw.below(3) as usize];
+            let room = [Room::enough(draw), Room::enough(draw)];
+            repair_with(count, draw, &samples, gap, 1, room);
+        }
+    }
+}
