@@ -115,15 +115,22 @@ impl Lent {
         }
     }
 
+    /// Before each call, so that one that does not write its numbers is found out.
+    fn forget_numbers(&mut self) {
+        for number in &mut self.numbers {
+            number.lend()[0] = VALUE_BEFORE;
+        }
+    }
+
     /// The library opens it.
     pub fn open(&mut self) -> u32 {
-        self.numbers = [number(), number()];
+        self.forget_numbers();
         cathar::open(self.samples.lend(), self.marks.lend(), self.journal.lend(), &mut self.used.lend()[0])
     }
 
     /// The library takes back its last entry.
     pub fn undo(&mut self) -> u32 {
-        self.numbers = [number(), number()];
+        self.forget_numbers();
         let value = &mut self.numbers[0].lend()[0];
         let used = &mut self.used.lend()[0];
         cathar::undo(self.samples.lend(), self.marks.lend(), self.journal.lend(), used, value)
@@ -131,7 +138,7 @@ impl Lent {
 
     /// The library repairs a gap.
     pub fn inpaint_gap(&mut self, gap: Gap, passes: u32, work: &mut LentWork) -> u32 {
-        self.numbers = [number(), number()];
+        self.forget_numbers();
         cathar::inpaint_gap(
             self.samples.lend(),
             self.marks.lend(),
@@ -147,7 +154,7 @@ impl Lent {
 
     /// The library finds the dropouts and repairs each.
     pub fn inpaint_auto(&mut self, rate: u32, max_gap_ms: f32, work: &mut LentWork) -> u32 {
-        self.numbers = [number(), number()];
+        self.forget_numbers();
         let [qualified, repaired] = &mut self.numbers;
         cathar::inpaint_auto(
             self.samples.lend(),

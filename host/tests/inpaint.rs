@@ -29,7 +29,7 @@ use inpaint::{lengths, short};
 /// model and longer than 500, and by line; and how many sequences of repairs and undos.
 const RANDOM: u64 = 12_000;
 const SHAPED: u64 = 600;
-const LONG: usize = 540;
+const LONG: usize = 510;
 const LINES: usize = 400;
 const SEQUENCES: u64 = 600;
 

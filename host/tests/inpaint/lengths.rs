@@ -9,7 +9,8 @@ use cathar_host::shapes::Shape;
 /// Every length up to this is tried.
 const EVERY: usize = 200;
 
-/// Up to this length, every gap is tried with each pass count.
+/// Up to this length, every gap is tried in each of the usual shapes, and up to this with each pass count.
+const EVERY_SHAPE: usize = 64;
 const EVERY_PASSES: usize = 20;
 
 /// The shapes whose gaps are all accepted.
@@ -28,18 +29,16 @@ fn more(draw: &mut Draw, len: usize) -> usize {
     }
 }
 
-/// Every length from 1 to 200, in each of the usual shapes, with enough room: all are accepted. And once each
-/// with the workspace one short, and with the journal.
+/// Every length from 1 to 200 at each place, with enough room: all are accepted. Up to 64 each of the usual
+/// shapes is tried there, and above it one. And once each with the workspace one short, and with the journal.
 pub fn every(count: &mut Gaps, draw: &mut Draw) {
     for len in 1..=EVERY {
-        for shape in USUAL {
+        for (turn, shape) in USUAL.into_iter().enumerate() {
             let more = more(draw, len);
             let samples = shape.samples(draw, len + more);
-            for gap in three(len, more) {
-                for passes in passes(draw, len) {
-                    let room = [Room::enough(draw), Room::enough(draw)];
-                    let answer = repair_with(count, draw, &samples, gap, passes, room);
-                    assert_eq!(answer, Answer::Accepted(len), "{shape:?}, {gap:?} of {}", samples.len());
+            for (at, gap) in three(len, more).into_iter().enumerate() {
+                if len <= EVERY_SHAPE || (len + at) % USUAL.len() == turn {
+                    accepted(count, draw, &samples, gap);
                 }
             }
         }
@@ -47,6 +46,15 @@ pub fn every(count: &mut Gaps, draw: &mut Draw) {
         for short in [[Room::OneShort, Room::Exact], [Room::Exact, Room::OneShort]] {
             repair_with(count, draw, &samples, Gap { start: 10, len }, 1, short);
         }
+    }
+}
+
+/// A gap that is accepted, with one pass count or several.
+fn accepted(count: &mut Gaps, draw: &mut Draw, samples: &[u32], gap: Gap) {
+    for passes in passes(draw, gap.len) {
+        let room = [Room::enough(draw), Room::enough(draw)];
+        let answer = repair_with(count, draw, samples, gap, passes, room);
+        assert_eq!(answer, Answer::Accepted(gap.len), "{gap:?} of {} samples", samples.len());
     }
 }
 

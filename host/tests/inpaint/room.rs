@@ -43,8 +43,17 @@ pub fn recording(draw: &mut Draw, samples: Vec<u32>, free: usize) -> Recording {
     Recording { samples, marks, journal, used }
 }
 
-/// The patterns of a workspace of so many doubles: any, and one in four a NaN.
+/// The patterns of a workspace of so many doubles: any, and one in four a NaN. Each is made from the one before
+/// by a product and a sum, since there are many.
 pub fn work(draw: &mut Draw, length: usize) -> Vec<u64> {
-    let nan = |word: u64| if word % 4 == 0 { word | 0x7ff0_0000_0000_0001 } else { word };
-    (0..length).map(|_| nan(draw.word())).collect()
+    let mut word = draw.word();
+    let mut next = || {
+        word = word.wrapping_mul(0x5851_f42d_4c95_7f2d).wrapping_add(0x1405_7b7e_f767_814f);
+        if word >> 62 == 0 {
+            word | 0x7ff0_0000_0000_0001
+        } else {
+            word
+        }
+    };
+    (0..length).map(|_| next()).collect()
 }
