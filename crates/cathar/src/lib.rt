@@ -2,9 +2,13 @@
 // of a crate below. None asks anything of its argument. Names begin with the crate's, since a name
 // is the whole program's, as in C.
 ghost use mathlib.Core.Path.{_≡_};
+ghost use lib.ListN.{length};
+ghost use Rattle.leaves.specs.Arithmetic.{nought};
 ghost use Rattle.leaves.specs.Floats.{narrowed, rounded};
 ghost use Rattle.leaves.specs.Root.{Rooted};
-ghost use Rattle.recording.specs.Recording.{state, opened, undone};
+ghost use Rattle.recording.specs.Recording.{state, opened, undone, workAfter};
+ghost use Rattle.inpaint.specs.Gap.{needed, gapRepair};
+ghost use Rattle.inpaint.specs.Auto.{scan, automatic};
 ghost use Rattle.cathar.specs.Exports.{Tells, Gives};
 use recording::numbers::number_of;
 use recording::numbers::value_of;
@@ -23,6 +27,59 @@ pub extern "C" fn cathar_open(
 {
     let answer = recording::open::open(samples, marks, journal, used);
     number_of(answer)
+}
+
+// Repairs the gap of `len` samples from `start` on, by the model or, where it is longer than 2048, by
+// straight line. The number of the refusal, 1 to 3 or 5 to 9, or 0; value becomes len, the place for 7
+// and 8, and 0 for the other refusals. Every number of passes gives the same.
+#[no_mangle]
+pub extern "C" fn cathar_inpaint_gap(
+    samples: &mut [u32],
+    marks: &mut [u8],
+    journal: &mut [u32],
+    used: &mut usize,
+    start: usize,
+    len: usize,
+    passes: u32,
+    work: &mut [f64],
+    value: &mut usize,
+) -> u32
+    ensures { λ r. ⌜ Gives (gapRepair start len passes (length (now (work .entry)))
+        (state (now (samples .entry)) (now (marks .entry)) (now (journal .entry)) (now (used .entry)))) r (now (value .exit))
+        (state (now (samples .exit)) (now (marks .exit)) (now (journal .exit)) (now (used .exit))) ⌝ }
+    ensures { λ r. ⌜ now (work .exit) ≡ workAfter nought (needed (length (now (samples .entry))) start len)
+        (gapRepair start len passes (length (now (work .entry)))
+        (state (now (samples .entry)) (now (marks .entry)) (now (journal .entry)) (now (used .entry))) .answer) (now (work .entry)) ⌝ }
+{
+    let answer = inpaint::gap::inpaint_gap(samples, marks, journal, used, start, len, passes, work);
+    *value = value_of(answer);
+    number_of(answer)
+}
+
+// Finds the dropout runs of at most `millis` milliseconds and repairs each as one gap. The number of the
+// first refusal, or 0; qualified and repaired become the numbers of such runs, and 0 where the scan
+// itself is refused, with 1 to 4.
+#[no_mangle]
+pub extern "C" fn cathar_inpaint_auto(
+    samples: &mut [u32],
+    marks: &mut [u8],
+    journal: &mut [u32],
+    used: &mut usize,
+    rate: u32,
+    millis: f32,
+    work: &mut [f64],
+    qualified: &mut usize,
+    repaired: &mut usize,
+) -> u32
+    ensures { λ r. ⌜ scan (now (qualified .exit)) (now (repaired .exit)) r
+        (state (now (samples .exit)) (now (marks .exit)) (now (journal .exit)) (now (used .exit))) (now (work .exit))
+        ≡ automatic rate millis (now (work .entry))
+        (state (now (samples .entry)) (now (marks .entry)) (now (journal .entry)) (now (used .entry))) ⌝ }
+{
+    let scanned = inpaint::auto::inpaint_auto(samples, marks, journal, used, rate, millis, work);
+    *qualified = scanned.qualified;
+    *repaired = scanned.repaired;
+    scanned.refused
 }
 
 // Takes back the last entry of the journal. The number of the refusal, 1, 2, 3, 10 or 11, or 0; value

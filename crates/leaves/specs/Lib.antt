@@ -1,3 +1,4 @@
+pub mod Arithmetic
 pub mod Floats
 pub mod Root
 pub mod Steps

@@ -1,0 +1,217 @@
+// Runs rows of document 01's "Sums done by hand" on the compiled code and writes what each leaves: the
+// number and the value of the answer and used, then samples and journal in hexadecimal digits and the
+// marks in decimal ones.
+ghost use Prim.Native.Nat.{_≤_};
+ghost use lib.ListN.{length};
+use inpaint::gap::inpaint_gap;
+use leaves::words::word_of_f32;
+use recording::Answer;
+use recording::numbers::number_of;
+use recording::numbers::value_of;
+use recording::open::open;
+use recording::undo::undo;
+
+// 2^-30, which stands around the gap of *quiet*, and the plain numbers 1 and 4096.
+const SOFT: u32 = 0x3080_0000;
+
+const ONE: u32 = 0x3f80_0000;
+
+const LAST: u32 = 0x4580_0000;
+
+// What stands in lent memory that nobody has written yet.
+const LEFT: u32 = 0xdead_beef;
+
+// Doubles of workspace: enough for a gap of 2048 samples, whatever its window.
+const WORKSPACE: usize = 289_284;
+
+// Writes a name and a number.
+fn print_number(name: &[u8], n: u64) {
+    io::write_all(1, name);
+    io::print_decimal(1, n);
+}
+
+// Writes a name and words in hexadecimal digits, each with zeros in front up to `width`, as a line.
+fn print_words(name: &[u8], words: &[u32], width: usize) {
+    io::write_all(1, name);
+    let mut i: usize = 0;
+    while i < words.len() {
+        io::write_all(1, b" ");
+        io::print_hex(1, words[i] as u64, width);
+        i += 1;
+    }
+    io::write_all(1, b"\n");
+}
+
+// Writes the marks as a line.
+fn print_marks(marks: &[u8]) {
+    io::write_all(1, b"  marks");
+    let mut i: usize = 0;
+    while i < marks.len() {
+        print_number(b" ", marks[i] as u64);
+        i += 1;
+    }
+    io::write_all(1, b"\n");
+}
+
+// Writes how a call ended.
+fn print_answer(title: &[u8], answer: Answer, used: usize) {
+    io::write_all(1, title);
+    print_number(b": answer ", number_of(answer) as u64);
+    print_number(b", value ", value_of(answer) as u64);
+    print_number(b", used ", used as u64);
+    io::write_all(1, b"\n");
+}
+
+// Writes how a call ended, and the recording after it.
+fn show(title: &[u8], answer: Answer, samples: &[u32], marks: &[u8], journal: &[u32], used: usize) {
+    print_answer(title, answer, used);
+    print_words(b"  samples", samples, 8);
+    print_marks(marks);
+    print_words(b"  journal", journal, 1);
+}
+
+// Repairs a gap at 2 by 3 passes and shows the recording.
+fn gap_at_2(
+    title: &[u8],
+    samples: &mut [u32],
+    marks: &mut [u8],
+    journal: &mut [u32],
+    used: &mut usize,
+    len: usize,
+) {
+    let mut work = [1.5f64; 300];
+    let answer = inpaint_gap(samples, marks, journal, used, 2, len, 3, &mut work);
+    show(title, answer, samples, marks, journal, *used);
+}
+
+// Takes the last entry back and shows the recording.
+fn take_back(samples: &mut [u32], marks: &mut [u8], journal: &mut [u32], used: &mut usize) {
+    let answer = undo(samples, marks, journal, used);
+    show(b"undo", answer, samples, marks, journal, *used);
+}
+
+// *Quiet*, opened over what was left in the lent memory, repaired and taken back twice.
+fn quiet(journal: &mut [u32]) {
+    let mut samples = [SOFT, SOFT, 0, 0, SOFT, SOFT];
+    let mut marks = [7u8; 6];
+    let mut used: usize = 99;
+    let opened = open(&samples, &mut marks, journal, &mut used);
+    show(b"open", opened, &samples, &marks, journal, used);
+    gap_at_2(
+        b"gap of length 0",
+        &mut samples,
+        &mut marks,
+        journal,
+        &mut used,
+        0,
+    );
+    gap_at_2(
+        b"gap of length 2",
+        &mut samples,
+        &mut marks,
+        journal,
+        &mut used,
+        2,
+    );
+    take_back(&mut samples, &mut marks, journal, &mut used);
+    take_back(&mut samples, &mut marks, journal, &mut used);
+}
+
+// How many samples are the number of their place.
+fn own_numbers(samples: &[u32]) -> usize
+    requires { ⌜ length (now samples) ≤ 4097 ⌝ }
+{
+    let mut count: usize = 0;
+    let mut i: usize = 0;
+    while i < samples.len() {
+        let place = i;
+        i += 1;
+        if samples[place] == word_of_f32(std::num::nearest_u32_to_f32(place as u32)) {
+            count += 1;
+        }
+    }
+    count
+}
+
+// How many samples have this mark.
+fn marked(marks: &[u8], mark: u8) -> usize {
+    let mut count: usize = 0;
+    let mut i: usize = 0;
+    while i < marks.len() {
+        let place = i;
+        i += 1;
+        if marks[place] == mark {
+            count += 1;
+        }
+    }
+    count
+}
+
+// 4097 samples whose ends are 0 and 4096, with a gap between them.
+fn line(journal: &mut [u32], work: &mut [f64]) {
+    let mut samples = [ONE; 4097];
+    let mut marks = [0u8; 4097];
+    let mut used: usize = 0;
+    samples[0] = 0;
+    samples[4096] = LAST;
+    open(&samples, &mut marks, journal, &mut used);
+    let answer = inpaint_gap(
+        &mut samples,
+        &mut marks,
+        journal,
+        &mut used,
+        1,
+        4095,
+        3,
+        work,
+    );
+    print_answer(b"gap at 1 of 4095", answer, used);
+    print_number(
+        b"  samples that are their place: ",
+        own_numbers(&samples) as u64,
+    );
+    print_number(b"\n  samples marked 2: ", marked(&marks, 2) as u64);
+    io::write_all(1, b"\n");
+}
+
+// A gap of `len` samples among ones: by which way it was filled.
+fn boundary(title: &[u8], journal: &mut [u32], work: &mut [f64], len: usize) {
+    let mut samples = [ONE; 2052];
+    let mut marks = [0u8; 2052];
+    let mut used: usize = 0;
+    open(&samples, &mut marks, journal, &mut used);
+    let answer = inpaint_gap(
+        &mut samples,
+        &mut marks,
+        journal,
+        &mut used,
+        1,
+        len,
+        1,
+        work,
+    );
+    print_answer(title, answer, used);
+    print_number(b"  samples marked 1: ", marked(&marks, 1) as u64);
+    print_number(b"\n  samples marked 2: ", marked(&marks, 2) as u64);
+    io::write_all(1, b"\n");
+}
+
+// The long gaps, in a journal and a workspace that suffice for each.
+fn long_gaps() {
+    let mut journal = [LEFT; 12_287];
+    let mut work = [1.5f64; WORKSPACE];
+    line(&mut journal, &mut work);
+    boundary(b"gap at 1 of 2048", &mut journal, &mut work, 2048);
+    boundary(b"gap at 1 of 2049", &mut journal, &mut work, 2049);
+}
+
+fn main() {
+    let mut eight = [LEFT; 8];
+    let mut seven = [LEFT; 7];
+    io::write_all(1, b"Quiet, with a journal of 8 words\n");
+    quiet(&mut eight);
+    io::write_all(1, b"Quiet, with a journal of 7 words\n");
+    quiet(&mut seven);
+    io::write_all(1, b"Long gaps\n");
+    long_gaps();
+}

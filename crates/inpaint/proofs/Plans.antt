@@ -1,0 +1,212 @@
+-- What the plan of a gap does not depend on: the number of passes, and what stood in the gap. Assumes nothing.
+use mathlib.Core.Path.{_≡_, refl, sym, ap, _∙_}
+use mathlib.Core.Bool.{Bool, true, false, true≢false, _||_}
+use mathlib.Core.Logic.{inl, inr}
+use mathlib.Core.List.{List, [], _∷_, map}
+use Prim.Native.Nat.{ℕ, zero, suc, _+_, _-_, _≤_, _<_, min}
+use native.Mathlib.Omega.{arith}
+use lib.ListN.{length, take, drop, set, getD, length-take, length-drop}
+use lib.Seq.{sets, length-sets, drop-set-add, take-set-lt}
+use lib.Dec.{leb, ltb, eqb}
+use lib.Ieee.{Float}
+use borrow.Author.Tests.{leb-false, ltb-false, eqb-false, le-leb}
+use Rattle.leaves.proofs.Lists.{read-before, read-after}
+use Rattle.recording.proofs.open.Laws.{truth}
+use Rattle.model.specs.Model.{orderFor, filled}
+use Rattle.model.proofs.Parts.{part-before-sets, part-behind-sets}
+use Rattle.model.proofs.Passes.{Same, stored-same, solved-same, one-pass}
+use Rattle.inpaint.specs.Gap.{gapWrong, byLine, context, from, to, windowSize, window, float, narrowWord, needed}
+use Rattle.recording.specs.Recording.{Plan, refuse, if_then_else_}
+use Rattle.recording.specs.declared.Reason.the-variants.{Gap, Workspace}
+use Rattle.recording.specs.declared.Answer.{Answer}
+use Rattle.inpaint.specs.Gap.{unlessRead, knownBefore, knownBehind, readable, allReadable, leftOf, rightOf, line, model, repaired, gapPlan}
+use Rattle.inpaint.specs.Consequences.{EveryCount, GapHasNoSay}
+
+-- a gap that refusal 5 does not turn away lies within the recording
+pub gap-inside : (n start len : ℕ) → gapWrong n start len ≡ false → start + len ≤ n
+gap-inside n start len h = go (eqb len 0) (leb n start) (ltb (n - start) len) (leb-false n start) (ltb-false (n - start) len) h
+  where
+    go : (a b c : Bool) → (b ≡ false → start < n) → (c ≡ false → len ≤ n - start) → a || b || c ≡ false → start + len ≤ n
+    go true b c inside fits h = absurd (true≢false h)
+    go false true c inside fits h = absurd (true≢false h)
+    go false false true inside fits h = absurd (true≢false h)
+    go false false false inside fits h =
+        let within : start < n = inside refl in
+        let room : len ≤ n - start = fits refl in
+        omega arith
+
+-- ---- The window
+
+-- with a context of c, the window holds the gap
+holds-gap : (n start len c : ℕ) → start + len ≤ n → start - (start - c) + len ≤ min n (start + len + c) - (start - c)
+holds-gap n start len c h = omega arith
+
+within-end : (n e : ℕ) → min n e ≤ n
+within-end n e = omega arith
+
+pub window-length : (samples : List ℕ) (start len : ℕ) → length (window samples start len) ≡ windowSize (length samples) start len
+unfolding window
+window-length samples start len =
+    let n = length samples in
+    let before : to n start len ≤ n = within-end n (start + len + context len) in
+    length-take (windowSize n start len) (drop (from start len) samples)
+    ∙ ap (min (windowSize n start len)) (length-drop (from start len) samples)
+    ∙ short (to n start len) n (from start len) before
+  where
+    short : (t n f : ℕ) → t ≤ n → min (t - f) (n - f) ≡ t - f
+    short t n f h = omega arith
+
+length-map : {A B : Type 0} (f : A → B) (l : List A) → length (map f l) ≡ length l
+length-map f [] = refl
+length-map f (x ∷ l) = ap suc (length-map f l)
+
+pub gap-in-window : (samples : List ℕ) (start len : ℕ) → start + len ≤ length samples
+    → start - from start len + len ≤ length (map float (window samples start len))
+gap-in-window samples start len h =
+    rw (length-map float (window samples start len), window-length samples start len) (holds-gap (length samples) start len (context len) h)
+
+-- ---- Every count gives the answer of one pass
+
+pub model-once : (passes : ℕ) (samples : List ℕ) (start len : ℕ) → start + len ≤ length samples
+    → model passes samples start len ≡ model 1 samples start len
+unfolding model
+model-once passes samples start len h =
+    let within = gap-in-window samples start len h in
+    let seg = map float (window samples start len) in
+    ap (map narrowWord) (one-pass passes seg (start - from start len) len within ∙ sym (one-pass 1 seg (start - from start len) len within))
+
+pub every-count : EveryCount
+unfolding gapPlan repaired
+every-count start len passes room samples =
+    elim (truth (gapWrong (length samples) start len)) [
+      | inl wrong ↦ rw wrong refl
+      | inr right ↦ rw (right, model-once passes samples start len (gap-inside (length samples) start len right)) refl
+    ]
+
+-- ---- What stood in the gap has no say
+
+drop-stores : {A : Type 0} (s ws : List A) (start f : ℕ) → f ≤ start → drop f (sets s start ws) ≡ sets (drop f s) (start - f) ws
+drop-stores s [] start f h = refl
+drop-stores {A = A} s (w ∷ ws) start f h =
+    let there : f + (start - f) ≡ start = omega arith in
+    let next : suc start - f ≡ suc (start - f) = omega arith in
+    drop-stores (set s start w) ws (suc start) f (omega arith)
+    ∙ rw next (ap (λ (l : List A). sets l (suc (start - f)) ws) (sym (ap (λ (k : ℕ). drop f (set s k w)) there) ∙ drop-set-add f s (start - f) w))
+
+take-stores : {A : Type 0} (l ws : List A) (g k : ℕ) → g + length ws ≤ k → take k (sets l g ws) ≡ sets (take k l) g ws
+take-stores l [] g k h = refl
+take-stores {A = A} l (w ∷ ws) g k h =
+    take-stores (set l g w) ws (suc g) k (omega arith) ∙ ap (λ (m : List A). sets m (suc g) ws) (take-set-lt k l g w (omega arith))
+
+map-set : {A B : Type 0} (f : A → B) (l : List A) (i : ℕ) (x : A) → map f (set l i x) ≡ set (map f l) i (f x)
+map-set f [] zero x = refl
+map-set f [] (suc i) x = refl
+map-set f (y ∷ l) zero x = refl
+map-set {B = B} f (y ∷ l) (suc i) x = ap (λ (m : List B). f y ∷ m) (map-set f l i x)
+
+map-stores : {A B : Type 0} (f : A → B) (l ws : List A) (g : ℕ) → map f (sets l g ws) ≡ sets (map f l) g (map f ws)
+map-stores f l [] g = refl
+map-stores {B = B} f l (w ∷ ws) g = map-stores f (set l g w) ws (suc g) ∙ ap (λ (m : List B). sets m (suc g) (map f ws)) (map-set f l g w)
+
+module _ (start len : ℕ) (samples words : List ℕ) (count : length words ≡ len) (inside : start + len ≤ length samples) where
+  as-many : length (sets samples start words) ≡ length samples
+  as-many = length-sets samples start words
+
+  known-same : allReadable (sets samples start words) start len ≡ allReadable samples start len
+  unfolding allReadable knownBefore knownBehind
+  known-same =
+      rw (
+        as-many,
+        part-before-sets samples words start (from start len) (start - from start len) (before (context len)),
+        part-behind-sets samples words start (start + len) (to (length samples) start len - (start + len)) behind,
+      ) refl
+    where
+      before : (c : ℕ) → start - c + (start - (start - c)) ≤ start
+      before c = omega arith
+
+      behind : start + length words ≤ start + len
+      behind = omega (arith, count)
+
+  left-same : leftOf (sets samples start words) start ≡ leftOf samples start
+  unfolding leftOf
+  left-same =
+      elim (truth (eqb start 0)) [
+        | inl first ↦ rw first refl
+        | inr later ↦ rw (later, read-before samples words start (start - 1) 0 (one-before (eqb-false start 0 later))) refl
+      ]
+    where
+      one-before : (start ≡ 0 → ⊥) → start - 1 < start
+      one-before h = omega (arith, h)
+
+  right-same : rightOf (sets samples start words) (start + len) ≡ rightOf samples (start + len)
+  unfolding rightOf
+  right-same = rw (as-many, read-after samples words start (start + len) 0 (omega (arith, count))) refl
+
+  line-same : line (sets samples start words) start len ≡ line samples start len
+  unfolding line
+  line-same = rw (left-same, right-same) refl
+
+  -- the window has the other words at the gap's place in it
+  window-stores : window (sets samples start words) start len ≡ sets (window samples start len) (start - from start len) words
+  unfolding window
+  window-stores =
+      rw (as-many, drop-stores samples words start (from start len) (lower (context len)))
+      (take-stores (drop (from start len) samples) words (start - from start len) (windowSize (length samples) start len)
+      (rw count (holds-gap (length samples) start len (context len) inside)))
+    where
+      lower : (c : ℕ) → start - c ≤ start
+      lower c = omega arith
+
+  model-same : (passes : ℕ) → model passes (sets samples start words) start len ≡ model passes samples start len
+  unfolding model
+  model-same passes =
+      let g = start - from start len in
+      let seg = map float (window samples start len) in
+      let stored : map float (window (sets samples start words) start len) ≡ sets seg g (map float words) =
+      ap (map float) window-stores ∙ map-stores float (window samples start len) words g in
+      let many : length (map float words) ≡ len = length-map float words ∙ count in
+      let same = stored-same g len seg (map float words) many in
+      let within = gap-in-window samples start len inside in
+      rw stored
+      (ap (map narrowWord)
+      (one-pass passes (sets seg g (map float words)) g len (rw (same .count) within)
+      ∙ solved-same g len seg (sets seg g (map float words)) same (orderFor len)
+      ∙ sym (one-pass passes seg g len within)))
+
+  repaired-same : (passes : ℕ) → repaired passes (sets samples start words) start len ≡ repaired passes samples start len
+  unfolding repaired
+  repaired-same passes = rw (line-same, model-same passes) refl
+
+-- the plan, from the number of samples, what is read and what is repaired
+planned : ℕ → ℕ → ℕ → ℕ → Answer → Plan → Plan
+planned start len room n read made =
+    if gapWrong n start len then refuse Gap else
+    if ltb room (needed n start len) then refuse Workspace else
+    unlessRead read made
+
+as-planned : (start len passes room : ℕ) (samples : List ℕ)
+    → gapPlan start len passes room samples
+    ≡ planned start len room (length samples) (allReadable samples start len) (repaired passes samples start len)
+unfolding gapPlan planned
+as-planned start len passes room samples = refl
+
+-- where the gap is turned away, nothing else matters
+turned-away : (start len room n : ℕ) (read read' : Answer) (made made' : Plan) → gapWrong n start len ≡ true
+    → planned start len room n read made ≡ planned start len room n read' made'
+unfolding planned
+turned-away start len room n read read' made made' wrong = rw wrong refl
+
+pub gap-has-no-say : GapHasNoSay
+gap-has-no-say start len passes room samples words count =
+    let n = length samples in
+    let other = sets samples start words in
+    as-planned start len passes room other
+    ∙ ap (λ (k : ℕ). planned start len room k (allReadable other start len) (repaired passes other start len)) (length-sets samples start words)
+    ∙ elim (truth (gapWrong n start len)) [
+      | inl wrong ↦ turned-away start len room n _ _ _ _ wrong
+      | inr right ↦
+          let inside = gap-inside n start len right in
+          ap (λ (r : Answer). planned start len room n r (repaired passes other start len)) (known-same start len samples words count inside)
+          ∙ ap (planned start len room n (allReadable samples start len)) (repaired-same start len samples words count inside passes)
+    ]
+    ∙ sym (as-planned start len passes room samples)

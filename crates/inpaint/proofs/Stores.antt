@@ -1,0 +1,28 @@
+-- Runs of stores: one that covers a whole list, and a loop that stores the image of what stands in another list.
+-- Assumes nothing.
+use mathlib.Core.Path.{_≡_, refl, sym, ap, _∙_}
+use mathlib.Core.List.{List, map, append-nil}
+use Prim.Native.Nat.{ℕ, suc, _+_, _≤_, _<_}
+use native.Mathlib.Omega.{arith}
+use native.Mathlib.Nat.{zero-add}
+use lib.ListN.{length, set, getD, drop, drop-of-length-le}
+use lib.Seq.{sets, sets-eq, drop-cons, drop-length}
+
+-- as many values as the list has, stored from its first place on
+pub stored-over : {A : Type 0} (l vs : List A) → length vs ≡ length l → sets l 0 vs ≡ vs
+stored-over l vs count = sets-eq vs l 0 (omega arith) ∙ rw (count, zero-add, drop-length l, append-nil vs) refl
+
+-- one turn of a loop that stores the image of what stands in vs
+pub image-more : {A B : Type 0} (f : A → B) (l whole : List B) (vs : List A) (a next i : ℕ) (d : A) (v : B)
+    → i < length vs → next ≡ a + 1 → v ≡ f (getD vs i d)
+    → sets l a (map f (drop i vs)) ≡ whole
+    → sets (set l a v) next (map f (drop (i + 1) vs)) ≡ whole
+image-more f l whole vs a next i d v h e ev rest =
+    let there : next ≡ suc a = omega arith in
+    let more : i + 1 ≡ suc i = omega arith in
+    rw (there, more, ev) (sym (ap (λ (xs : List _). sets l a (map f xs)) (drop-cons vs i d h)) ∙ rest)
+
+-- where nothing is left to store, the whole is there
+pub image-all : {A B : Type 0} (f : A → B) (l whole : List B) (vs : List A) (a i : ℕ) → length vs ≤ i
+    → sets l a (map f (drop i vs)) ≡ whole → l ≡ whole
+image-all f l whole vs a i h rest = sym (ap (λ (xs : List _). sets l a (map f xs)) (drop-of-length-le vs h)) ∙ rest

@@ -1,0 +1,310 @@
+-- `inpaint::fill::repair_by_model` meets its contract: the model's doubles are those of the rule, and the call is
+-- refused by the range test, refused by the entry, or entered and written. Assumes nothing.
+use borrow.Author.Needs.{needs}
+use mathlib.Core.Path.{_≡_, ap, _∙_}
+use mathlib.Core.List.{List}
+use Prim.Native.Nat.{ℕ, _+_, _≤_}
+use native.Mathlib.Omega.{arith}
+use lib.ListN.{length}
+use Rattle.recording.specs.Recording.{State, state, mostSamples, ranged, span}
+use Rattle.recording.proofs.commit.Laws.{carried-out, span-refused, span-written}
+use Rattle.inpaint.specs.Gap.{model}
+use Rattle.inpaint.proofs.fill.Laws.{length-model, Modelled, widen-room, laid, modelled, fill-count, model-back}
+use Rattle.inpaint.proofs.fill.repair_by_model.Statement.{statement}
+use Rattle.inpaint.proofs.fill.repair_by_model.Tie as tie
+
+-- where the call begins, once the window's begin is known
+abbrev start : tie.After-window-from → tie.Start
+start c = c .before .before .before .before .before .before .before .before .before .before .before .before .before
+
+-- where the window was lent, and where it was widened
+abbrev widening : tie.After-window-from → tie.After-widen-words
+widening c = c .before .before .before .before .before
+
+abbrev windowed : tie.After-window-from → tie.After-window-of
+windowed c = widening c .before .before
+
+-- where the model had filled the gap, before its doubles were tested
+abbrev filling : tie.After-check-results → tie.After-fill-by-model
+filling c = c .before .before .before .before .before
+
+-- where the doubles were found in range, before the entry was made
+abbrev tested : tie.After-enter-span → tie.After-enum-told
+tested c = c .before .before .before .before .before
+
+-- where they were tested, once the entry is made
+abbrev testing : tie.After-enum-told3 → tie.After-check-results
+testing c = tested (c .before .before .before .before .before .before) .before .before
+
+-- the recording before the call, and the gap within it
+abbrev recording : tie.After-check-results → State
+recording c =
+    let a = start (filling c .before) .args in
+    state (a .samples .now) (a .marks .now) (a .journal .now) (a .used .now)
+
+inside : (c : tie.After-check-results)
+    → let a = start (filling c .before) .args in a .start + a .len ≤ length (a .samples .now)
+inside c = start (filling c .before) .pre .1
+
+fits : (c : tie.After-check-results) → length (recording c .samples) ≤ mostSamples
+fits c = start (filling c .before) .pre .0 .few
+
+-- what the model has left
+gave : (c : tie.After-fill-by-model)
+    → let a = start (c .before) .args in
+    Modelled (a .samples .now) (a .start) (a .len) (length (windowed (c .before) .window-of .result .now))
+    (c .before .before .before .order-for .result) (a .work .now) (c .fill-by-model .last .0)
+gave c =
+    let s = start (c .before) in
+    let a = s .args in
+    modelled (a .samples .now) _ (a .start) (a .len) (a .work .now) (s .pre .1) (s .pre .2) (s .pre .3) (s .pre .4)
+    (windowed (c .before) .window-of .ensures) _ _ _ (widening (c .before) .widen-words .ensures)
+    (c .before .window-from .ensures) (c .before .before .before .order-for .ensures)
+    _ (c .fill-by-model .ensures .0) (c .fill-by-model .ensures .1)
+
+-- the test of the results' range
+ranging : (c : tie.After-check-results)
+    → let a = start (filling c .before) .args in
+    c .check-results .result ≡ ranged (span (a .start) (model 1 (a .samples .now) (a .start) (a .len)))
+ranging c =
+    c .check-results .ensures
+    ∙ ap (λ (ws : List ℕ). ranged (span (start (filling c .before) .args .start) ws)) (gave (filling c) .words)
+
+window-of-requires : tie.Need-window-of-requires
+window-of-requires c κs = search needs
+
+widen-words-requires : tie.Need-widen-words-requires
+widen-words-requires c κs =
+    let s = c .before .before .before .before .before .before .before in
+    let a = s .args in
+    widen-room (a .samples .now) _ (a .start) (a .len) (a .work .now) (s .pre .1) (s .pre .2) (s .pre .3) (s .pre .4)
+    (c .before .window-of .ensures)
+
+order-for-requires : tie.Need-order-for-requires
+order-for-requires c κs = search needs
+
+window-from-requires : tie.Need-window-from-requires
+window-from-requires c κs = search needs
+
+sub-fill-by-model : tie.Need-sub-fill-by-model
+sub-fill-by-model c = search needs
+
+fill-by-model-requires : tie.Need-fill-by-model-requires
+fill-by-model-requires c κs =
+    let s = start c in
+    let a = s .args in
+    laid (a .samples .now) _ (a .start) (a .len) (a .work .now) (s .pre .1) (s .pre .2) (s .pre .3) (s .pre .4)
+    (windowed c .window-of .ensures) _ _ _ (widening c .widen-words .ensures) (c .window-from .ensures)
+    (c .before .before .order-for .ensures)
+
+add-at : tie.Need-add-at
+add-at c = search needs
+
+mul-at : tie.Need-mul-at
+mul-at c = search needs
+
+add-at-2 : tie.Need-add-at-2
+add-at-2 c = search needs
+
+add-at-3 : tie.Need-add-at-3
+add-at-3 c = search needs
+
+mul-at-2 : tie.Need-mul-at-2
+mul-at-2 c = omega (arith, gave (c .before .before))
+
+add-at-4 : tie.Need-add-at-4
+add-at-4 c = omega (arith, gave (c .before .before))
+
+mul-at-3 : tie.Need-mul-at-3
+mul-at-3 c = search needs
+
+add-at-5 : tie.Need-add-at-5
+add-at-5 c = omega (arith, gave (c .before .before))
+
+add-check-results : tie.Need-add-check-results
+add-check-results c = omega (arith, gave (c .before .before), start (c .before .before .before) .pre .3)
+
+mul-check-results : tie.Need-mul-check-results
+mul-check-results c = omega (arith, gave (c .before .before), start (c .before .before .before) .pre .3)
+
+sub-check-results : tie.Need-sub-check-results
+sub-check-results c = search needs
+
+part-check-results-start : tie.Need-part-check-results-start
+part-check-results-start c = search needs
+
+part-check-results-end : tie.Need-part-check-results-end
+part-check-results-end c = gave (c .before .before .before) .room
+
+check-results-requires : tie.Need-check-results-requires
+check-results-requires c κs = search needs
+
+enum-told : tie.Need-enum-told
+enum-told c = search needs
+
+enum-told-2 : tie.Need-enum-told-2
+enum-told-2 c = search needs
+
+same-length : tie.Need-same-length
+same-length c = search needs
+
+same-length-2 : tie.Need-same-length-2
+same-length-2 c = search needs
+
+returns : tie.Need-returns
+returns c =
+    let call = c .before .before in
+    let m = gave (filling call) in
+    (carried-out _ _ _ _ _ (ranging call) (c .enum-told2 .given .1), m .count, m .kept)
+
+enter-span-requires : tie.Need-enter-span-requires
+enter-span-requires c κs = search needs
+
+enum-told-3 : tie.Need-enum-told-3
+enum-told-3 c = search needs
+
+enum-told-4 : tie.Need-enum-told-4
+enum-told-4 c = search needs
+
+same-length-3 : tie.Need-same-length-3
+same-length-3 c = search needs
+
+same-length-4 : tie.Need-same-length-4
+same-length-4 c = search needs
+
+same-length-5 : tie.Need-same-length-5
+same-length-5 c = search needs
+
+same-length-6 : tie.Need-same-length-6
+same-length-6 c = search needs
+
+returns-2 : tie.Need-returns-2
+returns-2 c =
+    let entering = c .before .before .before .before .before .before in
+    let told = tested entering in
+    let call = told .before .before in
+    let a = start (filling call .before) .args in
+    let count = length-model (a .samples .now) (a .start) (a .len) (inside call) 1 in
+    let m = gave (filling call) in (
+      span-refused (recording call) _ _ _ _ count _ _ _ _ _ _ (ranging call) (told .enum-told .given .1)
+          _ (c .enum-told4 .given .1) (entering .enter-span .ensures _ count),
+      m .count,
+      m .kept,
+    )
+
+add-model-fill : tie.Need-add-model-fill
+add-model-fill c = omega (arith, inside (testing c), fits (testing c))
+
+mul-model-fill : tie.Need-mul-model-fill
+mul-model-fill c = omega (arith, inside (testing c), fits (testing c))
+
+sub-model-fill : tie.Need-sub-model-fill
+sub-model-fill c = search needs
+
+part-model-fill-start : tie.Need-part-model-fill-start
+part-model-fill-start c = search needs
+
+part-model-fill-end : tie.Need-part-model-fill-end
+part-model-fill-end c = inside (testing c)
+
+add-model-fill-2 : tie.Need-add-model-fill-2
+add-model-fill-2 c = let at = filling (testing (c .before)) in omega (arith, gave at, start (at .before) .pre .3)
+
+mul-model-fill-2 : tie.Need-mul-model-fill-2
+mul-model-fill-2 c = let at = filling (testing (c .before)) in omega (arith, gave at, start (at .before) .pre .3)
+
+sub-model-fill-2 : tie.Need-sub-model-fill-2
+sub-model-fill-2 c = search needs
+
+part-model-fill-start-2 : tie.Need-part-model-fill-start-2
+part-model-fill-start-2 c = search needs
+
+part-model-fill-end-2 : tie.Need-part-model-fill-end-2
+part-model-fill-end-2 c = gave (filling (testing (c .before .before))) .room
+
+model-fill-requires : tie.Need-model-fill-requires
+model-fill-requires c κs =
+    let call = testing (c .before .before .before) in
+    fill-count _ _ _ _ _ _ _ (gave (filling call)) (inside call)
+
+same-length-7 : tie.Need-same-length-7
+same-length-7 c = search needs
+
+same-length-8 : tie.Need-same-length-8
+same-length-8 c = search needs
+
+same-length-9 : tie.Need-same-length-9
+same-length-9 c = search needs
+
+same-length-10 : tie.Need-same-length-10
+same-length-10 c = gave (filling (testing (c .before .before .before .before .before .before))) .count
+
+returns-3 : tie.Need-returns-3
+returns-3 c =
+    let done = c .before .before .before .before .before .before in
+    let entering = done .before .before .before .before .before .before in
+    let told = tested entering in
+    let call = told .before .before in
+    let a = start (filling call .before) .args in
+    let count = length-model (a .samples .now) (a .start) (a .len) (inside call) 1 in
+    let m = gave (filling call) in
+    let back = model-back _ _ _ _ _ _ _ m (inside call) _ (c .before .before .model-fill .ensures) in (
+      span-written (recording call) _ _ _ _ count _ _ _ _ _ _ (ranging call) (told .enum-told .given .1)
+          _ _ (done .enum-told3 .given .1) back (entering .enter-span .ensures _ count),
+      m .count,
+      m .kept,
+    )
+
+pub repair-by-model-spec : {M : Type 1} → statement M
+repair-by-model-spec =
+    tie.close
+    (tie.spec
+    window-of-requires
+    widen-words-requires
+    order-for-requires
+    window-from-requires
+    sub-fill-by-model
+    fill-by-model-requires
+    add-at
+    mul-at
+    add-at-2
+    add-at-3
+    mul-at-2
+    add-at-4
+    mul-at-3
+    add-at-5
+    add-check-results
+    mul-check-results
+    sub-check-results
+    part-check-results-start
+    part-check-results-end
+    check-results-requires
+    enum-told
+    enum-told-2
+    same-length
+    same-length-2
+    returns
+    enter-span-requires
+    enum-told-3
+    enum-told-4
+    same-length-3
+    same-length-4
+    same-length-5
+    same-length-6
+    returns-2
+    add-model-fill
+    mul-model-fill
+    sub-model-fill
+    part-model-fill-start
+    part-model-fill-end
+    add-model-fill-2
+    mul-model-fill-2
+    sub-model-fill-2
+    part-model-fill-start-2
+    part-model-fill-end-2
+    model-fill-requires
+    same-length-7
+    same-length-8
+    same-length-9
+    same-length-10
+    returns-3)

@@ -1,0 +1,148 @@
+-- The repair of one gap, line by line of its plan: the tests that failed before, the test that holds, and what the plan
+-- is then; and what each way out leaves in the workspace. Assumes nothing.
+use mathlib.Core.Path.{_≡_, refl, sym, ap, _∙_}
+use mathlib.Core.Bool.{Bool, true, false}
+use mathlib.Core.List.{List, [], _∷_, _++_}
+use mathlib.Core.Logic.{_⊎_, inl, inr}
+use Prim.Native.Nat.{ℕ, _+_, _≤_, _<_}
+use native.Mathlib.Omega.{arith}
+use borrow.Author.Tests.{lt-ltb, le-ltb}
+use lib.Dec.{ltb}
+use lib.ListN.{length, drop, replicate, length-replicate}
+use lib.Seq.{sets-eq}
+use Rattle.leaves.specs.Floats.{inRange}
+use Rattle.recording.specs.Recording.{State, Ended, ended, refused, Plan, refuse, change, span, fitting, carried}
+use Rattle.recording.specs.Recording.{cleared, clears, workAfter, if_then_else_, gapByModel, gapByLine}
+use Rattle.recording.specs.declared.Reason.{Reason}
+use Rattle.recording.specs.declared.Reason.the-variants.{Gap, Workspace, Read}
+use Rattle.recording.specs.declared.Answer.{Answer}
+use Rattle.recording.specs.declared.Answer.the-variants.{Done, Refused}
+use Rattle.recording.proofs.open.Laws.{EitherWay, truth}
+use Rattle.recording.proofs.Performing.{unfit, fit}
+use Rattle.inpaint.specs.Gap.{gapWrong, needed, readable, allReadable, from, knownBefore, knownBehind}
+use Rattle.inpaint.specs.Gap.{line, model, repaired, gapPlan, gapRepair}
+use Rattle.inpaint.proofs.window.Laws.{gap-right}
+use Rattle.inpaint.proofs.fill.Laws.{model-passes}
+
+-- ---- The plan
+
+-- a test decides
+first-of : (b : Bool) (p q : Plan) → b ≡ true → (if b then p else q) ≡ p
+first-of b p q h = rw h refl
+
+second-of : (b : Bool) (p q : Plan) → b ≡ false → (if b then p else q) ≡ q
+second-of b p q h = rw h refl
+
+module _ (samples : List ℕ) (start len passes room : ℕ) where
+  pub plan-gap : gapWrong (length samples) start len ≡ true → gapPlan start len passes room samples ≡ refuse Gap
+  unfolding gapPlan
+  plan-gap h = rw h refl
+
+  module _ (right : gapWrong (length samples) start len ≡ false) where
+    pub plan-short : (k : ℕ) → k ≡ needed (length samples) start len → room < k
+        → gapPlan start len passes room samples ≡ refuse Workspace
+    unfolding gapPlan
+    plan-short k e h = rw (right, ← e, lt-ltb _ _ h) refl
+
+    module _ (enough : needed (length samples) start len ≤ room) where
+      pub plan-read : (a : Answer) (why : Reason) → a ≡ allReadable samples start len → a ≡ Refused why
+          → gapPlan start len passes room samples ≡ refuse why
+      unfolding gapPlan
+      plan-read a why e h = rw (right, le-ltb _ _ enough, sym e ∙ h) refl
+
+      module _ (a : Answer) (m : ℕ) (e : a ≡ allReadable samples start len) (known : a ≡ Done m) where
+        plan-on : gapPlan start len passes room samples ≡ repaired passes samples start len
+        unfolding gapPlan
+        plan-on = rw (right, le-ltb _ _ enough, sym e ∙ known) refl
+
+        pub plan-line : 2048 < len
+            → gapPlan start len passes room samples ≡ change gapByLine (span start (line samples start len))
+        unfolding repaired
+        plan-line h = plan-on ∙ first-of (ltb 2048 len) _ _ (lt-ltb _ _ h)
+
+        -- one pass does for all
+        pub plan-model : len ≤ 2048
+            → gapPlan start len passes room samples ≡ change gapByModel (span start (model 1 samples start len))
+        unfolding repaired
+        plan-model h =
+            plan-on
+            ∙ second-of (ltb 2048 len) _ _ (le-ltb _ _ h)
+            ∙ sym (ap (λ (ws : List ℕ). change gapByModel (span start ws))
+            (model-passes samples start len (gap-right (length samples) start len right .inside) passes))
+
+-- ---- The call
+
+module _ (s : State) (start len passes room : ℕ) (a : Answer) (sized : a ≡ fitting s) where
+  pub sizes-refused : (why : Reason) → a ≡ Refused why → ended a s ≡ gapRepair start len passes room s
+  unfolding gapRepair
+  sizes-refused why e = unfit s (gapPlan start len passes room (s .samples)) a sized why e
+
+  -- the sizes are accepted: the call ends as its plan does
+  pub ends-as : (m : ℕ) → a ≡ Done m → (p : Plan) → gapPlan start len passes room (s .samples) ≡ p
+      → (e : Ended) → e ≡ carried s p → e ≡ gapRepair start len passes room s
+  unfolding gapRepair
+  ends-as m fits p plan e ends =
+      ends ∙ sym (ap (carried s) plan) ∙ fit s (gapPlan start len passes room (s .samples)) a sized m fits
+
+pub refused-as : (s : State) (why : Reason) → refused s why ≡ carried s (refuse why)
+unfolding carried
+refused-as s why = refl
+
+-- ---- The workspace
+
+-- the test of what is read gives no other refusal than 7
+abbrev ReadEnds : Answer → Type 0
+ReadEnds a = (a ≡ Done 0) ⊎ ((i : ℕ) × (a ≡ Refused (Read i)))
+
+readable-ends : (i : ℕ) (ws : List ℕ) → ReadEnds (readable i ws)
+unfolding readable
+readable-ends i [] = inl refl
+readable-ends i (w ∷ ws) = one (truth (inRange w)) (readable-ends (i + 1) ws)
+  where
+    one : EitherWay (inRange w) → ReadEnds (readable (i + 1) ws) → ReadEnds (readable i (w ∷ ws))
+    one (inl h) later = rw h later
+    one (inr h) later = inr (i, rw h refl)
+
+all-ends : (samples : List ℕ) (start len : ℕ) → ReadEnds (allReadable samples start len)
+unfolding allReadable
+all-ends samples start len =
+    elim (readable-ends (from start len) (knownBefore samples start len)) [
+      | inl h ↦ rw h (readable-ends (start + len) (knownBehind samples start len))
+      | inr h ↦ inr (h .0, rw (h .1) refl)
+    ]
+
+-- which keeps the workspace's contents
+pub read-keeps : {A : Type 0} (nought : A) (samples : List ℕ) (start len : ℕ) (a : Answer)
+    → a ≡ allReadable samples start len → (why : Reason) → a ≡ Refused why
+    → (n : ℕ) (work : List A) → work ≡ workAfter nought n a work
+read-keeps nought samples start len a e why h n work = rw kept refl
+  where
+    kept : clears a ≡ false
+    kept =
+        elim (all-ends samples start len) [
+          | inl g ↦ absurd (never (sym h ∙ e ∙ g))
+          | inr g ↦ rw (e ∙ g .1) refl
+        ]
+      where
+        never : Refused why ≡ Done 0 → ⊥
+        never both = let none : _≡_ {A = ℕ} 0 1 = cc in omega arith
+
+-- clearing does not depend on what stood in the part that is cleared
+cleared-same : {A : Type 0} (nought : A) (n : ℕ) (w v : List A) → n ≤ length w → length v ≡ length w
+    → drop n v ≡ drop n w → cleared nought n v ≡ cleared nought n w
+cleared-same nought n w v h e k =
+    let zeros = replicate n nought in
+    let count : length zeros ≡ n = length-replicate n nought in
+    let there : 0 + length zeros ≡ n = omega arith in
+    sets-eq zeros v 0 (omega arith)
+    ∙ ap (λ (i : ℕ). zeros ++ drop i v) there
+    ∙ ap (λ (l : List _). zeros ++ l) k
+    ∙ sym (ap (λ (i : ℕ). zeros ++ drop i w) there)
+    ∙ sym (sets-eq zeros w 0 (omega arith))
+
+-- a workspace that kept what is not needed, cleared of what is, with the number of these under another name
+pub cleared-too : {A : Type 0} (nought : A) (k n : ℕ) (w v next : List A)
+    → next ≡ cleared nought k v → k ≡ n → n ≤ length w
+    → length v ≡ length w → drop n v ≡ drop n w → next ≡ cleared nought n w
+cleared-too nought k n w v next e ek h count kept =
+    e ∙ ap (λ (i : ℕ). cleared nought i v) ek ∙ cleared-same nought n w v h count kept

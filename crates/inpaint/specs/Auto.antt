@@ -1,0 +1,114 @@
+-- The automatic scan: document 01's `inpaint_auto` paragraph, whose sentences the comments quote. Definitions only.
+use Prim.Native.Nat.{ℕ, zero, suc, _+_, _-_}
+use mathlib.Core.Bool.{Bool, not, _&&_, _||_, cond}
+use mathlib.Core.List.{List}
+use lib.ListN.{length, getD}
+use lib.Dec.{leb, ltb, eqb}
+use lib.Ieee.{Float, isNan, eq, mul, div, toUnsigned}
+use lib.Ieee.Scale.{finite}
+use Rattle.leaves.specs.Arithmetic.{_*₃₂_, _/₃₂_, nought, one}
+use Rattle.leaves.specs.Floats.{larger}
+use Rattle.recording.specs.Answers.{number}
+use Rattle.recording.specs.Recording.{State, fitting, workAfter, if_then_else_}
+use Rattle.recording.specs.declared.Reason.the-variants.{Setting}
+use Rattle.recording.specs.declared.Answer.{Answer}
+use Rattle.recording.specs.declared.Answer.the-variants.{Done, Refused}
+use Rattle.inpaint.specs.Gap.{float, count, needed, gapRepair}
+use Rattle.inpaint.specs.declared.Run.{Run}
+use Rattle.inpaint.specs.declared.Run.the-variants.{At, Nowhere}
+
+-- ---- The settings
+
+-- "Rate at most 16,777,216 and finite max_gap_ms, else 4."
+abbrev pub allowed : ℕ → Float → Bool
+allowed rate ms = leb rate 16777216 && finite ms
+
+-- "The limit is (max_gap_ms/1000)*rate in f32, raised to 1, cut to a whole number; a product of plus infinity means no limit":
+-- plus infinity is cut to the largest number of 64 bits, which no run reaches
+unfoldable pub limit : Float → ℕ → ℕ
+unfolding mul div count larger toUnsigned
+limit ms rate = toUnsigned 64 (larger (ms /₃₂ count 1000 *₃₂ count rate) one)
+
+-- ---- A dropout run
+
+-- "samples equal to zero (either sign) or NaN"
+unfoldable pub dropout : ℕ → Bool
+unfolding float eq isNan
+dropout w = eq (float w) nought || isNan (float w)
+
+-- "a longest run" begins at i: there is a dropout there, and none before it
+unfoldable pub begins : List ℕ → ℕ → Bool
+unfolding dropout
+begins samples i = dropout (getD samples i 0) && (eqb i 0 || not (dropout (getD samples (i - 1) 0)))
+
+-- how many dropouts stand from i on, one behind the other, among n places
+unfoldable pub runLength : List ℕ → ℕ → ℕ → ℕ
+unfolding dropout
+runLength samples i zero = 0
+runLength samples i (suc n) = let more = runLength samples (i + 1) n in cond (dropout (getD samples i 0)) (suc more) 0
+
+abbrev pub runAt : List ℕ → ℕ → ℕ
+runAt samples i = runLength samples i (length samples - i)
+
+-- "It qualifies if its length is at least 2 and within the limit, and it touches neither end."
+abbrev pub qualifies : ℕ → ℕ → ℕ → ℕ → Bool
+qualifies n most start len = leb 2 len && leb len most && ltb 0 start && ltb (start + len) n
+
+-- ---- The search
+
+-- "The search answers with the first run from a place on that meets every condition, or with nothing if none exists": among the n
+-- places from i on
+unfoldable pub nextAmong : List ℕ → ℕ → ℕ → ℕ → Run
+unfolding begins runLength
+nextAmong samples most i zero = Nowhere
+nextAmong samples most i (suc n) =
+    let on = nextAmong samples most (i + 1) n in
+    if begins samples i && qualifies (length samples) most i (runAt samples i) then At i (runAt samples i) else on
+
+abbrev pub nextRun : List ℕ → ℕ → ℕ → Run
+nextRun samples most i = nextAmong samples most i (length samples - i)
+
+-- ---- The scan
+
+-- how a scan stands: what it has counted, and the memory. "Returned: runs qualified, runs repaired, number of the first refusal
+-- or 0."
+pub record Scan : Type 0 where
+  pub qualified : ℕ
+  pub repaired : ℕ
+  pub refused : ℕ
+  pub after : State
+  pub work : List Float
+
+abbrev pub scan : ℕ → ℕ → ℕ → State → List Float → Scan
+scan q r k s w = record { qualified = q; repaired = r; refused = k; after = s; work = w }
+
+-- "Each run is one gap repair with its own answer from 6 to 9": one run more, and of its refusal the number, if it is the first
+abbrev pub repairAt : Scan → ℕ → ℕ → Scan
+repairAt c start len =
+    let e = gapRepair start len 3 (length (c .work)) (c .after) in
+    let k = number (e .answer) in
+    scan (c .qualified + 1) (c .repaired + cond (eqb k 0) 1 0) (cond (eqb (c .refused) 0) k (c .refused)) (e .after)
+    (workAfter nought (needed (length (c .after .samples)) start len) (e .answer) (c .work))
+
+-- "The scan takes each such answer apart into start and length, or stops"; "the scan goes on after a refused one". From place i
+-- on, with at most n runs to come.
+unfoldable pub scanFrom : ℕ → ℕ → ℕ → Scan → Scan
+unfolding nextAmong gapRepair needed
+scanFrom most i zero c = c
+scanFrom most i (suc n) c =
+    elim (nextRun (c .after .samples) most i) [
+      | Nowhere ↦ c
+      | At start len ↦ scanFrom most (start + len) n (repairAt c start len)
+    ]
+
+-- refusals 1 to 4, which "are tested once"; or else an acceptance
+unfoldable pub scannable : ℕ → Float → State → Answer
+unfolding fitting
+scannable rate ms s = let four = if allowed rate ms then Done 0 else Refused Setting in elim (fitting s) [ Done m ↦ four | Refused why ↦ Refused why ]
+
+unfoldable pub automatic : ℕ → Float → List Float → State → Scan
+unfolding scannable scanFrom limit
+automatic rate ms w s =
+    let first = scannable rate ms s in
+    let scanned = scanFrom (limit ms rate) 0 (length (s .samples)) (scan 0 0 0 s w) in
+    elim first [ Done m ↦ scanned | Refused why ↦ scan 0 0 (number (Refused why)) s w ]

@@ -1,0 +1,220 @@
+// The automatic scan for dropouts.
+ghost use mathlib.Core.Path.{_≡_};
+ghost use mathlib.Core.Bool.{cond};
+ghost use Prim.Native.Nat.{ℕ, _+_, _≤_, _<_};
+ghost use lib.ListN.{length};
+ghost use lib.Dec.{eqb};
+ghost use lib.Ieee.{toUnsigned};
+ghost use Rattle.recording.specs.Recording.{state};
+ghost use Rattle.inpaint.specs.Auto.{allowed, limit, dropout, begins, qualifies, nextRun, scan, scannable, automatic};
+use super::Run;
+use super::Scanned;
+use super::gap::inpaint_gap;
+use super::line::count_as_f32;
+use leaves::order::larger32;
+use leaves::words::f32_of_word;
+use recording::Answer;
+use recording::Reason;
+use recording::numbers::number_of;
+use recording::open::check_sizes;
+
+// The largest rate, up to which an f32 holds every whole number.
+const MOST_RATE: u32 = 16_777_216;
+
+// How many passes the original makes at each run.
+const PASSES: u32 = 3;
+
+// x cut to a whole number, as Rust's `as`: beyond either end of the range that end, and 0 for a NaN.
+fn whole_part(x: f32) -> u64
+    ensures { λ r. ⌜ r ≡ toUnsigned 64 x ⌝ }
+{
+    if x < 18446744073709551616.0 {
+        if -1.0 < x {
+            std::num::truncating_f32_to_u64(x)
+        } else {
+            0
+        }
+    } else if x == x {
+        18446744073709551615
+    } else {
+        0
+    }
+}
+
+// The longest run that is repaired, of a limit in milliseconds at a rate.
+fn longest_run(millis: f32, rate: u32) -> usize
+    requires { ⌜ rate ≤ 16777216 ⌝ }
+    ensures { λ r. ⌜ r ≡ limit millis rate ⌝ }
+{
+    let product = millis / 1000.0 * count_as_f32(rate as usize);
+    whole_part(larger32(product, 1.0)) as usize
+}
+
+// Whether the settings are allowed: a rate that an f32 holds, and a limit between the infinities, which
+// a NaN is not.
+fn settings_allowed(rate: u32, millis: f32) -> bool
+    ensures { λ r. ⌜ r ≡ allowed rate millis ⌝ }
+{
+    if MOST_RATE < rate {
+        return false;
+    }
+    let infinity: f32 = 1.0 / 0.0;
+    if millis < infinity {
+        -infinity < millis
+    } else {
+        false
+    }
+}
+
+// Whether a sample is equal to zero or NaN.
+fn is_dropout(word: u32) -> bool
+    ensures { λ r. ⌜ r ≡ dropout word ⌝ }
+{
+    let x = f32_of_word(word);
+    if x == 0.0 { true } else { x != x }
+}
+
+// Whether a longest run begins at place i.
+fn run_begins(samples: &[u32], i: usize) -> bool
+    requires { ⌜ i < length (now samples) ⌝ }
+    ensures { λ r. ⌜ r ≡ begins (now (samples .entry)) i ⌝ }
+{
+    if !is_dropout(samples[i]) {
+        return false;
+    }
+    if i == 0 {
+        return true;
+    }
+    !is_dropout(samples[i - 1])
+}
+
+// Whether a run qualifies, in a recording of n samples.
+fn run_qualifies(n: usize, most: usize, start: usize, len: usize) -> bool
+    requires { ⌜ start + len ≤ n ⌝ }
+    ensures { λ r. ⌜ r ≡ qualifies n most start len ⌝ }
+{
+    if len < 2 {
+        return false;
+    }
+    if most < len {
+        return false;
+    }
+    if start == 0 {
+        return false;
+    }
+    start + len < n
+}
+
+// The first run from place `from` on that meets every condition: the outer scan looks at each place, and
+// the inner one follows a run that begins there to its end. A run that reaches the recording's end does
+// not qualify, so that the inner scan has nothing to say of it. Each run is followed once.
+pub fn next_run(samples: &[u32], most: usize, from: usize) -> Run
+    ensures { λ r. ⌜ r ≡ nextRun (now (samples .entry)) most from ⌝ }
+{
+    let n = samples.len();
+    let mut found = Run::Nowhere;
+    let mut i = from;
+    'search: while i < n {
+        let start = i;
+        i += 1;
+        if run_begins(samples, start) {
+            let mut end = start;
+            while end < n {
+                if !is_dropout(samples[end]) {
+                    if run_qualifies(n, most, start, end - start) {
+                        found = Run::At(start, end - start);
+                        break 'search;
+                    }
+                    break;
+                }
+                end += 1;
+            }
+        }
+    }
+    found
+}
+
+// Refusals 1 to 4, in this order; accepted, with 0, where none of them applies.
+fn check_scan(
+    samples: &[u32],
+    marks: &[u8],
+    journal: &[u32],
+    used: usize,
+    rate: u32,
+    millis: f32,
+) -> Answer
+    ensures { λ r. ⌜ r ≡ scannable rate millis (state (now (samples .entry)) (now (marks .entry)) (now (journal .entry)) used) ⌝ }
+{
+    let sized = check_sizes(samples, marks, journal, used);
+    let Answer::Done(_) = sized else {
+        return sized;
+    };
+    if settings_allowed(rate, millis) {
+        Answer::Done(0)
+    } else {
+        Answer::Refused(Reason::Setting)
+    }
+}
+
+// 1 for the number of an acceptance, and 0 for that of a refusal.
+fn accepted(number: u32) -> usize
+    ensures { λ r. ⌜ r ≡ cond (eqb number 0) 1 0 ⌝ }
+{
+    if number == 0 { 1 } else { 0 }
+}
+
+// The first of two numbers that is not 0, or 0.
+fn first_of(number: u32, later: u32) -> u32
+    ensures { λ r. ⌜ r ≡ cond (eqb number 0) later number ⌝ }
+{
+    if number == 0 { later } else { number }
+}
+
+// Finds the dropout runs that qualify, one behind the other, and repairs each as one gap; a refused one
+// does not end the scan.
+pub fn inpaint_auto(
+    samples: &mut [u32],
+    marks: &mut [u8],
+    journal: &mut [u32],
+    used: &mut usize,
+    rate: u32,
+    millis: f32,
+    work: &mut [f64],
+) -> Scanned
+    ensures { λ r. ⌜ scan (r .qualified) (r .repaired) (r .refused)
+        (state (now (samples .exit)) (now (marks .exit)) (now (journal .exit)) (now (used .exit))) (now (work .exit))
+        ≡ automatic rate millis (now (work .entry))
+        (state (now (samples .entry)) (now (marks .entry)) (now (journal .entry)) (now (used .entry))) ⌝ }
+{
+    let checked = check_scan(samples, marks, journal, *used, rate, millis);
+    let Answer::Done(_) = checked else {
+        return Scanned {
+            qualified: 0,
+            repaired: 0,
+            refused: number_of(checked),
+        };
+    };
+    let most = longest_run(millis, rate);
+    let n = samples.len();
+    let mut qualified: usize = 0;
+    let mut repaired: usize = 0;
+    let mut refused: u32 = 0;
+    let mut at: usize = 0;
+    while at < n {
+        let found = next_run(samples, most, at);
+        let Run::At(start, len) = found else {
+            break;
+        };
+        let answer = inpaint_gap(samples, marks, journal, used, start, len, PASSES, work);
+        let number = number_of(answer);
+        qualified += 1;
+        repaired += accepted(number);
+        refused = first_of(refused, number);
+        at = start + len;
+    }
+    Scanned {
+        qualified,
+        repaired,
+        refused,
+    }
+}

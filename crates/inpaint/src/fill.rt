@@ -1,0 +1,107 @@
+// The repair of a short gap by the model: the window is widened into the workspace, the model gives the
+// gap's doubles there, and these are tested, entered and written.
+ghost use mathlib.Core.Path.{_≡_};
+ghost use mathlib.Core.List.{map};
+ghost use Prim.Native.Nat.{_+_, _≤_};
+ghost use lib.ListN.{length, drop};
+ghost use lib.Seq.{sets};
+ghost use Rattle.recording.specs.Recording.{state, ended, mostSamples, change, span, ranged, carried, gapByModel};
+ghost use Rattle.recording.specs.Inner.{Fits};
+ghost use Rattle.inpaint.specs.Gap.{float, narrowWord, needed, model};
+use super::window::order_for;
+use super::window::window_from;
+use super::window::window_of;
+use leaves::narrow::narrow;
+use leaves::words::f32_of_word;
+use leaves::words::in_range;
+use leaves::words::widen;
+use leaves::words::word_of_f32;
+use model::fill::fill_by_model;
+use recording::Answer;
+use recording::Reason;
+use recording::commit::enter_span;
+
+// Writes the floats of words, widened, at the front of the workspace.
+fn widen_words(words: &[u32], work: &mut [f64])
+    requires { ⌜ length (now words) ≤ length (now work) ⌝ }
+    ensures { λ _. ⌜ now (work .exit) ≡ sets (now (work .entry)) 0 (map float (now (words .entry))) ⌝ }
+{
+    let mut i: usize = 0;
+    while i < words.len() {
+        work[i] = widen(f32_of_word(words[i]));
+        i += 1;
+    }
+}
+
+// The word of a double, narrowed.
+fn word_of_double(x: f64) -> u32
+    ensures { λ r. ⌜ r ≡ narrowWord x ⌝ }
+{
+    word_of_f32(narrow(x))
+}
+
+// Refusal 8 for doubles that are to stand from place `start` on; accepted, with 0, where the word of each
+// is in range.
+fn check_results(results: &[f64], start: usize) -> Answer
+    requires { ⌜ start + length (now results) ≤ mostSamples ⌝ }
+    ensures { λ r. ⌜ r ≡ ranged (span start (map narrowWord (now (results .entry)))) ⌝ }
+{
+    let mut i: usize = 0;
+    while i < results.len() {
+        if !in_range(word_of_double(results[i])) {
+            return Answer::Refused(Reason::Result(start + i));
+        }
+        i += 1;
+    }
+    Answer::Done(0)
+}
+
+// Writes the words of the model's doubles into the gap.
+fn model_fill(gap: &mut [u32], results: &[f64])
+    requires { ⌜ length (now gap) ≡ length (now results) ⌝ }
+    ensures { λ _. ⌜ now (gap .exit) ≡ map narrowWord (now (results .entry)) ⌝ }
+{
+    let mut i: usize = 0;
+    while i < results.len() {
+        gap[i] = word_of_double(results[i]);
+        i += 1;
+    }
+}
+
+// The repair of a gap by the model, from refusal 8 on. It makes one pass, which is what every number of
+// passes comes to. Of the workspace it leaves what is not needed.
+pub fn repair_by_model(
+    samples: &mut [u32],
+    marks: &mut [u8],
+    journal: &mut [u32],
+    used: &mut usize,
+    start: usize,
+    len: usize,
+    work: &mut [f64],
+) -> Answer
+    requires { ⌜ Fits (state (now samples) (now marks) (now journal) (now used)) × (start + len ≤ length (now samples))
+        × (1 ≤ len) × (len ≤ 2048) × (needed (length (now samples)) start len ≤ length (now work)) ⌝ }
+    ensures { λ r. ⌜ (ended r (state (now (samples .exit)) (now (marks .exit)) (now (journal .exit)) (now (used .exit)))
+        ≡ carried (state (now (samples .entry)) (now (marks .entry)) (now (journal .entry)) (now (used .entry)))
+        (change gapByModel (span start (model 1 (now (samples .entry)) start len))))
+        × (length (now (work .exit)) ≡ length (now (work .entry)))
+        × (drop (needed (length (now (samples .entry))) start len) (now (work .exit))
+        ≡ drop (needed (length (now (samples .entry))) start len) (now (work .entry))) ⌝ }
+{
+    let known = window_of(samples, start, len);
+    let size = known.len();
+    widen_words(known, work);
+    let p = order_for(len);
+    fill_by_model(work, size, start - window_from(start, len), len, p);
+    let at = size + 4 * (p + 1) + len * (p + 1) + 2 * len;
+    let checked = check_results(&work[at..at + len], start);
+    let Answer::Done(_) = checked else {
+        return checked;
+    };
+    let entered = enter_span(samples, marks, journal, used, start, len, 1);
+    let Answer::Done(_) = entered else {
+        return entered;
+    };
+    model_fill(&mut samples[start..start + len], &work[at..at + len]);
+    entered
+}

@@ -1,0 +1,58 @@
+// The repair of one gap.
+ghost use mathlib.Core.Path.{_≡_};
+ghost use lib.ListN.{length};
+ghost use Rattle.leaves.specs.Arithmetic.{nought};
+ghost use Rattle.recording.specs.Recording.{state, ended, workAfter};
+ghost use Rattle.inpaint.specs.Gap.{needed, gapRepair};
+use super::fill::repair_by_model;
+use super::line::repair_by_line;
+use super::window::MAX_SOLVE;
+use super::window::check_known;
+use super::window::gap_wrong;
+use super::window::needed_for;
+use recording::Answer;
+use recording::Reason;
+use recording::clear::clear_doubles;
+use recording::open::check_sizes;
+
+// Repairs the len samples from `start` on, by straight line or by the model, or refuses and changes
+// nothing. Every pass count gives the same, so that the count is not looked at.
+pub fn inpaint_gap(
+    samples: &mut [u32],
+    marks: &mut [u8],
+    journal: &mut [u32],
+    used: &mut usize,
+    start: usize,
+    len: usize,
+    passes: u32,
+    work: &mut [f64],
+) -> Answer
+    ensures { λ r. ⌜ (ended r (state (now (samples .exit)) (now (marks .exit)) (now (journal .exit)) (now (used .exit)))
+        ≡ gapRepair start len passes (length (now (work .entry)))
+        (state (now (samples .entry)) (now (marks .entry)) (now (journal .entry)) (now (used .entry))))
+        × (now (work .exit) ≡ workAfter nought (needed (length (now (samples .entry))) start len) r (now (work .entry))) ⌝ }
+{
+    let sized = check_sizes(samples, marks, journal, *used);
+    let Answer::Done(_) = sized else {
+        return sized;
+    };
+    if gap_wrong(samples.len(), start, len) {
+        return Answer::Refused(Reason::Gap);
+    }
+    let needed = needed_for(samples.len(), start, len);
+    if work.len() < needed {
+        return Answer::Refused(Reason::Workspace);
+    }
+    let read = check_known(samples, start, len);
+    let Answer::Done(_) = read else {
+        return read;
+    };
+    if MAX_SOLVE < len {
+        let by_line = repair_by_line(samples, marks, journal, used, start, len);
+        clear_doubles(work, needed);
+        return by_line;
+    }
+    let by_model = repair_by_model(samples, marks, journal, used, start, len, work);
+    clear_doubles(work, needed);
+    by_model
+}

@@ -1,0 +1,21 @@
+// Gaps: the window around one, the straight line and the model that fill it, the repair of one gap, and
+// the automatic scan that finds dropouts and repairs each.
+pub mod auto;
+pub mod fill;
+pub mod gap;
+pub mod line;
+pub mod window;
+
+// What the search for a dropout run answers: a run, by its start and its length, or that there is none.
+pub enum Run {
+    At(usize, usize),
+    Nowhere,
+}
+
+// What the automatic scan returns: runs qualified, runs repaired, and the number of the first refusal,
+// or 0.
+pub struct Scanned {
+    pub qualified: usize,
+    pub repaired: usize,
+    pub refused: u32,
+}

@@ -1,0 +1,3 @@
+-- Laws that the stages of the model share.
+pub mod Parts
+pub mod Passes

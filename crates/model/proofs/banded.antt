@@ -1,0 +1,2 @@
+-- The banded equations: laws that its functions share.
+pub mod Laws

@@ -1,0 +1,2 @@
+-- Laws of the model's coefficients.
+pub mod Laws

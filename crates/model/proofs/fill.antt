@@ -1,0 +1,2 @@
+-- Laws of the pass.
+pub mod Laws
