@@ -45,6 +45,8 @@ pub type Scans = Count<Call>;
 /// What the scans have to be, all of them together.
 pub const CLASSES: &[Class<Call>] = &[
     Class { name: "scans", least: 5_000, holds: |_| true },
+    Class { name: "on 0 samples", least: 1, holds: |c| c.samples == 0 },
+    Class { name: "on 3,000 samples or more", least: 50, holds: |c| c.samples >= 3_000 },
     Class { name: "nothing qualified", least: 500, holds: |c| c.scan.number() == 0 && c.scan.qualified() == 0 },
     Class { name: "all repaired, the same as the original", least: 2_000, holds: Call::is_clean },
     Class { name: "with several runs", least: 500, holds: |c| c.is_clean() && c.scan.qualified() > 1 },
