@@ -42,7 +42,9 @@ float cathar_round(float x);
  *   journal   journal_n words
  *   used      one number: how many of the journal's words are taken, from its start on
  * An area and its length follow each other. Each area has at least the length given for it, and no two
- * areas overlap, used and value among them.
+ * areas overlap, used and value among them, nor a workspace, qualified or repaired.
+ *
+ * A sample is in range if it is finite and its magnitude is at most 65,536.
  *
  * The journal holds one entry for each accepted repair that named a sample, the oldest first. An entry
  * that names m samples takes 3m+2 words:
@@ -55,6 +57,12 @@ float cathar_round(float x);
  *    1   marks and samples differ in number
  *    2   more than 1,048,576 samples
  *    3   used exceeds the journal's length
+ *    4   a setting is not allowed
+ *    5   gap length 0, start at or past the end, or gap past the end
+ *    6   workspace shorter than needed
+ *    7   a sample that the repair reads is not in range
+ *    8   a result at a named sample is not in range
+ *    9   the journal has fewer than 3m+2 free words, for a repair that names m samples, m at least 1
  *   10   undo: used is 0
  *   11   undo: the last entry is malformed */
 
@@ -77,6 +85,43 @@ uint32_t cathar_open(const uint32_t *samples, size_t n, uint8_t *marks, size_t m
  *   the set mark is not 1 to 5. */
 uint32_t cathar_undo(uint32_t *samples, size_t n, uint8_t *marks, size_t marks_n,
                      uint32_t *journal, size_t journal_n, size_t *used, size_t *value);
+
+/* Repairs the gap of len samples from start on: it names just these. What stood there has no say in what
+ * comes to stand there. A gap longer than 2048 becomes a straight line between its neighbours, a missing
+ * one counting as 0: mark 2, and the neighbours are read. Any other is filled from a model of the samples
+ * around it: mark 1, and all samples of the window are read that lie outside the gap.
+ *   context   the larger of 4*len and 1024
+ *   window    from max(0, start-context) to before min(n, start+len+context)
+ * Any number of passes is allowed, 0 among them, and every number gives the same.
+ * work is the workspace: work_n doubles, of any contents. Of these it needs
+ *   len       for the straight line
+ *   window + len*(p+1) + 3*len + 4*(p+1), at most 289,284, for the model, where p is len held to 32..128
+ * The needed doubles, from the first on, are all +0 after an acceptance or after refusal 8 or 9, and else
+ * they stay. All others stay.
+ * value receives len where it was accepted, the lowest such place for refusals 7 and 8, and 0 for the
+ * others; what it held has no say.
+ * Refusals: 1, 2, 3, 5, 6, 7, 8, 9. */
+uint32_t cathar_inpaint_gap(uint32_t *samples, size_t n, uint8_t *marks, size_t marks_n,
+                            uint32_t *journal, size_t journal_n, size_t *used,
+                            size_t start, size_t len, uint32_t passes,
+                            double *work, size_t work_n, size_t *value);
+
+/* Finds the dropouts, from the first on, and repairs each as cathar_inpaint_gap does. A dropout is a
+ * longest run of samples that are zeros or NaN; it qualifies if it has at least 2 samples and at most as
+ * many as the limit, and touches neither end of the recording. The limit is (max_gap_ms/1000)*rate in
+ * floats, raised to 1 and cut to a whole number; a product of +infinity means no limit.
+ * A run whose repair is refused stays as it was, and the scan goes on after it. The workspace is used
+ * for one repair after the other.
+ * qualified receives the number of runs that qualify, and repaired that of those repaired; both receive 0
+ * where refusal 1 to 4 was given. What they held has no say. The answer is 0, or the number of the
+ * first refusal: 1 to 4 for the whole scan, which then changes nothing, or 6 to 9 for a run.
+ * Refusals: 1, 2, 3, 4, 6, 7, 8, 9. Refusal 4 is given where
+ *   rate exceeds 16,777,216, or
+ *   max_gap_ms is an infinity or a NaN. */
+uint32_t cathar_inpaint_auto(uint32_t *samples, size_t n, uint8_t *marks, size_t marks_n,
+                             uint32_t *journal, size_t journal_n, size_t *used,
+                             uint32_t rate, float max_gap_ms,
+                             double *work, size_t work_n, size_t *qualified, size_t *repaired);
 
 #ifdef __cplusplus
 }

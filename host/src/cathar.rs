@@ -25,6 +25,36 @@ mod exports {
             used: *mut usize,
             value: *mut usize,
         ) -> u32;
+        pub fn cathar_inpaint_gap(
+            samples: *mut u32,
+            n: usize,
+            marks: *mut u8,
+            marks_n: usize,
+            journal: *mut u32,
+            journal_n: usize,
+            used: *mut usize,
+            start: usize,
+            len: usize,
+            passes: u32,
+            work: *mut f64,
+            work_n: usize,
+            value: *mut usize,
+        ) -> u32;
+        pub fn cathar_inpaint_auto(
+            samples: *mut u32,
+            n: usize,
+            marks: *mut u8,
+            marks_n: usize,
+            journal: *mut u32,
+            journal_n: usize,
+            used: *mut usize,
+            rate: u32,
+            max_gap_ms: f32,
+            work: *mut f64,
+            work_n: usize,
+            qualified: *mut usize,
+            repaired: *mut usize,
+        ) -> u32;
     }
 }
 
@@ -77,6 +107,76 @@ pub fn undo(samples: &mut [u32], marks: &mut [u8], journal: &mut [u32], used: &m
             journal.len(),
             used,
             value,
+        )
+    }
+}
+
+/// Repairs the gap of `len` samples from `start` on. Answers 0, with `len` in `value`, or the number of the
+/// refusal, with the place there for 7 and 8 and 0 for the others.
+// The arguments are those of the C function.
+#[allow(clippy::too_many_arguments)]
+pub fn inpaint_gap(
+    samples: &mut [u32],
+    marks: &mut [u8],
+    journal: &mut [u32],
+    used: &mut usize,
+    start: usize,
+    len: usize,
+    passes: u32,
+    work: &mut [f64],
+    value: &mut usize,
+) -> u32 {
+    // As above.
+    unsafe {
+        exports::cathar_inpaint_gap(
+            samples.as_mut_ptr(),
+            samples.len(),
+            marks.as_mut_ptr(),
+            marks.len(),
+            journal.as_mut_ptr(),
+            journal.len(),
+            used,
+            start,
+            len,
+            passes,
+            work.as_mut_ptr(),
+            work.len(),
+            value,
+        )
+    }
+}
+
+/// Finds the dropouts and repairs each. Answers 0, or the number of the first refusal; `qualified` receives
+/// how many runs were found, and `repaired` how many of them were repaired.
+// The arguments are those of the C function.
+#[allow(clippy::too_many_arguments)]
+pub fn inpaint_auto(
+    samples: &mut [u32],
+    marks: &mut [u8],
+    journal: &mut [u32],
+    used: &mut usize,
+    rate: u32,
+    max_gap_ms: f32,
+    work: &mut [f64],
+    qualified: &mut usize,
+    repaired: &mut usize,
+) -> u32 {
+    // As above.
+    unsafe {
+        exports::cathar_inpaint_auto(
+            samples.as_mut_ptr(),
+            samples.len(),
+            marks.as_mut_ptr(),
+            marks.len(),
+            journal.as_mut_ptr(),
+            journal.len(),
+            used,
+            rate,
+            max_gap_ms,
+            work.as_mut_ptr(),
+            work.len(),
+            qualified,
+            repaired,
         )
     }
 }

@@ -1,7 +1,11 @@
 //! The functions of the static library, and what the tests hold them to: Rust's own operations for the
-//! float leaves, and a model for the recording.
+//! float leaves, a model for the recording, and for a gap's samples the original Rust.
 pub mod cathar;
 pub mod draw;
 pub mod float;
+pub mod inpaint;
+pub mod lent;
+pub mod original;
 pub mod recording;
+pub mod shapes;
 pub mod tally;

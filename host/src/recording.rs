@@ -194,7 +194,7 @@ impl Recording {
     }
 
     /// Refusals 1 to 3, which every repair gives, and undo.
-    fn refused_by_any_call(&self) -> Option<u32> {
+    pub fn refused_by_any_call(&self) -> Option<u32> {
         first_of([(1, self.marks_differ()), (2, self.too_many_samples()), (3, self.used_exceeds_journal())])
     }
 

@@ -6,18 +6,17 @@ mod recording {
     pub mod built;
     pub mod count;
     pub mod damage;
-    pub mod lent;
     pub mod limits;
     pub mod random;
     pub mod short;
 }
 
 use cathar_host::draw::{self, Draw};
+use cathar_host::lent::Lent;
 use cathar_host::recording::{Answer, Recording, MOST_SAMPLES};
 use recording::built::{build, marks, words, Built};
 use recording::count::Count;
 use recording::damage::Damage;
-use recording::lent::Lent;
 use recording::{limits, random, short};
 
 /// How many well-formed journals are undone to the raw words, how many are damaged in each way, and how many

@@ -1,6 +1,6 @@
 //! The count of a comparison over many calls on recordings: what they were made on, what was answered, and
 //! where library and model differed.
-use super::lent::{Lent, VALUE_BEFORE};
+use cathar_host::lent::{Lent, VALUE_BEFORE};
 use cathar_host::recording::{Answer, Clause, Recording};
 use cathar_host::tally::line;
 use std::fmt::Write;

@@ -1,0 +1,189 @@
+//! The repair of a gap and the automatic scan as document 01 has them, over the model of the recording. What
+//! they turn away and what they leave is written from the document's text. The new samples are those that the
+//! original Rust computes, from its own files.
+use crate::original::inpaint as original;
+use crate::recording::{in_range, Answer, Recording};
+use std::ops::Range;
+
+/// The longest gap that is not filled by a straight line.
+const MOST_BY_MODEL: usize = 2048;
+
+/// The highest rate that a scan allows.
+pub const MOST_RATE: u32 = 16_777_216;
+
+/// The original takes its time for every pass, so that more than these are held to what these give.
+const MOST_PASSES: u32 = 5;
+
+/// How many passes a scan makes.
+const SCAN_PASSES: u32 = 3;
+
+/// The samples from `start` on, `len` of them.
+#[derive(Clone, Copy, Debug, PartialEq, Eq)]
+pub struct Gap {
+    pub start: usize,
+    pub len: usize,
+}
+
+impl Gap {
+    /// Refusal 5: "gap length 0, start at or past the end, or gap past the end".
+    fn is_outside(self, n: usize) -> bool {
+        self.len == 0 || self.start >= n || self.start.checked_add(self.len).map_or(true, |end| end > n)
+    }
+
+    /// "len above 2048: straight line."
+    pub fn is_line(self) -> bool {
+        self.len > MOST_BY_MODEL
+    }
+
+    /// 1 for a gap by model, 2 for a gap by straight line.
+    pub fn mark(self) -> u8 {
+        1 + u8::from(self.is_line())
+    }
+
+    fn places(self) -> Range<usize> {
+        self.start..self.start + self.len
+    }
+
+    /// "Context c is the larger of 4*len and 1024. The window runs from max(0, start−c) to
+    /// min(n, start+len+c)." For a gap that is not outside.
+    fn window(self, n: usize) -> Range<usize> {
+        let context = (4 * self.len).max(1024);
+        self.start.saturating_sub(context)..(self.start + self.len + context).min(n)
+    }
+
+    /// How many doubles of the workspace it needs: "len doubles" for the line, and else "window + len*(p+1) +
+    /// 3*len + 4*(p+1)", where "p is len held to 32..128". For a gap that is not outside.
+    pub fn needed(self, n: usize) -> usize {
+        if self.is_line() {
+            return self.len;
+        }
+        let p = self.len.clamp(32, 128);
+        self.window(n).len() + self.len * (p + 1) + 3 * self.len + 4 * (p + 1)
+    }
+
+    /// The places that its repair reads, ascending: for the line "the neighbours that exist", and else
+    /// everything in the window outside the gap. For a gap that is not outside.
+    pub fn read(self, n: usize) -> impl Iterator<Item = usize> {
+        let Gap { start, len } = self;
+        let near = if self.is_line() { start.saturating_sub(1)..(start + len + 1).min(n) } else { self.window(n) };
+        (near.start..start).chain(start + len..near.end)
+    }
+
+    /// Its places with the words that the original writes there.
+    fn filled(self, samples: &[u32], passes: u32) -> Vec<(usize, u32)> {
+        let floats: Vec<f32> = samples.iter().map(|word| f32::from_bits(*word)).collect();
+        let filled = original::inpaint_gap(&floats, self.start, self.len, passes.min(MOST_PASSES));
+        self.places().map(|place| (place, filled[place].to_bits())).collect()
+    }
+
+    /// "It qualifies if its length is at least 2 and within the limit, and it touches neither end."
+    fn qualifies(self, n: usize, limit: usize) -> bool {
+        (2..=limit).contains(&self.len) && self.start > 0 && self.start + self.len < n
+    }
+}
+
+/// The repair of a gap. Its workspace is given by the patterns of its doubles.
+pub fn inpaint_gap(recording: &mut Recording, gap: Gap, passes: u32, work: &mut [u64]) -> Answer {
+    match recording.refused_by_any_call() {
+        Some(number) => Answer::Refused(number),
+        None => repair(recording, gap, passes, work),
+    }
+}
+
+/// The repair of a gap in a recording that refusals 1 to 3 do not turn away. "The needed part of the workspace
+/// is all +0 after an acceptance or after 8 or 9; after any other refusal it keeps its contents."
+fn repair(recording: &mut Recording, gap: Gap, passes: u32, work: &mut [u64]) -> Answer {
+    let n = recording.samples.len();
+    if gap.is_outside(n) {
+        return Answer::Refused(5);
+    }
+    let needed = gap.needed(n);
+    if work.len() < needed {
+        return Answer::Refused(6);
+    }
+    if let Some(place) = gap.read(n).find(|place| !in_range(recording.samples[*place])) {
+        return Answer::RefusedAt(7, place);
+    }
+    let named = gap.filled(&recording.samples, passes);
+    work[..needed].fill(0);
+    recording.commit(gap.mark(), &named)
+}
+
+/// What a scan answers.
+#[derive(Clone, Debug, PartialEq, Eq)]
+pub enum Scan {
+    /// Refused as a whole, by the number in the document's table: 1 to 4.
+    Refused(u32),
+    /// Each run that qualified, in order, and the answer of its repair.
+    Ran(Vec<(Gap, Answer)>),
+}
+
+impl Scan {
+    /// The runs that qualified, with their answers; none, where the scan was refused.
+    pub fn runs(&self) -> &[(Gap, Answer)] {
+        match self {
+            Scan::Refused(_) => &[],
+            Scan::Ran(runs) => runs,
+        }
+    }
+
+    pub fn qualified(&self) -> usize {
+        self.runs().len()
+    }
+
+    pub fn repaired(&self) -> usize {
+        self.runs().iter().filter(|(_, answer)| answer.number() == 0).count()
+    }
+
+    /// The number of the first refusal, or 0.
+    pub fn number(&self) -> u32 {
+        match self {
+            Scan::Refused(number) => *number,
+            Scan::Ran(runs) => runs.iter().map(|(_, answer)| answer.number()).find(|number| *number != 0).unwrap_or(0),
+        }
+    }
+}
+
+/// The automatic scan. "Each run is one gap repair with its own answer from 6 to 9; the scan goes on after a
+/// refused one." A repair writes to its run alone, so that the runs ahead of it stay as they were found.
+pub fn inpaint_auto(recording: &mut Recording, rate: u32, max_gap_ms: f32, work: &mut [u64]) -> Scan {
+    if let Some(number) = recording.refused_by_any_call() {
+        return Scan::Refused(number);
+    }
+    // "Rate at most 16,777,216 and finite max_gap_ms, else 4."
+    if rate > MOST_RATE || !max_gap_ms.is_finite() {
+        return Scan::Refused(4);
+    }
+    let limit = limit(rate, max_gap_ms);
+    let mut runs = dropouts(&recording.samples);
+    runs.retain(|run| run.qualifies(recording.samples.len(), limit));
+    Scan::Ran(runs.into_iter().map(|run| (run, repair(recording, run, SCAN_PASSES, work))).collect())
+}
+
+/// "The limit is (max_gap_ms/1000)*rate in f32, raised to 1, cut to a whole number; a product of plus infinity
+/// means no limit."
+pub fn limit(rate: u32, max_gap_ms: f32) -> usize {
+    let product = (max_gap_ms / 1000.0) * rate as f32;
+    if product == f32::INFINITY {
+        usize::MAX
+    } else if product > 1.0 {
+        product as usize
+    } else {
+        1
+    }
+}
+
+/// "A dropout run is a longest run of samples equal to zero (either sign) or NaN."
+fn dropouts(samples: &[u32]) -> Vec<Gap> {
+    let mut runs: Vec<Gap> = Vec::new();
+    for (place, word) in samples.iter().enumerate() {
+        let x = f32::from_bits(*word);
+        if x == 0.0 || x.is_nan() {
+            match runs.last_mut() {
+                Some(last) if last.start + last.len == place => last.len += 1,
+                _ => runs.push(Gap { start: place, len: 1 }),
+            }
+        }
+    }
+    runs
+}

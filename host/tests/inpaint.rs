@@ -1,0 +1,355 @@
+//! The repair of a gap and the automatic scan against the model of the recording and the original Rust: every
+//! answer and value, and every byte of the lent memory, with what stands around each part of it.
+//!
+//! `CATHAR_SEED` sets the seed.
+mod inpaint {
+    pub mod count;
+    pub mod gaps;
+    pub mod lengths;
+    pub mod limits;
+    pub mod room;
+    pub mod scans;
+    pub mod short;
+}
+
+use cathar_host::draw::{self, Draw};
+use cathar_host::inpaint::{Gap, Scan, MOST_RATE};
+use cathar_host::lent::{Lent, LentWork};
+use cathar_host::original;
+use cathar_host::recording::{Answer, Recording};
+use cathar_host::shapes::Shape;
+use inpaint::count::Count;
+use inpaint::gaps::{self, repair, repair_with, Gaps};
+use inpaint::limits::{self, Faults, LOUD, LOUD_GAP};
+use inpaint::room::{self, Room};
+use inpaint::scans::{self, dropped, near, scan, scan_any, Scans, Settings};
+use inpaint::{lengths, short};
+
+/// How many gaps are tried: in random short recordings over the alphabet, in short ones of each shape, by
+/// model and longer than 500, and by line; and how many sequences of repairs and undos.
+const RANDOM: u64 = 12_000;
+const SHAPED: u64 = 600;
+const LONG: usize = 510;
+const LINES: usize = 400;
+const SEQUENCES: u64 = 600;
+
+/// How many scans: of random short recordings over the alphabet, of each shape, and of longer ones.
+const RANDOM_SCANS: u64 = 3_000;
+const SHAPED_SCANS: u64 = 250;
+const LONG_SCANS: u64 = 150;
+
+/// A gap within n samples, mostly short.
+fn any_gap(draw: &mut Draw, n: usize) -> Gap {
+    let start = draw.below(n as u64) as usize;
+    let most = if draw.below(8) == 0 { n - start } else { (n - start).min(12) };
+    Gap { start, len: 1 + draw.below(most as u64) as usize }
+}
+
+/// Mostly 0 to 5, which the original is run with; at times the most.
+fn any_passes(draw: &mut Draw) -> u32 {
+    match draw.below(200) {
+        0 => u32::MAX,
+        _ => draw.below(6) as u32,
+    }
+}
+
+fn repair_any(count: &mut Gaps, draw: &mut Draw, samples: &[u32], gap: Gap, passes: u32) -> Answer {
+    let room = [Room::any(draw), Room::any(draw)];
+    repair_with(count, draw, samples, gap, passes, room)
+}
+
+/// All gaps of all recordings of up to five samples over the alphabet, most of them with one pass, since the
+/// original takes its time for each.
+fn repair_short(count: &mut Gaps, draw: &mut Draw) {
+    short::each(&mut |samples| {
+        for start in 0..samples.len() {
+            for len in 1..=samples.len() - start {
+                let passes = if draw.below(8) == 0 { any_passes(draw) } else { 1 };
+                repair_any(count, draw, samples, Gap { start, len }, passes);
+            }
+        }
+    });
+}
+
+/// Gaps of random recordings over the alphabet, and of each shape.
+fn repair_random(count: &mut Gaps, draw: &mut Draw) {
+    count.begin("random ones of 6 to 60 samples");
+    for _ in 0..RANDOM {
+        let samples = short::random(draw);
+        let (gap, passes) = (any_gap(draw, samples.len()), any_passes(draw));
+        repair_any(count, draw, &samples, gap, passes);
+    }
+    count.begin("each shape, 6 to 200 samples");
+    for shape in Shape::ALL {
+        for _ in 0..SHAPED {
+            let n = 6 + draw.below(195) as usize;
+            let samples = shape.samples(draw, n);
+            let (gap, passes) = (any_gap(draw, n), any_passes(draw));
+            repair_any(count, draw, &samples, gap, passes);
+        }
+    }
+}
+
+/// Gaps that are not within the recording, most of them, and calls to which several refusals apply.
+fn repair_refused(count: &mut Gaps, draw: &mut Draw) {
+    for samples in [&[][..], &LOUD[..1], &LOUD[..2], &LOUD] {
+        limits::gaps(samples.len().max(1), &mut |gap| {
+            let mut model = room::recording(draw, samples.to_vec(), 100);
+            let mut lent = Lent::new(&model);
+            let work = room::work(draw, 1000);
+            repair(count, &mut model, &mut lent, gap, 1, work);
+        });
+    }
+    for faults in Faults::each() {
+        let (mut model, work) = faults.made(draw);
+        let mut lent = Lent::new(&model);
+        let outside = [Gap { start: 6, len: 0 }, Gap { start: 13, len: 2 }, Gap { start: 14, len: 1 }];
+        let gap = if faults.of_gap() { outside[draw.below(3) as usize] } else { LOUD_GAP };
+        repair(count, &mut model, &mut lent, gap, 1, work);
+    }
+}
+
+/// Repairs and undos of one recording, and at the end undos until there is nothing to take back. Once the two
+/// sides have gone apart, there is no more to compare.
+fn repair_and_undo(count: &mut Gaps, draw: &mut Draw) {
+    let n = 6 + draw.below(150) as usize;
+    let samples = Shape::ALL[draw.below(9) as usize].samples(draw, n);
+    let mut model = room::recording(draw, samples, 200);
+    assert_eq!(model.open(), Answer::Accepted(0));
+    let opened = model.clone();
+    let mut lent = Lent::new(&model);
+    for _ in 0..2 + draw.below(8) {
+        if count.differs() {
+            return;
+        }
+        if draw.below(4) == 0 {
+            undo(&mut model, &mut lent);
+        } else {
+            let gap = any_gap(draw, n);
+            let length = Room::any(draw).of(draw, gap.needed(n));
+            let work = room::work(draw, length);
+            repair(count, &mut model, &mut lent, gap, 1, work);
+        }
+    }
+    while !count.differs() && undo(&mut model, &mut lent).number() == 0 {}
+    assert!(count.differs() || model == opened, "undone to the raw recording");
+}
+
+fn undo(model: &mut Recording, lent: &mut Lent) -> Answer {
+    let answer = model.undo();
+    assert_eq!((lent.undo(), lent.wrong(model, answer.value())), (answer.number(), vec![]), "undo among repairs");
+    answer
+}
+
+#[test]
+fn repairs() {
+    let seed = draw::seed();
+    let mut draw = Draw::new(seed);
+    let mut count = Count::new("cathar_inpaint_gap against model and original", gaps::CLASSES);
+    count.begin("all recordings of up to 5 samples");
+    repair_short(&mut count, &mut draw);
+    repair_random(&mut count, &mut draw);
+    count.begin("every length from 1 to 200");
+    lengths::every(&mut count, &mut draw);
+    count.begin("a sample not in range beside the window");
+    lengths::windows(&mut count, &mut draw);
+    count.begin("longer than 500");
+    lengths::long(&mut count, &mut draw, LONG);
+    count.begin("around 1024, 2048 and 4095");
+    lengths::edges(&mut count, &mut draw);
+    count.begin("longer than 2048");
+    lengths::lines(&mut count, &mut draw, LINES);
+    count.begin("outside, and several refusals apply");
+    repair_refused(&mut count, &mut draw);
+    count.begin("beside the most samples");
+    repair_large(&mut count, &mut draw);
+    count.begin("among undos");
+    for _ in 0..SEQUENCES {
+        repair_and_undo(&mut count, &mut draw);
+    }
+    count.close(seed);
+}
+
+/// The last gap that there is room for, in recordings of the most samples and of one more.
+fn repair_large(count: &mut Gaps, draw: &mut Draw) {
+    let works: Vec<u64> = room::work(draw, 5000);
+    limits::large(draw, &mut |mut model| {
+        let n = model.samples.len();
+        let mut lent = Lent::new(&model);
+        repair(count, &mut model, &mut lent, Gap { start: n - 4, len: 3 }, 1, works.clone());
+        repair(count, &mut model, &mut lent, Gap { start: n - 1, len: 2 }, 1, works.clone());
+        repair(count, &mut model, &mut lent, Gap { start: n - 1, len: 1 }, 1, works.clone());
+    });
+}
+
+/// Rates and milliseconds at the ends of what is allowed and past them, and where the limit is 1, a few
+/// samples, many, or none.
+fn each_setting(put: &mut dyn FnMut(Settings)) {
+    for rate in [0, 1, 999, 1000, 48_000, MOST_RATE - 1, MOST_RATE, MOST_RATE + 1, u32::MAX] {
+        for max_gap_ms in [0.0, -0.0, -1.0, 1e-38, 0.06, 1.0, 2.0, 2.5, 2.999, 3.0, 3.5, 4000.0, 1e30, f32::MAX] {
+            put((rate, max_gap_ms));
+        }
+        for max_gap_ms in [f32::MIN, f32::NAN, f32::INFINITY, f32::NEG_INFINITY] {
+            put((rate, max_gap_ms));
+        }
+    }
+}
+
+/// Scans of one recording with every setting. It has runs of 1 to 6 samples, and one of 3 at each end.
+fn scan_settings(count: &mut Scans, draw: &mut Draw) {
+    let mut samples = vec![0; 3];
+    for run in 1..=6 {
+        samples.extend([0x3f80_0000, 0xbf00_0000]);
+        samples.extend(vec![0x8000_0000; run]);
+    }
+    samples.extend([0x3f80_0000, 0, 0, 0]);
+    each_setting(&mut |settings| {
+        scan_any(count, draw, &samples, settings);
+    });
+    for length in 0..8 {
+        for _ in 0..40 {
+            let settings = near(draw, length);
+            scan_any(count, draw, &samples, settings);
+        }
+    }
+}
+
+/// Scans to which several refusals apply.
+fn scan_refused(count: &mut Scans, draw: &mut Draw) {
+    for faults in Faults::each() {
+        let (mut model, work) = faults.made(draw);
+        let mut lent = Lent::new(&model);
+        let wrong = [(MOST_RATE + 1, 1.0), (48_000, f32::NAN), (48_000, f32::INFINITY)];
+        let settings = if faults.of_gap() { wrong[draw.below(3) as usize] } else { scans::USUAL };
+        scan(count, &mut model, &mut lent, settings, work);
+    }
+}
+
+/// Scans of each shape, with dropouts, and more of the one whose results are at times not in range.
+fn scan_shapes(count: &mut Scans, draw: &mut Draw) {
+    for shape in Shape::ALL.into_iter().chain([Shape::Signs; 7]) {
+        for _ in 0..SHAPED_SCANS {
+            let n = 20 + draw.below(200) as usize;
+            let samples = dropped(draw, shape, n, 12);
+            let settings = if draw.below(2) == 0 { scans::USUAL } else { near(draw, 6) };
+            scan_any(count, draw, &samples, settings);
+        }
+    }
+}
+
+/// Scans of some thousand samples, whose windows do not reach all of them, and with runs by line where there is
+/// no limit.
+fn scan_long(count: &mut Scans, draw: &mut Draw) {
+    for call in 0..LONG_SCANS {
+        let shape = [Shape::Tone, Shape::Noise, Shape::Signs][call as usize % 3];
+        let mut samples = dropped(draw, shape, 3000, 30);
+        scan_any(count, draw, &samples, scans::USUAL);
+        let line = 2049 + draw.below(100) as usize;
+        samples.splice(1500..1500, [vec![0; line], vec![0x3f80_0000]].concat());
+        if call % 3 != 2 {
+            scan_any(count, draw, &samples, (48_000, f32::MAX));
+        }
+    }
+}
+
+#[test]
+fn scanned() {
+    let seed = draw::seed();
+    let mut draw = Draw::new(seed);
+    let mut count = Count::new("cathar_inpaint_auto against model and original", scans::CLASSES);
+    count.begin("all recordings of up to 5 samples");
+    short::each(&mut |samples| {
+        scan_any(&mut count, &mut draw, samples, scans::USUAL);
+    });
+    count.begin("random ones of 6 to 60 samples");
+    for _ in 0..RANDOM_SCANS {
+        let samples = short::random(&mut draw);
+        scan_any(&mut count, &mut draw, &samples, scans::USUAL);
+    }
+    count.begin("each shape with dropouts");
+    scan_shapes(&mut count, &mut draw);
+    count.begin("of 3,000 samples and more");
+    scan_long(&mut count, &mut draw);
+    count.begin("every setting");
+    scan_settings(&mut count, &mut draw);
+    count.begin("several refusals apply");
+    scan_refused(&mut count, &mut draw);
+    count.begin("beside the most samples");
+    let works: Vec<u64> = room::work(&mut draw, 5000);
+    limits::large(&mut draw, &mut |mut model| {
+        let mut lent = Lent::new(&model);
+        scan(&mut count, &mut model, &mut lent, scans::USUAL, works.clone());
+    });
+    count.close(seed);
+}
+
+/// The library repairs one gap of an opened recording with enough room. What it leaves: samples and marks.
+fn repaired(samples: Vec<u32>, gap: Gap) -> (Vec<u32>, Vec<u8>) {
+    let n = samples.len();
+    let mut model = Recording { samples, marks: vec![0; n], journal: vec![0; 3 * gap.len + 2], used: 0 };
+    let mut lent = Lent::new(&model);
+    let mut work = vec![u64::MAX; gap.needed(n)];
+    let number = lent.inpaint_gap(gap, 3, &mut LentWork::new(&work));
+    assert_eq!(cathar_host::inpaint::inpaint_gap(&mut model, gap, 3, &mut work), Answer::Accepted(gap.len));
+    assert_eq!((number, lent.wrong(&model, gap.len)), (0, vec![]));
+    (model.samples, model.marks)
+}
+
+/// The document's sums: *quiet*; 4097 samples with ends 0 and 4096, whose places become their numbers; and the
+/// marks of gaps of 2048 and 2049.
+#[test]
+fn sums() {
+    let tiny = 0x3080_0000;
+    let (samples, marks) = repaired(vec![tiny, tiny, 0, 0, tiny, tiny], Gap { start: 2, len: 2 });
+    assert_eq!(samples, [tiny, tiny, 0x8000_0000, 0, tiny, tiny]);
+    assert_eq!(marks, [0, 0, 1, 1, 0, 0]);
+    let mut line = vec![0x7fc0_0000; 4097];
+    line[0] = 0;
+    line[4096] = 4096.0f32.to_bits();
+    let (samples, marks) = repaired(line, Gap { start: 1, len: 4095 });
+    assert!((0..4097).all(|place| samples[place] == (place as f32).to_bits()), "place i becomes i");
+    assert!((1..4096).all(|place| marks[place] == 2) && marks[0] == 0 && marks[4096] == 0);
+    for (len, mark) in [(2048, 1), (2049, 2)] {
+        let (_, marks) = repaired(vec![0x3f80_0000; 2060], Gap { start: 5, len });
+        assert!((0..2060).all(|place| marks[place] == if (5..5 + len).contains(&place) { mark } else { 0 }));
+    }
+}
+
+/// Refusal 8, whole: the place is the gap's second.
+#[test]
+fn a_result_not_in_range() {
+    let mut count = Count::new("a result not in range", &[]);
+    count.begin("14 samples");
+    let answer = repair_with(&mut count, &mut Draw::new(1), &LOUD, LOUD_GAP, 3, [Room::Exact, Room::Exact]);
+    assert_eq!(answer, Answer::RefusedAt(8, 7));
+    count.close(1);
+}
+
+/// The smallest recordings in which the original's scan writes a NaN, where ours gives 7: five samples.
+#[test]
+fn where_the_original_writes_nan() {
+    let words = [0, 0x3f80_0000, 0x7fc0_0000];
+    let mut count: Scans = Count::new("where the original writes a NaN", &[]);
+    count.begin("scans");
+    let mut found = Vec::new();
+    for n in 0..=5 {
+        for number in 0..3usize.pow(n) {
+            let samples: Vec<u32> = (0..n).map(|place| words[number / 3usize.pow(place) % 3]).collect();
+            let before: Vec<f32> = samples.iter().map(|word| f32::from_bits(*word)).collect();
+            let after = original::inpaint::inpaint_auto(&before, 48_000, 1.0);
+            if before.iter().zip(&after).any(|(x, y)| !x.is_nan() && y.is_nan()) {
+                let mut model = room::recording(&mut Draw::new(1), samples, 100);
+                let mut lent = Lent::new(&model);
+                let scan = scan(&mut count, &mut model, &mut lent, scans::USUAL, vec![1; 1000]);
+                found.push((before, after, scan));
+            }
+        }
+    }
+    for (before, after, scan) in &found {
+        println!("the original makes {after:?} of {before:?}, and the rules give {:?}", scan.runs());
+        assert_eq!(before.len(), 5);
+        assert!(matches!(scan, Scan::Ran(runs) if matches!(runs[..], [(_, Answer::RefusedAt(7, _))])));
+    }
+    assert!(!found.is_empty());
+    count.close(1);
+}

@@ -1,0 +1,141 @@
+//! One repair of a gap by both sides, and what is counted of it.
+use super::count::{Class, Count};
+use super::room::{self, Room};
+use cathar_host::draw::Draw;
+use cathar_host::inpaint::{inpaint_gap, Gap};
+use cathar_host::lent::{Lent, LentWork};
+use cathar_host::recording::{entry_words, Answer, Recording};
+
+/// A call, and what the model answers.
+#[derive(Debug)]
+pub struct Call {
+    pub samples: usize,
+    pub gap: Gap,
+    pub passes: u32,
+    /// How many doubles the workspace has.
+    pub work: usize,
+    /// How many journal words were free.
+    pub free: usize,
+    pub answer: Answer,
+}
+
+impl Call {
+    fn is_accepted(&self) -> bool {
+        self.answer.number() == 0
+    }
+
+    fn is_accepted_model(&self) -> bool {
+        self.is_accepted() && !self.gap.is_line()
+    }
+
+    fn at_start(&self) -> bool {
+        self.gap.start == 0
+    }
+
+    fn at_end(&self) -> bool {
+        self.gap.start.wrapping_add(self.gap.len) == self.samples
+    }
+
+    fn overflows(&self) -> bool {
+        self.gap.start.checked_add(self.gap.len).is_none()
+    }
+
+    fn has_exact_work(&self) -> bool {
+        self.is_accepted() && self.work == self.gap.needed(self.samples)
+    }
+
+    fn is_one_double_short(&self) -> bool {
+        self.answer.number() == 6 && self.work + 1 == self.gap.needed(self.samples)
+    }
+
+    fn is_one_word_short(&self) -> bool {
+        self.answer.number() == 9 && self.free + 1 == entry_words(self.gap.len)
+    }
+}
+
+pub type Gaps = Count<Call>;
+
+/// What the calls have to be, all of them together.
+pub const CLASSES: &[Class<Call>] = &[
+    Class { name: "accepted", least: 20_000, holds: Call::is_accepted },
+    Class { name: "by model", least: 20_000, holds: Call::is_accepted_model },
+    Class { name: "by model, longer than 500", least: 500, holds: |c| c.is_accepted_model() && c.gap.len > 500 },
+    Class { name: "by model, of 2047", least: 3, holds: |c| c.is_accepted_model() && c.gap.len == 2047 },
+    Class { name: "by model, of 2048", least: 3, holds: |c| c.is_accepted_model() && c.gap.len == 2048 },
+    Class { name: "by line", least: 100, holds: |c| c.is_accepted() && c.gap.is_line() },
+    Class { name: "by line, of 2049", least: 3, holds: |c| c.is_accepted() && c.gap.len == 2049 },
+    Class { name: "by line, of 4095", least: 3, holds: |c| c.is_accepted() && c.gap.len == 4095 },
+    Class { name: "at the start", least: 500, holds: |c| c.is_accepted() && c.at_start() && !c.at_end() },
+    Class { name: "in the middle", least: 500, holds: |c| c.is_accepted() && !c.at_start() && !c.at_end() },
+    Class { name: "at the end", least: 500, holds: |c| c.is_accepted() && !c.at_start() && c.at_end() },
+    Class { name: "the whole recording", least: 500, holds: |c| c.is_accepted() && c.at_start() && c.at_end() },
+    Class { name: "0 passes", least: 500, holds: |c| c.is_accepted() && c.passes == 0 },
+    Class { name: "1 pass", least: 500, holds: |c| c.is_accepted() && c.passes == 1 },
+    Class { name: "2 passes", least: 500, holds: |c| c.is_accepted() && c.passes == 2 },
+    Class { name: "3 passes", least: 500, holds: |c| c.is_accepted() && c.passes == 3 },
+    Class { name: "4 passes", least: 500, holds: |c| c.is_accepted() && c.passes == 4 },
+    Class { name: "5 passes", least: 500, holds: |c| c.is_accepted() && c.passes == 5 },
+    Class { name: "2^32-1 passes", least: 1, holds: |c| c.is_accepted() && c.passes == u32::MAX },
+    Class { name: "workspace exact", least: 500, holds: Call::has_exact_work },
+    Class { name: "workspace longer", least: 500, holds: |c| c.is_accepted() && !c.has_exact_work() },
+    Class { name: "journal exact", least: 500, holds: |c| c.is_accepted() && c.free == entry_words(c.gap.len) },
+    Class { name: "answered 1", least: 10, holds: |c| c.answer.number() == 1 },
+    Class { name: "answered 2", least: 3, holds: |c| c.answer.number() == 2 },
+    Class { name: "answered 3", least: 10, holds: |c| c.answer.number() == 3 },
+    Class { name: "answered 5", least: 100, holds: |c| c.answer.number() == 5 },
+    Class { name: "start and length together past 2^64", least: 10, holds: Call::overflows },
+    Class { name: "answered 6", least: 100, holds: |c| c.answer.number() == 6 },
+    Class { name: "workspace one short", least: 100, holds: Call::is_one_double_short },
+    Class { name: "answered 7", least: 100, holds: |c| c.answer.number() == 7 },
+    Class {
+        name: "answered 7 past the first 1,000",
+        least: 10,
+        holds: |c| c.answer.number() == 7 && c.answer.value() > 999,
+    },
+    Class { name: "answered 7 for a line", least: 10, holds: |c| c.answer.number() == 7 && c.gap.is_line() },
+    Class { name: "answered 8", least: 10, holds: |c| c.answer.number() == 8 },
+    Class { name: "answered 9", least: 100, holds: |c| c.answer.number() == 9 },
+    Class { name: "journal one short", least: 100, holds: Call::is_one_word_short },
+];
+
+/// Both sides repair the gap in a workspace of these patterns. The answer is the model's.
+pub fn repair(
+    count: &mut Gaps,
+    model: &mut Recording,
+    lent: &mut Lent,
+    gap: Gap,
+    passes: u32,
+    mut work: Vec<u64>,
+) -> Answer {
+    let mut lent_work = LentWork::new(&work);
+    let free = model.journal.len().saturating_sub(model.used);
+    let answer = inpaint_gap(model, gap, passes, &mut work);
+    let number = lent.inpaint_gap(gap, passes, &mut lent_work);
+    let mut wrong = lent.wrong(model, answer.value());
+    if number != answer.number() {
+        wrong.push("answer");
+    }
+    if !lent_work.holds(&work) {
+        wrong.push("workspace");
+    }
+    count.take(&Call { samples: model.samples.len(), gap, passes, work: work.len(), free, answer }, &wrong);
+    answer
+}
+
+/// Both sides repair a gap that lies within these samples, with so much workspace and journal.
+pub fn repair_with(
+    count: &mut Gaps,
+    draw: &mut Draw,
+    samples: &[u32],
+    gap: Gap,
+    passes: u32,
+    [work, journal]: [Room; 2],
+) -> Answer {
+    let needed = gap.needed(samples.len());
+    let work = work.of(draw, needed);
+    let work = room::work(draw, work);
+    let free = journal.of(draw, entry_words(gap.len));
+    let mut model = room::recording(draw, samples.to_vec(), free);
+    let mut lent = Lent::new(&model);
+    repair(count, &mut model, &mut lent, gap, passes, work)
+}

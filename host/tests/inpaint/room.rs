@@ -1,0 +1,59 @@
+//! What a call is lent beside the samples: marks, a journal and a workspace, all of any words, and just long
+//! enough or not.
+use cathar_host::draw::Draw;
+use cathar_host::recording::Recording;
+
+/// How much is lent, by what is needed.
+#[derive(Clone, Copy, Debug, PartialEq, Eq)]
+pub enum Room {
+    OneShort,
+    Exact,
+    Longer,
+}
+
+impl Room {
+    /// Enough, and as often exactly so as more.
+    pub fn enough(draw: &mut Draw) -> Room {
+        [Room::Exact, Room::Longer][draw.below(2) as usize]
+    }
+
+    /// Mostly enough.
+    pub fn any(draw: &mut Draw) -> Room {
+        match draw.below(8) {
+            0 => Room::OneShort,
+            _ => Room::enough(draw),
+        }
+    }
+
+    /// How many are lent where so many, at least one, are needed.
+    pub fn of(self, draw: &mut Draw, needed: usize) -> usize {
+        match self {
+            Room::OneShort => needed - 1,
+            Room::Exact => needed,
+            Room::Longer => needed + 1 + draw.below(9) as usize,
+        }
+    }
+}
+
+/// A recording of these samples, with any marks, and with a journal of any words, of which so many are free.
+pub fn recording(draw: &mut Draw, samples: Vec<u32>, free: usize) -> Recording {
+    let used = [0, 1, 5, 8][draw.below(4) as usize];
+    let marks = samples.iter().map(|_| draw.word() as u8).collect();
+    let journal = (0..used + free).map(|_| draw.word() as u32).collect();
+    Recording { samples, marks, journal, used }
+}
+
+/// The patterns of a workspace of so many doubles: any, and one in four a NaN. Each is made from the one before
+/// by a product and a sum, since there are many.
+pub fn work(draw: &mut Draw, length: usize) -> Vec<u64> {
+    let mut word = draw.word();
+    let mut next = || {
+        word = word.wrapping_mul(0x5851_f42d_4c95_7f2d).wrapping_add(0x1405_7b7e_f767_814f);
+        if word >> 62 == 0 {
+            word | 0x7ff0_0000_0000_0001
+        } else {
+            word
+        }
+    };
+    (0..length).map(|_| next()).collect()
+}

@@ -1,0 +1,140 @@
+//! A list of the original Rust's answers, for a program that runs it. The file in the repository is held to
+//! that. With `CATHAR_WRITE=1` it is written anew.
+//!
+//! Each line is one case. It ends in a newline, and its parts are separated by one space. The first is a
+//! letter, and all others are words of eight hexadecimal digits in lower case. All samples are words of f32.
+//!
+//! A line `g` is the repair of one gap:
+//!
+//!     g start len n samples.. answer..
+//!
+//! with n samples, all in range, and then what the original's `inpaint_gap` writes at the `len` places from
+//! `start` on at 3 passes, all in range: so the repair is accepted, and all other samples stay.
+//!
+//! A line `s` is a scan at the rate 48,000 with the limit 1 ms, which is 48 samples:
+//!
+//!     s n samples.. after..
+//!
+//! with n samples, and then all n samples as the original's `inpaint_auto` leaves them. Every run that
+//! qualifies is repaired. A sample that is not in range is a NaN within the first such run.
+use cathar_host::draw::{Draw, SEED};
+use cathar_host::inpaint::{inpaint_auto, inpaint_gap, Gap};
+use cathar_host::original::inpaint as original;
+use cathar_host::recording::{in_range, Answer, Recording};
+use cathar_host::shapes::Shape;
+use std::env;
+use std::fs;
+use std::path::Path;
+
+/// The list is shorter than this, in bytes.
+const MOST_BYTES: usize = 60_000;
+
+/// The shapes of the samples around a gap.
+const SHAPES: [Shape; 4] = [Shape::Tone, Shape::Noise, Shape::Steps, Shape::Words];
+
+/// How many gaps there are, and how long they get.
+const GAPS: usize = 60;
+const LONGEST_GAP: usize = 12;
+
+/// The dropouts of each scan, which are as many samples apart as the rest of its n allows: 1 sample does not
+/// qualify and 2 do, 48 do and 49 do not.
+const SCANS: [(Shape, usize, &[usize]); 8] = [
+    (Shape::Tone, 40, &[2, 3, 2]),
+    (Shape::Noise, 50, &[1, 2, 3, 4]),
+    (Shape::Steps, 64, &[5, 1, 6]),
+    (Shape::Tone, 80, &[12, 2, 9]),
+    (Shape::Noise, 96, &[2, 3, 5, 7, 11]),
+    (Shape::Quiet, 100, &[8, 16]),
+    (Shape::Loud, 110, &[20, 4, 4]),
+    (Shape::Tone, 120, &[48, 49]),
+];
+
+fn floats(samples: &[u32]) -> Vec<f32> {
+    samples.iter().map(|word| f32::from_bits(*word)).collect()
+}
+
+fn recording(samples: &[u32]) -> Recording {
+    Recording { samples: samples.to_vec(), marks: vec![0; samples.len()], journal: vec![0; 1000], used: 0 }
+}
+
+fn line(letter: char, words: impl Iterator<Item = u32>) -> String {
+    let words: String = words.map(|word| format!(" {word:08x}")).collect();
+    format!("{letter}{words}\n")
+}
+
+/// The line of one gap, or nothing where a result is not in range.
+fn gap_line(samples: &[u32], gap: Gap) -> Option<String> {
+    let Gap { start, len } = gap;
+    let after = original::inpaint_gap(&floats(samples), start, len, 3);
+    let answer = after[start..start + len].iter().map(|x| x.to_bits());
+    let model = inpaint_gap(&mut recording(samples), gap, 3, &mut vec![0; gap.needed(samples.len())]);
+    if model != Answer::Accepted(len) {
+        return None;
+    }
+    let numbers = [start as u32, len as u32, samples.len() as u32];
+    Some(line('g', numbers.into_iter().chain(samples.iter().copied()).chain(answer)))
+}
+
+/// Gaps in each shape at the start, in the middle and at the end of 6 to 60 samples. With each turn through
+/// the lengths, every length comes to another shape and another place.
+fn gaps(draw: &mut Draw) -> String {
+    let mut text = String::new();
+    let mut lines = 0;
+    while lines < GAPS {
+        let len = 1 + lines % LONGEST_GAP;
+        let turned = len + lines / LONGEST_GAP;
+        let n = (len + 2).max(6) + draw.below(47) as usize;
+        let start = [0, 1 + draw.below((n - len - 1) as u64) as usize, n - len][turned % 3];
+        let samples = SHAPES[turned % SHAPES.len()].samples(draw, n);
+        if let Some(line) = gap_line(&samples, Gap { start, len }) {
+            text += &line;
+            lines += 1;
+        }
+    }
+    text
+}
+
+/// Samples with these dropouts, each of zeros of one sign, the first at times of NaN: a later one of NaN
+/// would stand in the windows of those before it.
+fn dropped(draw: &mut Draw, shape: Shape, n: usize, dropouts: &[usize]) -> Vec<u32> {
+    let mut samples = shape.samples(draw, n);
+    let between = (n - dropouts.iter().sum::<usize>()) / (dropouts.len() + 1);
+    let mut start = between;
+    for len in dropouts {
+        let words = if start == between && *len > 1 { 3 } else { 2 };
+        let word = [0, 0x8000_0000, 0x7fc0_0000][draw.below(words) as usize];
+        samples[start..start + len].fill(word);
+        start += len + between;
+    }
+    samples
+}
+
+fn scan_line(samples: &[u32]) -> String {
+    let after: Vec<u32> = original::inpaint_auto(&floats(samples), 48_000, 1.0).iter().map(|x| x.to_bits()).collect();
+    let mut model = recording(samples);
+    let scan = inpaint_auto(&mut model, 48_000, 1.0, &mut vec![0; 10_000]);
+    assert!(scan.number() == 0 && scan.qualified() > 0, "the scan of a line: {scan:?}");
+    assert!(model.samples == after && after.iter().all(|word| in_range(*word)), "the original and the model");
+    line('s', [samples.len() as u32].into_iter().chain(samples.iter().copied()).chain(after))
+}
+
+fn list() -> String {
+    let mut draw = Draw::new(SEED);
+    let mut text = gaps(&mut draw);
+    for (shape, n, dropouts) in SCANS {
+        text += &scan_line(&dropped(&mut draw, shape, n, dropouts));
+    }
+    text
+}
+
+#[test]
+fn the_list_of_repairs() {
+    let file = Path::new(env!("CARGO_MANIFEST_DIR")).join("lists/inpaint.txt");
+    if env::var_os("CATHAR_WRITE").is_some() {
+        fs::write(&file, list()).expect("the list is written");
+    }
+    let stored = fs::read_to_string(&file).expect("the list is in the repository");
+    assert!(stored == list(), "{} is not the list that this test makes", file.display());
+    assert!(stored.len() < MOST_BYTES, "{} bytes are too many", stored.len());
+    println!("the list of repairs: {} lines, each as the original gives it", stored.lines().count());
+}
