@@ -86,20 +86,25 @@ fn same(list: &[u8], at: usize, samples: &[u32]) -> bool
     true
 }
 
-// Whether the gap whose n samples stand in the list from `at` on, with its len new words behind them, is
-// repaired so.
-fn gap_agrees(list: &[u8], at: usize, n: usize, start: usize, len: usize) -> bool
-    requires { ⌜ (at + 9 * (n + len) ≤ length (now list)) × (start + len ≤ n) × (n ≤ 120) ⌝ }
+// Whether the gap of a recording whose samples stand in the list from `at` on, with the gap's new words
+// behind them, is repaired so. The samples and marks are lent, as many as the recording has.
+fn gap_agrees(
+    list: &[u8],
+    at: usize,
+    start: usize,
+    len: usize,
+    samples: &mut [u32],
+    marks: &mut [u8],
+) -> bool
+    requires { ⌜ (at + 9 * (length (now samples) + len) ≤ length (now list)) × (start + len ≤ length (now samples)) ⌝ }
 {
-    let mut samples = [0u32; MOST];
-    let mut marks = [0u8; MOST];
     let mut journal = [0u32; JOURNAL_WORDS];
     let mut work = [1.5f64; WORKSPACE];
     let mut used: usize = 0;
-    load(list, at, &mut samples[..n]);
+    load(list, at, samples);
     inpaint_gap(
-        &mut samples[..n],
-        &mut marks[..n],
+        samples,
+        marks,
         &mut journal,
         &mut used,
         start,
@@ -107,37 +112,36 @@ fn gap_agrees(list: &[u8], at: usize, n: usize, start: usize, len: usize) -> boo
         PASSES,
         &mut work,
     );
+    let n = samples.len();
     let end = start + len;
-    let all = &samples[..];
-    if !same(list, at, &all[0..start]) {
+    if !same(list, at, &samples[0..start]) {
         return false;
     }
-    if !same(list, at + WORD * n, &all[start..end]) {
+    if !same(list, at + WORD * n, &samples[start..end]) {
         return false;
     }
-    same(list, at + WORD * end, &all[end..n])
+    same(list, at + WORD * end, &samples[end..n])
 }
 
-// Whether the recording whose n samples stand in the list from `at` on is scanned to the n behind them.
-fn scan_agrees(list: &[u8], at: usize, n: usize) -> bool
-    requires { ⌜ (at + 9 * (n + n) ≤ length (now list)) × (n ≤ 120) ⌝ }
+// Whether the recording whose samples stand in the list from `at` on is scanned to those behind them. The
+// samples and marks are lent, as many as the recording has.
+fn scan_agrees(list: &[u8], at: usize, samples: &mut [u32], marks: &mut [u8]) -> bool
+    requires { ⌜ at + 18 * length (now samples) ≤ length (now list) ⌝ }
 {
-    let mut samples = [0u32; MOST];
-    let mut marks = [0u8; MOST];
     let mut journal = [0u32; JOURNAL_WORDS];
     let mut work = [1.5f64; WORKSPACE];
     let mut used: usize = 0;
-    load(list, at, &mut samples[..n]);
+    load(list, at, samples);
     inpaint_auto(
-        &mut samples[..n],
-        &mut marks[..n],
+        samples,
+        marks,
         &mut journal,
         &mut used,
         RATE,
         1.0,
         &mut work,
     );
-    same(list, at + WORD * n, &samples[..n])
+    same(list, at + WORD * samples.len(), samples)
 }
 
 // Where the case that begins at `at` ends, or the list's end where that comes first.
@@ -178,7 +182,16 @@ fn gap_case(list: &[u8], at: usize) -> bool
     if list.len() - at - HEADER < WORD * (n + len) {
         return false;
     }
-    gap_agrees(list, at + HEADER, n, start, len)
+    let mut samples = [0u32; MOST];
+    let mut marks = [0u8; MOST];
+    gap_agrees(
+        list,
+        at + HEADER,
+        start,
+        len,
+        &mut samples[..n],
+        &mut marks[..n],
+    )
 }
 
 // Whether the scan of the case that begins at `at` agrees.
@@ -190,10 +203,12 @@ fn scan_case(list: &[u8], at: usize) -> bool
     if MOST < n {
         return false;
     }
-    if list.len() - first - WORD < WORD * (n + n) {
+    if list.len() - first - WORD < 2 * WORD * n {
         return false;
     }
-    scan_agrees(list, first + WORD, n)
+    let mut samples = [0u32; MOST];
+    let mut marks = [0u8; MOST];
+    scan_agrees(list, first + WORD, &mut samples[..n], &mut marks[..n])
 }
 
 // Whether the case that begins at `at` agrees.
