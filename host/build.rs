@@ -3,17 +3,13 @@ use std::env;
 use std::fs;
 use std::path::{Path, PathBuf};
 
-/// Where the original's sources stand if `CATHAR_ORIGINAL` does not say it, from this package's folder: in
-/// the documents' folder beside the checkout.
-const ORIGINAL: &str = "../../shared/docs/src/crates/cathar/src";
-
 /// The files of the original that are taken, each by its name without the ending.
 const TAKEN: [&str; 1] = ["inpaint"];
 
 fn main() {
     let host = PathBuf::from(env::var_os("CARGO_MANIFEST_DIR").expect("cargo sets CARGO_MANIFEST_DIR"));
     link_library(&host);
-    name_original(&host);
+    name_original();
 }
 
 fn link_library(host: &Path) {
@@ -30,9 +26,9 @@ fn link_library(host: &Path) {
 }
 
 /// Writes the lines that `src/original.rs` includes: a module for each of the original's files.
-fn name_original(host: &Path) {
+fn name_original() {
     println!("cargo:rerun-if-env-changed=CATHAR_ORIGINAL");
-    let folder = host.join(env::var_os("CATHAR_ORIGINAL").unwrap_or_else(|| ORIGINAL.into()));
+    let folder = PathBuf::from(env::var_os("CATHAR_ORIGINAL").unwrap_or_default());
     let mut lines = String::new();
     for name in TAKEN {
         let file = folder.join(name).with_extension("rs");

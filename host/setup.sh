@@ -72,7 +72,21 @@ run_cargo() {
     esac
 }
 
+# The folder with the original's sources: as CATHAR_ORIGINAL says, or the first that is found beside the
+# checkout.
+find_original() {
+    [ -z "${CATHAR_ORIGINAL:-}" ] || return 0
+    found=$(find .. -maxdepth 8 -path '*/crates/cathar/src/inpaint.rs' 2>/dev/null | head -n 1)
+    [ -n "$found" ] || {
+        say "the sources of the original crate cathar are not beside this checkout: set CATHAR_ORIGINAL to their folder"
+        exit 2
+    }
+    CATHAR_ORIGINAL=$(cd "$(dirname "$found")" && pwd)
+    export CATHAR_ORIGINAL
+}
+
 cd "$(dirname "$0")/.."
 need rt
+find_original
 rt staticlib cathar
 cd host

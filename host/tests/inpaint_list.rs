@@ -1,4 +1,4 @@
-//! A list of the original Rust's answers, for a program that runs it. The file in the repository is held to
+//! A list of the original Rust's answers, which the program `gaplist` runs. The file in the repository is held to
 //! that. With `CATHAR_WRITE=1` it is written anew.
 //!
 //! Each line is one case. It ends in a newline, and its parts are separated by one space. The first is a
@@ -129,7 +129,7 @@ fn list() -> String {
 
 #[test]
 fn the_list_of_repairs() {
-    let file = Path::new(env!("CARGO_MANIFEST_DIR")).join("lists/inpaint.txt");
+    let file = Path::new(env!("CARGO_MANIFEST_DIR")).join("../crates/gaplist/stdin");
     if env::var_os("CATHAR_WRITE").is_some() {
         fs::write(&file, list()).expect("the list is written");
     }

@@ -1,0 +1,94 @@
+//! What the program `repair` is to write for each of the recordings in `samples`: from the model of the scan,
+//! whose new samples are the original's. The files `.out` beside the recordings are held to that, and
+//! `samples/check` holds the program to the files. With `CATHAR_WRITE=1` recordings and files are written anew.
+use cathar_host::draw::{Draw, SEED};
+use cathar_host::inpaint::inpaint_auto;
+use cathar_host::recording::Recording;
+use cathar_host::shapes::Shape;
+use std::env;
+use std::fs;
+use std::path::{Path, PathBuf};
+
+/// What document 01 says of the program: the most samples, the journal's words, rate and limit.
+const MOST: usize = 4096;
+const JOURNAL: usize = 12_288;
+const RATE: u32 = 48_000;
+const LIMIT: f32 = 1.0;
+
+/// The dropouts of the pump: a run of 1 does not qualify, nor does one of 49, nor one at an end.
+const PUMP: [(usize, usize); 8] =
+    [(0, 2), (137, 5), (410, 2), (600, 1), (801, 48), (1100, 49), (1500, 17), (2046, 2)];
+
+fn bytes(samples: &[u32]) -> Vec<u8> {
+    samples.iter().flat_map(|word| word.to_le_bytes()).collect()
+}
+
+/// The words of an input, unless it is turned away.
+fn words(input: &[u8]) -> Option<Vec<u32>> {
+    if input.len() % 4 != 0 || input.len() > 4 * MOST {
+        return None;
+    }
+    Some(input.chunks(4).map(|four| u32::from_le_bytes([four[0], four[1], four[2], four[3]])).collect())
+}
+
+/// The program's output for an input.
+fn output(input: &[u8]) -> String {
+    let samples = match words(input) {
+        Some(samples) => samples,
+        None => return String::from("bad input\n"),
+    };
+    let n = samples.len();
+    let mut recording = Recording { samples, marks: vec![0; n], journal: vec![0; JOURNAL], used: 0 };
+    let scan = inpaint_auto(&mut recording, RATE, LIMIT, &mut vec![0; 10_000]);
+    let counts = (scan.qualified(), scan.repaired(), scan.number());
+    let mut text = format!("samples {n}\nqualified {} repaired {} refused {}\n", counts.0, counts.1, counts.2);
+    for (place, mark) in recording.marks.iter().enumerate().filter(|(_, mark)| **mark != 0) {
+        text += &format!("{place} {mark} {:08x}\n", recording.samples[place]);
+    }
+    text + "end\n"
+}
+
+fn with_dropouts(mut samples: Vec<u32>, dropouts: &[(usize, usize)], word: u32) -> Vec<u8> {
+    for (start, len) in dropouts {
+        samples[*start..start + len].fill(word);
+    }
+    bytes(&samples)
+}
+
+/// The recordings: a pump's tone with dropouts; *quiet*; the longest input, with a run at every third place
+/// but one; a NaN that one window holds and another does not; and inputs of no sample, of 3 bytes and of one
+/// sample too many.
+fn recordings() -> Vec<(&'static str, Vec<u8>)> {
+    let mut draw = Draw::new(SEED);
+    let often: Vec<(usize, usize)> = (0..1364).map(|k| (1 + 3 * k, 2)).collect();
+    let mut held = Shape::Noise.samples(&mut draw, 3000);
+    held[2999] = 0x7fc0_0000;
+    let soft = 0x3080_0000;
+    vec![
+        ("pump", with_dropouts(Shape::Tone.samples(&mut draw, 2048), &PUMP, 0x8000_0000)),
+        ("quiet", bytes(&[soft, soft, 0, 0, soft, soft])),
+        ("often", with_dropouts(Shape::Steps.samples(&mut draw, MOST), &often, 0)),
+        ("refused", with_dropouts(held, &[(500, 3), (2900, 4)], 0)),
+        ("empty", Vec::new()),
+        ("odd", vec![0, 0, 0x80]),
+        ("over", vec![0; 4 * MOST + 4]),
+    ]
+}
+
+fn file(name: &str, ending: &str) -> PathBuf {
+    Path::new(env!("CARGO_MANIFEST_DIR")).join("../samples").join(name).with_extension(ending)
+}
+
+#[test]
+fn what_the_program_is_to_write() {
+    for (name, input) in recordings() {
+        let text = output(&input);
+        if env::var_os("CATHAR_WRITE").is_some() {
+            fs::write(file(name, "f32"), &input).expect("the recording is written");
+            fs::write(file(name, "out"), &text).expect("the output is written");
+        }
+        assert!(fs::read(file(name, "f32")).expect("the recording is there") == input, "{name}.f32");
+        assert!(fs::read_to_string(file(name, "out")).expect("the output is there") == text, "{name}.out");
+        println!("{name}: {}", text.lines().take(2).collect::<Vec<_>>().join(", "));
+    }
+}
