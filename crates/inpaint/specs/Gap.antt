@@ -9,7 +9,8 @@ use lib.IntN.{pos}
 use lib.Ieee.{Float, binary32, ofBits, toBits, ofInt, add, sub, mul, div}
 use Rattle.leaves.specs.Arithmetic.{_+₃₂_, _-₃₂_, _*₃₂_, _/₃₂_, nought, one}
 use Rattle.leaves.specs.Floats.{inRange, narrowed}
-use Rattle.recording.specs.Recording.{State, Ended, Plan, refuse, change, span, performed, if_then_else_, gapByModel, gapByLine}
+use Rattle.recording.specs.Recording.{State, Ended, Plan, refuse, change, span, performed, if_then_else_, gapByModel}
+use Rattle.recording.specs.Recording.{gapByLine}
 use Rattle.recording.specs.declared.Reason.the-variants.{Gap, Workspace, Read}
 use Rattle.recording.specs.declared.Answer.{Answer}
 use Rattle.recording.specs.declared.Answer.the-variants.{Done, Refused}

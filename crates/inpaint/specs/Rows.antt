@@ -5,7 +5,6 @@ use Prim.Native.Nat.{ℕ}
 use mathlib.Core.Path.{_≡_, refl}
 use mathlib.Core.List.{List, [], _∷_, _++_}
 use lib.ListN.{replicate}
-use lib.Ieee.{Float}
 use Rattle.leaves.specs.Arithmetic.{nought, one}
 use Rattle.recording.specs.Recording.{undone}
 use Rattle.recording.specs.Rows.{rawWords, quiet, row, shown, recordingShould}

@@ -2,7 +2,7 @@
 -- grows by one store. Assumes nothing.
 use mathlib.Core.Path.{_≡_, refl, sym, ap, _∙_}
 use mathlib.Core.List.{List, [], _∷_, _++_, append-assoc}
-use Prim.Native.Nat.{ℕ, zero, suc, _+_, _-_, _≤_, _<_, min}
+use Prim.Native.Nat.{ℕ, zero, suc, _+_, _-_, _≤_, _<_}
 use native.Mathlib.Omega.{arith}
 use lib.ListN.{length, take, drop, set, take-append-drop, length-drop}
 use lib.Seq.{sets, sets-eq, length-sets, take-take, drop-drop, take-set-le, drop-set-lt, drop-set-add, take-suc-set}

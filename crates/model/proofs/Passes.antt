@@ -1,7 +1,7 @@
 -- The passes: what stands in the gap has no say in a pass, so every number of passes gives what one gives. Assumes nothing.
 use mathlib.Core.Path.{_≡_, refl, sym, ap, _∙_}
-use mathlib.Core.Bool.{Bool, true, false, true≢false, _&&_, cond}
-use mathlib.Core.List.{List, [], _∷_, _++_, append-assoc}
+use mathlib.Core.Bool.{Bool, true, false, true≢false, _&&_}
+use mathlib.Core.List.{List, [], _++_, append-assoc}
 use Prim.Native.Nat.{ℕ, zero, suc, _+_, _-_, _≤_, _<_, min}
 use native.Mathlib.Omega.{arith}
 use mathlib.Core.Logic.{inl, inr}
@@ -9,12 +9,12 @@ use lib.ListN.{length, take, drop}
 use lib.Dec.{ltb}
 use lib.Seq.{sets, sets-eq, length-sets}
 use lib.Ieee.{Float, nan, neg}
-use borrow.Author.Tests.{lt-ltb, le-ltb, le-leb, ltb-true, ltb-false, leb-true}
+use borrow.Author.Tests.{lt-ltb, le-ltb, le-leb, ltb-true, leb-true}
 use Rattle.leaves.specs.Arithmetic.{_+₆₄_, _*₆₄_, at, nought}
 use Rattle.leaves.proofs.Lists.{read-before, read-after}
 use Rattle.recording.proofs.open.Laws.{truth}
-use Rattle.model.specs.Model.{plus, plusWhere, each, known, lagSum, lags, estimate, coefAutocorr, rightSide, rightSides}
-use Rattle.model.specs.Model.{solveBanded, forward, factored, backward, solved, pass, passes, orderFor, filled}
+use Rattle.model.specs.Model.{plus, plusWhere, known, lagSum, lags, estimate, coefAutocorr, rightSide, rightSides}
+use Rattle.model.specs.Model.{solveBanded, backward, solved, pass, passes, orderFor, filled}
 use Rattle.model.proofs.Parts.{part-of-sets}
 use Rattle.model.proofs.sums.Laws.{plus-agree, each-agree}
 

@@ -1,6 +1,5 @@
 -- The program's scan, from what opening and scanning ensure. Assumes nothing.
-use Prim.Native.Nat.{ℕ}
-use mathlib.Core.Path.{_≡_, refl, sym, ap, _∙_}
+use mathlib.Core.Path.{_≡_, refl, ap, _∙_}
 use mathlib.Core.List.{List}
 use lib.Ieee.{Float, binary32, ofBits}
 use Rattle.leaves.specs.Arithmetic.{one}

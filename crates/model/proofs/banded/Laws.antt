@@ -9,25 +9,15 @@ use borrow.Author.Tests.{lt-ltb, le-ltb, eq-eqb, ne-eqb}
 use lib.Ieee.{Float, binary64, ofBits}
 use lib.ListN.{length, set, take, drop, length-append}
 use lib.Seq.{sets, sets-eq, length-sets}
-use Rattle.leaves.specs.Arithmetic.{_+₆₄_, _*₆₄_, _/₆₄_, near, at}
+use Rattle.leaves.specs.Arithmetic.{_+₆₄_, _*₆₄_, _/₆₄_, at}
 use Rattle.leaves.specs.Floats.{larger}
 use Rattle.leaves.specs.Root.{root}
-use Rattle.model.specs.Model.{micro, pico, less, mat, laid, cellAt, cells, rows, factored}
+use Rattle.model.specs.Model.{less, mat, laid, cellAt, cells, rows, factored}
 use Rattle.model.specs.Model.{forwardAt, forward, backwardAt, backward}
 use Rattle.model.specs.Areas.{area}
 use Rattle.model.proofs.Parts.{take-sets, drop-sets, store-next, store-before, part-length, part-of-sets}
 use Rattle.model.proofs.Parts.{part-before-sets, part-grows}
-use Rattle.model.proofs.sums.Laws.{no-sum}
-
--- ---- The literals 1e-6 and 1e-12
-
-pub micro-word : ofBits binary64 4517329193108106637 ≡ micro
-unfolding ofBits micro near
-micro-word = refl
-
-pub pico-word : ofBits binary64 4427486594234968593 ≡ pico
-unfolding ofBits pico near
-pico-word = refl
+use Rattle.model.proofs.sums.Laws.{micro-word, no-sum, pico-word}
 
 -- ---- Where a place of the band lies
 

@@ -13,26 +13,18 @@ use lib.Seq.{sets, length-sets, getD-take, getD-drop, drop-cons, drop-set-add, t
 use lib.Ieee.{Float, nan, binary64, neg, lt, le, ofBits}
 use Rattle.leaves.specs.Arithmetic.{_+₆₄_, _-₆₄_, _*₆₄_, _/₆₄_, nought, one, at}
 use Rattle.leaves.specs.Floats.{magnitude}
-use Rattle.model.specs.Model.{micro, pico, each, unit, lagSum, lags, raisedAt, raised, shortfall, orders}
+use Rattle.model.specs.Model.{micro, each, unit, lagSum, lags, raisedAt, raised, shortfall, orders}
 use Rattle.model.specs.Model.{levinson, estimate}
 use Rattle.model.specs.Areas.{area, Only, coefsAt}
 use Rattle.model.proofs.Parts.{take-sets, store-next, part-of-sets, part-before-sets, part-behind-sets}
 use Rattle.model.proofs.Parts.{part-length, only-sets, only-then, only-wider, only-before}
-use Rattle.model.proofs.sums.Laws.{each-next, length-each, no-sum}
+use Rattle.model.proofs.sums.Laws.{each-next, length-each, micro-word, no-sum, pico-word}
 
 -- ---- The literals of the code
 
 pub one-word : ofBits binary64 4607182418800017408 ≡ one
 unfolding ofBits
 one-word = refl
-
-pub pico-word : ofBits binary64 4427486594234968593 ≡ pico
-unfolding ofBits pico
-pico-word = refl
-
-pub micro-word : ofBits binary64 4517329193108106637 ≡ micro
-unfolding ofBits micro
-micro-word = refl
 
 -- ---- A run of stores: what it leaves in its own area, in one before or behind it, and in the rest
 

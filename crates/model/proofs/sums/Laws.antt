@@ -6,12 +6,13 @@ use mathlib.Core.List.{List, [], _∷_, _++_}
 use Prim.Native.Nat.{ℕ, zero, suc, _+_, _-_, _*_, _≤_, _<_, min}
 use native.Mathlib.Omega.{arith}
 use native.Mathlib.Nat.{mul-le-mul-left}
-use lib.ListN.{length, getD}
+use lib.ListN.{length}
 use lib.Ieee.{Float, binary64, neg, ofBits}
 use lib.Dec.{leb}
 use borrow.Author.Tests.{lt-ltb, le-ltb}
 use Rattle.leaves.specs.Arithmetic.{_+₆₄_, _-₆₄_, _*₆₄_, at, nought}
-use Rattle.model.specs.Model.{plus, less, plusWhere, each, known, lagSum, shortfall, coefAt, rightSide}
+use Rattle.model.specs.Model.{micro, pico, plus, less, plusWhere, each, known, lagSum, shortfall, coefAt}
+use Rattle.model.specs.Model.{rightSide}
 
 -- ---- Lists given place by place
 
@@ -35,14 +36,6 @@ unfolding each
 length-each f i zero = refl
 length-each f i (suc n) = ap suc (length-each f (i + 1) n)
 
-pub each-at : (f : ℕ → Float) (i n k : ℕ) (d : Float) → k < n → getD (each f i n) k d ≡ f (i + k)
-unfolding each
-each-at f i zero k d h = absurd (omega arith)
-each-at f i (suc n) zero d h = let here : i + 0 ≡ i = omega arith in rw here refl
-each-at f i (suc n) (suc k) d h =
-    let next : i + suc k ≡ i + 1 + k = omega arith in
-    rw next (each-at f (i + 1) n k d (omega arith))
-
 -- lists agree where the functions agree on their places
 pub each-agree : (f f' : ℕ → Float) (i n : ℕ) → ((k : ℕ) → i ≤ k → k < i + n → f k ≡ f' k)
     → each f i n ≡ each f' i n
@@ -52,7 +45,7 @@ each-agree f f' i (suc n) same =
     let rest = each-agree f f' (i + 1) n (λ k l h. same k (omega arith) (omega arith)) in
     rw (same i (omega arith) (omega arith), rest) refl
 
--- ---- Sums agree where the functions, and the tests, agree on the places summed
+-- ---- Sums agree where the functions agree on the places summed
 
 pub plus-agree : (f f' : ℕ → Float) (i n : ℕ) (s : Float) → ((k : ℕ) → i ≤ k → k < i + n → f k ≡ f' k)
     → plus f i n s ≡ plus f' i n s
@@ -61,26 +54,6 @@ plus-agree f f' i zero s same = refl
 plus-agree f f' i (suc n) s same =
     plus-agree f f' (i + 1) n (s +₆₄ f i) (λ k l h. same k (omega arith) (omega arith))
     ∙ ap (λ (x : Float). plus f' (i + 1) n (s +₆₄ x)) (same i (omega arith) (omega arith))
-
-pub less-agree : (f f' : ℕ → Float) (i n : ℕ) (s : Float) → ((k : ℕ) → i ≤ k → k < i + n → f k ≡ f' k)
-    → less f i n s ≡ less f' i n s
-unfolding less
-less-agree f f' i zero s same = refl
-less-agree f f' i (suc n) s same =
-    less-agree f f' (i + 1) n (s -₆₄ f i) (λ k l h. same k (omega arith) (omega arith))
-    ∙ ap (λ (x : Float). less f' (i + 1) n (s -₆₄ x)) (same i (omega arith) (omega arith))
-
-pub plusWhere-agree : (test test' : ℕ → Bool) (f f' : ℕ → Float) (i n : ℕ) (s : Float)
-    → ((k : ℕ) → i ≤ k → k < i + n → test k ≡ test' k)
-    → ((k : ℕ) → i ≤ k → k < i + n → f k ≡ f' k)
-    → plusWhere test f i n s ≡ plusWhere test' f' i n s
-unfolding plusWhere
-plusWhere-agree test test' f f' i zero s tests same = refl
-plusWhere-agree test test' f f' i (suc n) s tests same =
-    let rest = plusWhere-agree test test' f f' (i + 1) n (cond (test i) (s +₆₄ f i) s) in
-    rest (λ k l h. tests k (omega arith) (omega arith)) (λ k l h. same k (omega arith) (omega arith))
-    ∙ ap (λ (x : Float). plusWhere test' f' (i + 1) n (cond (test i) (s +₆₄ x) s)) (same i (omega arith) (omega arith))
-    ∙ ap (λ (b : Bool). plusWhere test' f' (i + 1) n (cond b (s +₆₄ f' i) s)) (tests i (omega arith) (omega arith))
 
 -- ---- A turn of a sum's loop, and its end: what is left to add gives the whole
 
@@ -157,7 +130,15 @@ first-unknown b er hr = rw (← er, hr) refl
 
 -- ---- Where the loops begin and end
 
--- the word 0 is that of +0
+-- the literals 1e-12, 1e-6 and 0.0 of the code
+pub pico-word : ofBits binary64 4427486594234968593 ≡ pico
+unfolding ofBits pico
+pico-word = refl
+
+pub micro-word : ofBits binary64 4517329193108106637 ≡ micro
+unfolding ofBits micro
+micro-word = refl
+
 pub no-sum : ofBits binary64 0 ≡ nought
 unfolding ofBits
 no-sum = refl
