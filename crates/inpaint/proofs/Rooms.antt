@@ -13,7 +13,7 @@ use lib.Ieee.{Float}
 use borrow.Author.Tests.{ltb-true, leb-true}
 use Rattle.leaves.specs.Floats.{inRange}
 use Rattle.recording.specs.Answers.{number, reasonNumber}
-use Rattle.recording.specs.Recording.{State, Ended, Placed, Plan, refuse, change, span, if_then_else_, differ, tooMany}
+use Rattle.recording.specs.Recording.{State, Ended, Placed, Plan, refuse, change, if_then_else_, differ, tooMany}
 use Rattle.recording.specs.Recording.{overUsed}
 use Rattle.recording.specs.Recording.{fitting, ranged, entered, entry, committed, carried, performed, unlessRefused}
 use Rattle.recording.specs.Recording.{entrySize, places}
@@ -27,6 +27,7 @@ use Rattle.inpaint.specs.Auto.{limit, allowed, dropout, begins, runAt, q
 use Rattle.inpaint.specs.Auto.{scanFrom, scannable, automatic}
 use Rattle.inpaint.specs.declared.Run.{Run}
 use Rattle.inpaint.specs.declared.Run.the-variants.{At, Nowhere}
+use Rattle.recording.proofs.commit.Laws.{length-span}
 use Rattle.inpaint.proofs.line.Laws.{length-line}
 use Rattle.inpaint.proofs.auto.Laws.{Found, found-run, scan-stops, scan-takes, automatic-refused}
 use Rattle.inpaint.proofs.auto.Laws.{automatic-scanned}
@@ -37,12 +38,6 @@ use Rattle.inpaint.proofs.Scans.{model-within, whole}
 picks-by : {A : Type 0} (P : A → Type 0) (b : Bool) (x y : A) → (b ≡ true → P x) → (b ≡ false → P y) → P (if b then x else y)
 picks-by P true x y p q = p refl
 picks-by P false x y p q = q refl
-
--- as many samples as a span has words are named
-span-count : (i : ℕ) (ws : List ℕ) → length (span i ws) ≡ length ws
-unfolding span
-span-count i [] = refl
-span-count i (w ∷ ws) = ap suc (span-count (i + 1) ws)
 
 -- ---- A repair that is spared refusal k, which is 6 or 9
 
@@ -97,8 +92,8 @@ module _ (k : ℕ) (which : (k ≡ 6) ⊎ (k ≡ 9)) where
   unfolding repaired
   repaired-light passes samples start len =
       picks (Light len) (byLine len) _ _
-      (omega (arith, span-count start (line samples start len), length-line samples start len))
-      (omega (arith, span-count start (model passes samples start len), model-within passes samples start len))
+      (omega (arith, length-span start (line samples start len), length-line samples start len))
+      (omega (arith, length-span start (model passes samples start len), model-within passes samples start len))
 
   gap-light : (start len passes room : ℕ) (samples : List ℕ)
       → (k ≡ 6 → needed (length samples) start len ≤ room) → Light len (gapPlan start len passes room samples)

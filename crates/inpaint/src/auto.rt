@@ -24,7 +24,8 @@ const MOST_RATE: u32 = 16_777_216;
 // How many passes the original makes at each run.
 const PASSES: u32 = 3;
 
-// x cut to a whole number, as Rust's `as`: beyond either end of the range that end, and 0 for a NaN.
+// x cut to a whole number of 64 bits, as Rust's `as`: beyond either end of the range that end, and 0 for
+// a NaN. The range ends one below 2 ^ 64, which is 18446744073709551616.
 fn whole_part(x: f32) -> u64
     ensures { λ r. ⌜ r ≡ toUnsigned 64 x ⌝ }
 {
@@ -41,7 +42,8 @@ fn whole_part(x: f32) -> u64
     }
 }
 
-// The longest run that is repaired, of a limit in milliseconds at a rate.
+// The longest run that is repaired, of a limit in milliseconds at a rate for each second, which has 1000 of
+// them; at least 1.
 fn longest_run(millis: f32, rate: u32) -> usize
     requires { ⌜ rate ≤ 16777216 ⌝ }
     ensures { λ r. ⌜ r ≡ limit millis rate ⌝ }

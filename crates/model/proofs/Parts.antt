@@ -133,6 +133,3 @@ only-wider low high low' high' w v h k o =
 
 pub only-before : (low high from n : ℕ) (w v : List Float) → Only low high w v → from + n ≤ low → area v from n ≡ area w from n
 only-before low high from n w v o h = kept-before w v low from n (o .before) h
-
-pub only-behind : (low high from n : ℕ) (w v : List Float) → Only low high w v → high ≤ from → area v from n ≡ area w from n
-only-behind low high from n w v o h = kept-behind w v high from n (o .behind) h

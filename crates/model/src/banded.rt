@@ -15,7 +15,7 @@ use leaves::order::larger64;
 use leaves::root::square_root;
 
 // The matrix d places before its diagonal, as it is laid down: b by that distance, and on the diagonal
-// a little more, which keeps the solve well-conditioned.
+// 1e-6 of it more, which keeps the solve well-conditioned.
 fn laid_at(b: &[f64], d: usize) -> f64
     requires { ⌜ d < length (now b) ⌝ }
     ensures { λ r. ⌜ r ≡ laid (now (b .entry)) d ⌝ }
@@ -23,7 +23,8 @@ fn laid_at(b: &[f64], d: usize) -> f64
     if d == 0 { b[0] + 1e-6 * b[0] } else { b[d] }
 }
 
-// The place of row i of the factor that is d before the diagonal. All places before it are in the band.
+// The place of row i of the factor that is d before the diagonal. All places before it are in the band. A
+// place before column 0 is +0; on the diagonal the sum is raised to 1e-12 at least before its root.
 fn cell_at(b: &[f64], p: usize, band: &[f64], i: usize, d: usize) -> f64
     requires { ⌜ (length (now b) ≡ p + 1) × (d ≤ p) × (1 ≤ p) × (p ≤ 128) × (i < 2048) × (length (now band) ≡ i * (p + 1) + (p - d)) ⌝ }
     ensures { λ r. ⌜ r ≡ cellAt (now (b .entry)) p (now (band .entry)) i d ⌝ }

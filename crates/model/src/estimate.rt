@@ -72,7 +72,8 @@ fn copy_area(work: &mut [f64], copy: usize, a: usize, count: usize)
 }
 
 // Levinson's recursion over the lags at r: the coefficients come to stand two lists behind them, and
-// the list between is where each order's are worked out.
+// the list between is where each order's are worked out. It stops where |e| is below 1e-12, before k is
+// used, and where e is not above 0, after it.
 fn levinson(work: &mut [f64], r: usize, p: usize)
     requires { ⌜ (r + 3 * (p + 1) ≤ length (now work)) × (p ≤ 128) ⌝ }
     ensures { λ _. ⌜ (area (now (work .exit)) (r + 2 * (p + 1)) (p + 1) ≡ levinson (area (now (work .entry)) r (p + 1)) p)
@@ -99,7 +100,9 @@ fn levinson(work: &mut [f64], r: usize, p: usize)
     }
 }
 
-// The coefficients of the model of what is known, for the window at the front of the workspace.
+// The coefficients of the model of what is known, for the window at the front of the workspace. Where the
+// known samples are all 0, so that r[0] is, the model is 1, 0, .., 0; else r[0] grows by 1e-6 of itself,
+// for stability.
 pub fn estimate_ar_known(work: &mut [f64], size: usize, g: usize, len: usize, p: usize)
     requires { ⌜ Laid size g len p (now work) ⌝ }
     ensures { λ _. ⌜ (area (now (work .exit)) (coefsAt size p) (p + 1) ≡ estimate (area (now (work .entry)) 0 size) g len p)

@@ -85,61 +85,6 @@ pub fn enter_span(
     Answer::Done(len)
 }
 
-// Refusal 8 for new words of consecutive places from `start` on; accepted, with 0, where all are in range.
-pub fn check_span(words: &[u32], start: usize) -> Answer
-    requires { ⌜ start + length (now words) ≤ mostSamples ⌝ }
-    ensures { λ r. ⌜ r ≡ ranged (span start (now (words .entry))) ⌝ }
-{
-    let mut i: usize = 0;
-    while i < words.len() {
-        if !in_range(words[i]) {
-            return Answer::Refused(Reason::Result(start + i));
-        }
-        i += 1;
-    }
-    Answer::Done(0)
-}
-
-// The words from `start` on become these, and the others stay.
-fn copy_words(samples: &mut [u32], start: usize, words: &[u32])
-    requires { ⌜ start + length (now words) ≤ length (now samples) ⌝ }
-    ensures { λ _. ⌜ now (samples .exit) ≡ sets (now (samples .entry)) start (now (words .entry)) ⌝ }
-{
-    let mut i: usize = 0;
-    while i < words.len() {
-        samples[start + i] = words[i];
-        i += 1;
-    }
-}
-
-// Commits a repair that names consecutive places from `start` on, with these words: refusals 8 and 9 in
-// their order, and else the entry, the marks and the words.
-pub fn commit_span(
-    samples: &mut [u32],
-    marks: &mut [u8],
-    journal: &mut [u32],
-    used: &mut usize,
-    start: usize,
-    words: &[u32],
-    mark: u8,
-) -> Answer
-    requires { ⌜ Fits (state (now samples) (now marks) (now journal) (now used)) × (start + length (now words) ≤ length (now samples)) ⌝ }
-    ensures { λ r. ⌜ ended r (state (now (samples .exit)) (now (marks .exit)) (now (journal .exit)) (now (used .exit)))
-        ≡ carried (state (now (samples .entry)) (now (marks .entry)) (now (journal .entry)) (now (used .entry)))
-        (change mark (span start (now (words .entry)))) ⌝ }
-{
-    let checked = check_span(words, start);
-    let Answer::Done(_) = checked else {
-        return checked;
-    };
-    let entered = enter_span(samples, marks, journal, used, start, words.len(), mark);
-    let Answer::Done(_) = entered else {
-        return entered;
-    };
-    copy_words(samples, start, words);
-    entered
-}
-
 // Refusal 8 for the samples that the workspace names (see `pickedBy`); accepted, with 0, where all
 // their new words are in range.
 fn check_picked(work: &[u32], n: usize) -> Answer

@@ -4,8 +4,8 @@ use mathlib.Core.Path.{_≡_, sym, ap, _∙_}
 use mathlib.Core.List.{List}
 use Prim.Native.Nat.{ℕ, suc, _+_, _-_, _<_, _≤_}
 use native.Mathlib.Omega.{arith}
-use lib.ListN.{length, set, getD, drop, replicate, drop-of-length-le}
-use lib.Seq.{sets, drop-cons}
+use lib.ListN.{set, replicate}
+use lib.Seq.{sets}
 
 -- one turn of a loop that stores v at `count` places
 pub run-more : {A : Type 0} (l whole : List A) (a next count i : ℕ) (v : A) → i < count → next ≡ a + 1
@@ -16,20 +16,8 @@ run-more l whole a next count i v h e rest =
     let there : next ≡ suc a = omega arith in
     rw there (sym (ap (λ (n : ℕ). sets l a (replicate n v)) left) ∙ rest)
 
--- one turn of a loop that stores what stands in vs
-pub copy-more : {A : Type 0} (l whole vs : List A) (a next i : ℕ) (d : A) → i < length vs → next ≡ a + 1
-    → sets l a (drop i vs) ≡ whole
-    → sets (set l a (getD vs i d)) next (drop (i + 1) vs) ≡ whole
-copy-more l whole vs a next i d h e rest =
-    let there : next ≡ suc a = omega arith in
-    let more : i + 1 ≡ suc i = omega arith in
-    rw (there, more) (sym (ap (λ (xs : List _). sets l a xs) (drop-cons vs i d h)) ∙ rest)
-
 -- where nothing is left to store, the whole is there
 pub all-stored : {A : Type 0} (l whole : List A) (a count i : ℕ) (v : A) → count ≤ i → sets l a (replicate (count - i) v) ≡ whole → l ≡ whole
 all-stored l whole a count i v h rest =
     let none : count - i ≡ 0 = omega arith in
     sym (ap (λ (n : ℕ). sets l a (replicate n v)) none) ∙ rest
-
-pub all-copied : {A : Type 0} (l whole vs : List A) (a i : ℕ) → length vs ≤ i → sets l a (drop i vs) ≡ whole → l ≡ whole
-all-copied l whole vs a i h rest = sym (ap (λ (xs : List _). sets l a xs) (drop-of-length-le vs h)) ∙ rest

@@ -9,7 +9,7 @@ use native.Mathlib.Nat.{add-zero, sub-zero}
 use native.Mathlib.Numerals.{add-one}
 use borrow.Author.Tests.{lt-ltb, le-ltb, eq-eqb, ne-eqb}
 use lib.Dec.{eqb}
-use lib.ListN.{length, set, getD, take, drop, replicate, drop-of-length-le}
+use lib.ListN.{length, set, getD, take, drop, replicate}
 use lib.Seq.{sets, drop-cons}
 use Rattle.leaves.specs.Floats.{inRange}
 use Rattle.recording.specs.Recording.{State, state, ended, refused, Placed, places, put, each, saved, threeWords}
@@ -83,23 +83,6 @@ pub put-each : (v i n : ℕ) (l : List ℕ) → put (each v (consecutive i n)) l
 unfolding consecutive put
 put-each v i zero l = refl
 put-each v i (suc n) l = put-each v (i + 1) n (set l i v) ∙ rw add-one refl
-
--- one turn of the test of a span's words, and the word that is out of range
-pub span-more : (ws : List ℕ) (start i : ℕ) → i < length ws → inRange (getD ws i 0) ≡ true
-    → ranged (span (start + i) (drop i ws)) ≡ ranged (span (start + (i + 1)) (drop (i + 1) ws))
-unfolding ranged span
-span-more ws start i h e =
-    let next : start + i + 1 ≡ start + (i + 1) = omega arith in
-    rw (drop-cons ws i 0, e, next, add-one i) refl
-
-pub span-out : (ws : List ℕ) (start i : ℕ) → i < length ws → inRange (getD ws i 0) ≡ false
-    → ranged (span (start + i) (drop i ws)) ≡ Refused (Result (start + i))
-unfolding ranged span
-span-out ws start i h e = rw (drop-cons ws i 0, e) refl
-
-pub span-done : (ws : List ℕ) (start i : ℕ) → length ws ≤ i → ranged (span (start + i) (drop i ws)) ≡ Done 0
-unfolding ranged span
-span-done ws start i h = rw (drop-of-length-le ws h) refl
 
 -- one turn of the loop that saves a span
 pub span-save : (j next-j whole samples marks : List ℕ) (at start len i : ℕ) → i < len
