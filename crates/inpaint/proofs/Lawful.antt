@@ -1,14 +1,14 @@
 -- The repair of a gap is lawful, so demand 3 holds of every sequence of it with undos: its plan refuses, or sets mark 1
 -- or 2 at the places of the gap, which ascend within the recording. Assumes nothing.
 use mathlib.Core.Path.{_≡_, refl}
-use mathlib.Core.Bool.{Bool, true, false}
+use mathlib.Core.Bool.{true}
 use mathlib.Core.List.{List}
 use mathlib.Core.Logic.{inl, inr}
 use Prim.Native.Nat.{ℕ, _+_, _≤_}
 use native.Mathlib.Omega.{arith}
 use lib.Dec.{ltb}
 use lib.ListN.{length}
-use Rattle.recording.specs.Recording.{Plan, change, span, made, if_then_else_, gapByModel, gapByLine}
+use Rattle.recording.specs.Recording.{Plan, change, span, made, gapByModel, gapByLine}
 use Rattle.recording.specs.History.{Keeps}
 use Rattle.recording.specs.declared.Answer.{Answer}
 use Rattle.recording.specs.declared.Answer.the-variants.{Done, Refused}
@@ -16,6 +16,7 @@ use Rattle.recording.proofs.open.Laws.{truth}
 use Rattle.recording.proofs.Performing.{span-ascends}
 use Rattle.inpaint.specs.Gap.{gapWrong, byLine, needed, allReadable, unlessRead, line, model, repaired, gapPlan}
 use Rattle.inpaint.specs.Consequences.{GapIsLawful}
+use Rattle.inpaint.proofs.Picks.{picks}
 use Rattle.inpaint.proofs.window.Laws.{gap-right}
 use Rattle.inpaint.proofs.line.Laws.{length-line}
 use Rattle.inpaint.proofs.fill.Laws.{length-model}
@@ -25,11 +26,7 @@ span-kept : (n start len mark : ℕ) (ws : List ℕ) → made mark ≡ true → 
     → Keeps n (change mark (span start ws))
 span-kept n start len mark ws m count h = (m, span-ascends n 0 start ws (omega arith) (rw count h))
 
--- a test, or a refusal, decides between plans that keep to the law
-either-kept : (n : ℕ) (b : Bool) (p q : Plan) → Keeps n p → Keeps n q → Keeps n (if b then p else q)
-either-kept n true p q kp kq = kp
-either-kept n false p q kp kq = kq
-
+-- a refusal decides between plans that keep to the law
 unless-kept : (n : ℕ) (a : Answer) (p : Plan) → Keeps n p → Keeps n (unlessRead a p)
 unless-kept n (Done m) p kp = kp
 unless-kept n (Refused why) p kp = tt
@@ -38,7 +35,7 @@ repaired-kept : (passes : ℕ) (samples : List ℕ) (start len : ℕ) → start 
     → Keeps (length samples) (repaired passes samples start len)
 unfolding repaired
 repaired-kept passes samples start len h =
-    either-kept (length samples) (byLine len) _ _
+    picks (Keeps (length samples)) (byLine len) _ _
     (span-kept (length samples) start len gapByLine (line samples start len) refl (length-line samples start len) h)
     (span-kept (length samples) start len gapByModel (model passes samples start len) refl
     (length-model samples start len h passes) h)
@@ -50,7 +47,7 @@ gap-lawful start len passes room samples =
       | inl wrong ↦ rw wrong tt
       | inr right ↦
           rw right
-          (either-kept (length samples) (ltb room (needed (length samples) start len)) _ _ tt
+          (picks (Keeps (length samples)) (ltb room (needed (length samples) start len)) _ _ tt
           (unless-kept (length samples) (allReadable samples start len) (repaired passes samples start len)
           (repaired-kept passes samples start len (gap-right (length samples) start len right .inside))))
     ]

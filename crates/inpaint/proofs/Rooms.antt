@@ -1,16 +1,16 @@
 -- What a scan never lacks: a journal of three words for each sample has room for all its entries, and a workspace that any run
 -- within the limit needs suffices for each. Assumes nothing.
 use mathlib.Core.Path.{_≡_, refl, sym, ap, _∙_}
-use mathlib.Core.Bool.{Bool, true, false, true≢false, _&&_, cond}
+use mathlib.Core.Bool.{Bool, true, false, true≢false, cond}
 use mathlib.Core.Logic.{_⊎_, inl, inr}
 use mathlib.Core.List.{List, [], _∷_}
 use Prim.Native.Nat.{ℕ, zero, suc, _+_, _-_, _*_, _≤_, _<_}
 use native.Mathlib.Omega.{arith}
 use lib.ListN.{length, getD}
 use lib.Seq.{length-sets}
-use lib.Dec.{leb, ltb, eqb}
+use lib.Dec.{ltb, eqb}
 use lib.Ieee.{Float}
-use borrow.Author.Tests.{ltb-true, leb-true}
+use borrow.Author.Tests.{ltb-true}
 use Rattle.leaves.specs.Floats.{inRange}
 use Rattle.recording.specs.Answers.{number, reasonNumber}
 use Rattle.recording.specs.Recording.{State, Ended, Placed, Plan, refuse, change, if_then_else_, differ, tooMany}
@@ -29,15 +29,12 @@ use Rattle.inpaint.specs.declared.Run.{Run}
 use Rattle.inpaint.specs.declared.Run.the-variants.{At, Nowhere}
 use Rattle.recording.proofs.commit.Laws.{length-span}
 use Rattle.inpaint.proofs.line.Laws.{length-line}
-use Rattle.inpaint.proofs.auto.Laws.{Found, found-run, scan-stops, scan-takes, automatic-refused}
+use Rattle.inpaint.proofs.auto.Laws.{Found, qualifies-all, found-run, scan-stops, scan-takes, automatic-refused}
 use Rattle.inpaint.proofs.auto.Laws.{automatic-scanned}
-use Rattle.inpaint.proofs.Scans.{picks, Behind, repair-leaves, work-count, found-behind, begins-not-there}
+use Rattle.model.proofs.Passes.{both-hold}
+use Rattle.inpaint.proofs.Picks.{picks, picks-by}
+use Rattle.inpaint.proofs.Scans.{Behind, repair-leaves, work-count, found-behind, begins-not-there}
 use Rattle.inpaint.proofs.Scans.{model-within, whole}
-
--- what holds of either, as the test tells, holds of the one that it picks
-picks-by : {A : Type 0} (P : A → Type 0) (b : Bool) (x y : A) → (b ≡ true → P x) → (b ≡ false → P y) → P (if b then x else y)
-picks-by P true x y p q = p refl
-picks-by P false x y p q = q refl
 
 -- ---- A repair that is spared refusal k, which is 6 or 9
 
@@ -166,34 +163,20 @@ module _ (k : ℕ) (which : (k ≡ 6) ⊎ (k ≡ 9)) where
 
 -- ---- A scan whose journal has three words for each sample
 
--- the four tests of a run that qualifies, of which two are wanted
-two-tests : (a b c d : Bool) → a && b && c && d ≡ true → (b ≡ true) × (c ≡ true)
-two-tests true true true d h = (refl, refl)
-two-tests true true false d h = absurd (true≢false (sym h))
-two-tests true false c d h = absurd (true≢false (sym h))
-two-tests false b c d h = absurd (true≢false (sym h))
-
-both-tests : (a b : Bool) → a && b ≡ true → (a ≡ true) × (b ≡ true)
-both-tests true true h = (refl, refl)
-both-tests true false h = absurd (true≢false (sym h))
-both-tests false b h = absurd (true≢false (sym h))
-
 -- a run that is found is within the limit, and does not begin at the start
 module _ (samples : List ℕ) (most i start len : ℕ) (f : Found samples most i start len) where
   tests : (begins samples start ≡ true) × (qualifies (length samples) most start (runAt samples start) ≡ true)
-  tests = both-tests (begins samples start) (qualifies (length samples) most start (runAt samples start)) (f .here)
+  tests = both-hold (begins samples start) (qualifies (length samples) most start (runAt samples start)) (f .here)
 
-  bounds : (leb (runAt samples start) most ≡ true) × (ltb 0 start ≡ true)
-  bounds =
-      two-tests (leb 2 (runAt samples start)) (leb (runAt samples start) most) (ltb 0 start) (ltb (start + runAt samples start) (length samples))
-      (tests .1)
+  bounds : (2 ≤ runAt samples start) × (runAt samples start ≤ most) × (0 < start) × (start + runAt samples start < length samples)
+  bounds = qualifies-all (length samples) most start (runAt samples start) (tests .1)
 
   pub found-short : len ≤ most
-  found-short = omega (arith, f .long, leb-true (runAt samples start) most (bounds .0))
+  found-short = omega (arith, f .long, bounds .1)
 
   -- where place i has no dropout, or is the start, it begins behind it
   pub found-later : (i ≡ 0) ⊎ (dropout (getD samples i 0) ≡ false) → i < start
-  found-later (inl first) = omega (arith, first, ltb-true 0 start (bounds .1))
+  found-later (inl first) = omega (arith, first, bounds .2)
   found-later (inr none) = omega (arith, f .from, apart)
     where
       apart : i ≡ start → ⊥

@@ -1,7 +1,7 @@
 -- The scan is a sequence of gap repairs, one for each run that qualified as the call began: a repair changes nothing
 -- behind its run, and there stands a sample that is no dropout. Assumes nothing.
 use mathlib.Core.Path.{_≡_, refl, sym, ap, _∙_}
-use mathlib.Core.Bool.{Bool, true, false, and-false}
+use mathlib.Core.Bool.{true, false, and-false}
 use mathlib.Core.List.{List, [], _∷_}
 use mathlib.Core.Logic.{inl, inr}
 use Prim.Native.Nat.{ℕ, zero, suc, _+_, _-_, _≤_, _<_}
@@ -14,7 +14,7 @@ use lib.Dec.{ltb, eqb}
 use lib.Ieee.{Float}
 use borrow.Author.Tests.{ne-eqb}
 use Rattle.leaves.specs.Arithmetic.{nought}
-use Rattle.recording.specs.Recording.{State, Ended, places, put, span, Plan, refuse, change, if_then_else_}
+use Rattle.recording.specs.Recording.{State, Ended, places, put, span, Plan, refuse, change}
 use Rattle.recording.specs.Recording.{fitting, ranged, entered, committed, carried, performed, unlessRefused}
 use Rattle.recording.specs.Recording.{entrySize, clears, workAfter}
 use Rattle.recording.specs.History.{Lawful, run, did}
@@ -34,6 +34,7 @@ use Rattle.inpaint.specs.declared.Run.the-variants.{At, Nowhere}
 use Rattle.inpaint.proofs.auto.Laws.{starts, Found, found-run, scan-stops, scan-takes}
 use Rattle.inpaint.proofs.auto.Laws.{automatic-refused, automatic-scanned}
 use Rattle.inpaint.proofs.line.Laws.{length-line}
+use Rattle.inpaint.proofs.Picks.{picks}
 use Rattle.inpaint.proofs.Lawful.{gap-lawful}
 
 abbrev stretch : ℕ → ℕ → Stretch
@@ -48,11 +49,6 @@ pub record Behind (end : ℕ) (l t : List ℕ) : Type 0 where
 
 unchanged : (end : ℕ) (l : List ℕ) → Behind end l l
 unchanged end l = record { count = refl; same = λ j h. refl }
-
--- what holds of both holds of the one that a test picks
-pub picks : {A : Type 0} (P : A → Type 0) (b : Bool) (x y : A) → P x → P y → P (if b then x else y)
-picks P true x y p q = p
-picks P false x y p q = q
 
 -- the places of a span lie before its end
 span-places : (j i : ℕ) (ws : List ℕ) → Among j (places (span i ws)) → j < i + length ws

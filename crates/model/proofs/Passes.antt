@@ -9,14 +9,14 @@ use lib.ListN.{length, take, drop}
 use lib.Dec.{ltb}
 use lib.Seq.{sets, sets-eq, length-sets}
 use lib.Ieee.{Float, nan, neg}
-use borrow.Author.Tests.{lt-ltb, le-ltb, le-leb, ltb-true, leb-true}
+use borrow.Author.Tests.{le-ltb, le-leb, ltb-true, leb-true}
 use Rattle.leaves.specs.Arithmetic.{_+₆₄_, _*₆₄_, at, nought}
 use Rattle.leaves.proofs.Lists.{read-before, read-after}
 use Rattle.recording.proofs.open.Laws.{truth}
 use Rattle.model.specs.Model.{plus, plusWhere, known, lagSum, lags, estimate, coefAutocorr, rightSide, rightSides}
 use Rattle.model.specs.Model.{solveBanded, backward, solved, pass, passes, orderFor, filled}
 use Rattle.model.proofs.Parts.{part-of-sets}
-use Rattle.model.proofs.sums.Laws.{plus-agree, each-agree}
+use Rattle.model.proofs.sums.Laws.{plus-agree, each-agree, known-before}
 
 -- two windows that are the same outside the gap
 pub record Same (g len : ℕ) (seg seg' : List Float) : Type 0 where
@@ -25,7 +25,7 @@ pub record Same (g len : ℕ) (seg seg' : List Float) : Type 0 where
 
 -- a place is known where it lies before the gap or behind it, and nowhere else
 is-known-before : (g len i : ℕ) → i < g → known g len i ≡ true
-is-known-before g len i h = rw (lt-ltb _ _ h) refl
+is-known-before g len i h = sym (known-before g len i h)
 
 is-known-behind : (g len i : ℕ) → g + len ≤ i → known g len i ≡ true
 is-known-behind g len i h = rw (le-ltb i g (omega arith), le-leb _ _ h) refl
@@ -48,10 +48,11 @@ where-agree test f f' i (suc n) s same =
       | inr fails ↦ rw fails (where-agree test f f' (i + 1) n s same)
     ]
 
-both : (a b : Bool) → a && b ≡ true → (a ≡ true) × (b ≡ true)
-both true true h = (refl, refl)
-both true false h = absurd (true≢false (sym h))
-both false b h = absurd (true≢false (sym h))
+-- two tests that both hold
+pub both-hold : (a b : Bool) → a && b ≡ true → (a ≡ true) × (b ≡ true)
+both-hold true true h = (refl, refl)
+both-hold true false h = absurd (true≢false (sym h))
+both-hold false b h = absurd (true≢false (sym h))
 
 -- ---- A pass reads what is known
 
@@ -62,7 +63,7 @@ module _ (g len : ℕ) (seg seg' : List Float) (same : Same g len seg seg') wher
       rw (same .count)
       (where-agree (λ i. known g len i && known g len (i - lag)) (λ i. at seg' i *₆₄ at seg' (i - lag)) (λ i. at seg i *₆₄ at seg (i - lag))
       lag (length seg - lag) nought
-      (λ i h. let two = both (known g len i) (known g len (i - lag)) h in rw (same .outside i (two .0), same .outside (i - lag) (two .1)) refl))
+      (λ i h. let two = both-hold (known g len i) (known g len (i - lag)) h in rw (same .outside i (two .0), same .outside (i - lag) (two .1)) refl))
 
   estimate-same : (p : ℕ) → estimate seg' g len p ≡ estimate seg g len p
   unfolding estimate lags

@@ -25,6 +25,7 @@ use Rattle.recording.specs.declared.Reason.the-variants.{Setting}
 use Rattle.recording.specs.declared.Answer.{Answer}
 use Rattle.recording.specs.declared.Answer.the-variants.{Done, Refused}
 use Rattle.recording.proofs.open.Laws.{EitherWay, truth}
+use Rattle.model.proofs.Passes.{both-hold}
 use Rattle.inpaint.specs.Gap.{float, count, needed, gapRepair}
 use Rattle.inpaint.specs.Auto.{allowed, limit, dropout, begins, qualifies, runLength, runAt, nextAmong, nextRun}
 use Rattle.inpaint.specs.Auto.{Scan, scan, repairAt, scanFrom, scannable, automatic}
@@ -182,7 +183,7 @@ thousand : ofBits binary32 1148846080 ≡ count 1000
 unfolding ofBits count ofInt
 thousand = refl
 
-unit : one-word ≡ one
+pub unit : one-word ≡ one
 unfolding ofBits
 unit = refl
 
@@ -302,18 +303,13 @@ search-ends samples most i whole h e =
 
 -- ---- a run that is found
 
--- both tests, and all four
-two-tests : (a b : Bool) → a && b ≡ true → (a ≡ true) × (b ≡ true)
-two-tests true true h = (refl, refl)
-two-tests true false h = absurd (false≢true h)
-two-tests false b h = absurd (false≢true h)
-
-qualifies-long-inside : (n most start len : ℕ) → qualifies n most start len ≡ true → (2 ≤ len) × (start + len < n)
-qualifies-long-inside n most start len h =
-    let last = two-tests (leb 2 len && leb len most && ltb 0 start) (ltb (start + len) n) h in
-    let third = two-tests (leb 2 len && leb len most) (ltb 0 start) (last .0) in
-    let second = two-tests (leb 2 len) (leb len most) (third .0) in
-    (leb-true 2 len (second .0), ltb-true (start + len) n (last .1))
+-- what its four tests say of a run that qualifies
+pub qualifies-all : (n most start len : ℕ) → qualifies n most start len ≡ true → (2 ≤ len) × (len ≤ most) × (0 < start) × (start + len < n)
+qualifies-all n most start len h =
+    let last = both-hold (leb 2 len && leb len most && ltb 0 start) (ltb (start + len) n) h in
+    let third = both-hold (leb 2 len && leb len most) (ltb 0 start) (last .0) in
+    let second = both-hold (leb 2 len) (leb len most) (third .0) in
+    (leb-true 2 len (second .0), leb-true len most (second .1), ltb-true 0 start (third .1), ltb-true (start + len) n (last .1))
 
 -- a run starts at place i that qualifies
 abbrev pub starts : List ℕ → ℕ → ℕ → Bool
@@ -333,14 +329,14 @@ pub record Found (samples : List ℕ) (most i start len : ℕ) : Type 0 where
 found-there : (samples : List ℕ) (most i : ℕ) → starts samples most i ≡ true → Found samples most i i (runAt samples i)
 found-there samples most i t =
     let len = runAt samples i in
-    let fits = qualifies-long-inside (length samples) most i len (two-tests (begins samples i) _ t .1) in
+    let fits = qualifies-all (length samples) most i len (both-hold (begins samples i) _ t .1) in
     record {
       from = omega arith;
       long = refl;
       here = t;
       none-before = λ j a b. absurd (omega arith);
       two = fits .0;
-      inside = fits .1;
+      inside = fits .3;
     }
 
 found-later : (samples : List ℕ) (most i start len : ℕ) → starts samples most i ≡ false
