@@ -8,15 +8,15 @@ use Prim.Native.Nat.{ℕ, _+_, _≤_}
 use native.Mathlib.Omega.{arith}
 use lib.Dec.{ltb}
 use lib.ListN.{length}
-use Rattle.recording.specs.Recording.{Plan, change, span, made, gapByModel, gapByLine}
+use Rattle.recording.specs.Recording.{Plan, change, span, made, gapByModel, gapByLine, unlessRead}
 use Rattle.recording.specs.History.{Keeps}
 use Rattle.recording.specs.declared.Answer.{Answer}
 use Rattle.recording.specs.declared.Answer.the-variants.{Done, Refused}
 use Rattle.recording.proofs.open.Laws.{truth}
 use Rattle.recording.proofs.Performing.{span-ascends}
-use Rattle.inpaint.specs.Gap.{gapWrong, byLine, needed, allReadable, unlessRead, line, model, repaired, gapPlan}
+use Rattle.inpaint.specs.Gap.{gapWrong, byLine, needed, allReadable, line, model, repaired, gapPlan}
 use Rattle.inpaint.specs.Consequences.{GapIsLawful}
-use Rattle.inpaint.proofs.Picks.{picks}
+use Rattle.recording.proofs.Picks.{picks}
 use Rattle.inpaint.proofs.window.Laws.{gap-right}
 use Rattle.inpaint.proofs.line.Laws.{length-line}
 use Rattle.inpaint.proofs.fill.Laws.{length-model}

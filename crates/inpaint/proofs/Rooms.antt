@@ -14,14 +14,13 @@ use borrow.Author.Tests.{ltb-true}
 use Rattle.leaves.specs.Floats.{inRange}
 use Rattle.recording.specs.Answers.{number, reasonNumber}
 use Rattle.recording.specs.Recording.{State, Ended, Placed, Plan, refuse, change, if_then_else_, differ, tooMany}
-use Rattle.recording.specs.Recording.{overUsed}
+use Rattle.recording.specs.Recording.{overUsed, readable, unlessRead}
 use Rattle.recording.specs.Recording.{fitting, ranged, entered, entry, committed, carried, performed, unlessRefused}
 use Rattle.recording.specs.Recording.{entrySize, places}
 use Rattle.recording.specs.declared.Reason.the-variants.{Room, Setting}
 use Rattle.recording.specs.declared.Answer.{Answer}
 use Rattle.recording.specs.declared.Answer.the-variants.{Done, Refused}
-use Rattle.inpaint.specs.Gap.{gapWrong, byLine, needed, readable, allReadable, knownBefore, knownBehind, orElse}
-use Rattle.inpaint.specs.Gap.{unlessRead}
+use Rattle.inpaint.specs.Gap.{gapWrong, byLine, needed, allReadable, knownBefore, knownBehind, orElse}
 use Rattle.inpaint.specs.Gap.{from, line, model, repaired, gapPlan, gapRepair}
 use Rattle.inpaint.specs.Auto.{limit, allowed, dropout, begins, runAt, qualifies, nextRun, Scan, scan, repairAt}
 use Rattle.inpaint.specs.Auto.{scanFrom, scannable, automatic}
@@ -32,7 +31,7 @@ use Rattle.inpaint.proofs.line.Laws.{length-line}
 use Rattle.inpaint.proofs.auto.Laws.{Found, qualifies-all, found-run, scan-stops, scan-takes, automatic-refused}
 use Rattle.inpaint.proofs.auto.Laws.{automatic-scanned}
 use Rattle.model.proofs.Passes.{both-hold}
-use Rattle.inpaint.proofs.Picks.{picks, picks-by}
+use Rattle.recording.proofs.Picks.{picks, picks-by}
 use Rattle.inpaint.proofs.Scans.{Behind, repair-leaves, work-count, found-behind, begins-not-there}
 use Rattle.inpaint.proofs.Scans.{model-within, whole}
 

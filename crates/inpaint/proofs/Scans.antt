@@ -14,7 +14,7 @@ use lib.Dec.{ltb, eqb}
 use lib.Ieee.{Float}
 use borrow.Author.Tests.{ne-eqb}
 use Rattle.leaves.specs.Arithmetic.{nought}
-use Rattle.recording.specs.Recording.{State, Ended, places, put, span, Plan, refuse, change}
+use Rattle.recording.specs.Recording.{State, Ended, places, put, span, Plan, refuse, change, unlessRead}
 use Rattle.recording.specs.Recording.{fitting, ranged, entered, committed, carried, performed, unlessRefused}
 use Rattle.recording.specs.Recording.{entrySize, clears, workAfter}
 use Rattle.recording.specs.History.{Lawful, run, did}
@@ -24,7 +24,7 @@ use Rattle.recording.specs.declared.Answer.the-variants.{Done, Refused}
 use Rattle.recording.proofs.open.Laws.{EitherWay, truth}
 use Rattle.recording.proofs.Put.{Among, length-put, put-elsewhere}
 use Rattle.model.specs.Model.{filled}
-use Rattle.inpaint.specs.Gap.{gapWrong, byLine, needed, allReadable, unlessRead, line}
+use Rattle.inpaint.specs.Gap.{gapWrong, byLine, needed, allReadable, line}
 use Rattle.inpaint.specs.Gap.{model, repaired, gapPlan, gapRepair}
 use Rattle.inpaint.specs.Auto.{limit, dropout, begins, runLength, runAt, nextAmong, nextRun}
 use Rattle.inpaint.specs.Auto.{Scan, scan, repairAt, scanFrom, scannable, automatic}
@@ -34,7 +34,7 @@ use Rattle.inpaint.specs.declared.Run.the-variants.{At, Nowhere}
 use Rattle.inpaint.proofs.auto.Laws.{starts, Found, found-run, scan-stops, scan-takes}
 use Rattle.inpaint.proofs.auto.Laws.{automatic-refused, automatic-scanned}
 use Rattle.inpaint.proofs.line.Laws.{length-line}
-use Rattle.inpaint.proofs.Picks.{picks}
+use Rattle.recording.proofs.Picks.{picks}
 use Rattle.inpaint.proofs.Lawful.{gap-lawful}
 
 abbrev stretch : ℕ → ℕ → Stretch

@@ -6,14 +6,14 @@ use lib.ListN.{length, getD}
 use lib.Dec.{leb, ltb, eqb}
 use lib.Ieee.{Float, isNan, eq, mul, div, toUnsigned}
 use lib.Ieee.Scale.{finite}
-use Rattle.leaves.specs.Arithmetic.{_*₃₂_, _/₃₂_, nought, one}
+use Rattle.leaves.specs.Arithmetic.{_*₃₂_, _/₃₂_, nought, one, float, count}
 use Rattle.leaves.specs.Floats.{larger}
 use Rattle.recording.specs.Answers.{number}
 use Rattle.recording.specs.Recording.{State, fitting, workAfter, if_then_else_}
 use Rattle.recording.specs.declared.Reason.the-variants.{Setting}
 use Rattle.recording.specs.declared.Answer.{Answer}
 use Rattle.recording.specs.declared.Answer.the-variants.{Done, Refused}
-use Rattle.inpaint.specs.Gap.{float, count, needed, gapRepair}
+use Rattle.inpaint.specs.Gap.{needed, gapRepair}
 use Rattle.inpaint.specs.declared.Run.{Run}
 use Rattle.inpaint.specs.declared.Run.the-variants.{At, Nowhere}
 

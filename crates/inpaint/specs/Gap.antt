@@ -5,13 +5,12 @@ use mathlib.Core.Bool.{Bool, _||_}
 use mathlib.Core.List.{List, [], _∷_, map}
 use lib.ListN.{length, getD, take, drop}
 use lib.Dec.{leb, ltb, eqb}
-use lib.IntN.{pos}
-use lib.Ieee.{Float, binary32, ofBits, toBits, ofInt, add, sub, mul, div}
-use Rattle.leaves.specs.Arithmetic.{_+₃₂_, _-₃₂_, _*₃₂_, _/₃₂_, nought, one}
-use Rattle.leaves.specs.Floats.{inRange, narrowed}
+use lib.Ieee.{Float, binary32, toBits, add, sub, mul, div}
+use Rattle.leaves.specs.Arithmetic.{_+₃₂_, _-₃₂_, _*₃₂_, _/₃₂_, nought, one, float, count}
+use Rattle.leaves.specs.Floats.{narrowed}
 use Rattle.recording.specs.Recording.{State, Ended, Plan, refuse, change, span, performed, if_then_else_, gapByModel}
-use Rattle.recording.specs.Recording.{gapByLine}
-use Rattle.recording.specs.declared.Reason.the-variants.{Gap, Workspace, Read}
+use Rattle.recording.specs.Recording.{gapByLine, readable, unlessRead}
+use Rattle.recording.specs.declared.Reason.the-variants.{Gap, Workspace}
 use Rattle.recording.specs.declared.Answer.{Answer}
 use Rattle.recording.specs.declared.Answer.the-variants.{Done, Refused}
 use Rattle.model.specs.Model.{orderFor, filled}
@@ -58,13 +57,6 @@ knownBefore samples start len = take (start - from start len) (drop (from start 
 unfoldable pub knownBehind : List ℕ → ℕ → ℕ → List ℕ
 knownBehind samples start len = take (to (length samples) start len - (start + len)) (drop (start + len) samples)
 
--- 7: "a sample that the repair reads is not in range", with "the lowest such place", for words that stand from place i on; or
--- else an acceptance
-unfoldable pub readable : ℕ → List ℕ → Answer
-unfolding inRange
-readable i [] = Done 0
-readable i (w ∷ ws) = let later = readable (i + 1) ws in if inRange w then later else Refused (Read i)
-
 -- the first refusal of two tests, or else an acceptance
 abbrev pub orElse : Answer → Answer → Answer
 orElse (Done m) later = later
@@ -75,21 +67,7 @@ unfolding knownBefore knownBehind readable
 allReadable samples start len =
     orElse (readable (from start len) (knownBefore samples start len)) (readable (start + len) (knownBehind samples start len))
 
--- a refusal where there is one, and else the rest of the plan
-abbrev pub unlessRead : Answer → Plan → Plan
-unlessRead (Done m) rest = rest
-unlessRead (Refused why) rest = refuse why
-
 -- ---- The straight line
-
--- the float of a sample, and of a whole number, in f32
-unfoldable pub float : ℕ → Float
-unfolding ofBits
-float w = ofBits binary32 w
-
-unfoldable pub count : ℕ → Float
-unfolding ofInt
-count n = ofInt binary32 (pos n)
 
 -- "left is the sample before the gap, or 0 at the start; right likewise."
 unfoldable pub leftOf : List ℕ → ℕ → Float

@@ -10,8 +10,8 @@ ghost use Rattle.inpaint.specs.Auto.{allowed, limit, dropout, begins, qu
 use super::Run;
 use super::Scanned;
 use super::gap::inpaint_gap;
-use super::line::count_as_f32;
 use leaves::order::larger32;
+use leaves::words::count_as_f32;
 use leaves::words::f32_of_word;
 use recording::Answer;
 use recording::Reason;

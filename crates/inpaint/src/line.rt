@@ -6,21 +6,14 @@ ghost use lib.ListN.{length};
 ghost use lib.Ieee.{binary32, toBits};
 ghost use Rattle.recording.specs.Recording.{state, ended, mostSamples, change, span, ranged, carried, gapByLine};
 ghost use Rattle.recording.specs.Inner.{Fits};
-ghost use Rattle.inpaint.specs.Gap.{count, leftOf, rightOf, lineAt, lineFrom, line};
+ghost use Rattle.inpaint.specs.Gap.{leftOf, rightOf, lineAt, lineFrom, line};
+use leaves::words::count_as_f32;
 use leaves::words::f32_of_word;
 use leaves::words::in_range;
 use leaves::words::word_of_f32;
 use recording::Answer;
 use recording::Reason;
 use recording::commit::enter_span;
-
-// A count as an f32.
-pub fn count_as_f32(n: usize) -> f32
-    requires { ⌜ n ≤ 16777216 ⌝ }
-    ensures { λ r. ⌜ r ≡ count n ⌝ }
-{
-    std::num::nearest_u32_to_f32(n as u32)
-}
 
 // The sample before place `start`, or 0 where there is none.
 fn left_of(samples: &[u32], start: usize) -> f32

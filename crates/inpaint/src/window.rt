@@ -4,13 +4,12 @@ ghost use Prim.Native.Nat.{_+_, _-_, _≤_};
 ghost use lib.ListN.{length};
 ghost use Rattle.recording.specs.Recording.{mostSamples};
 ghost use Rattle.model.specs.Model.{orderFor};
-ghost use Rattle.inpaint.specs.Gap.{gapWrong, context, from, to, window, needed, readable, allReadable};
+ghost use Rattle.inpaint.specs.Gap.{gapWrong, context, from, to, window, needed, allReadable};
 ghost use Rattle.inpaint.specs.Inner.{Within};
-use leaves::words::in_range;
-use model::sums::above;
-use model::sums::least;
+use leaves::counts::above;
+use leaves::counts::least;
 use recording::Answer;
-use recording::Reason;
+use recording::read::check_words;
 
 // A gap of more samples goes by straight line.
 pub const MAX_SOLVE: usize = 2048;
@@ -99,21 +98,6 @@ pub fn needed_for(n: usize, start: usize, len: usize) -> usize
     let size = window_to(n, start, len) - window_from(start, len);
     let p = order_for(len);
     size + len * (p + 1) + 3 * len + 4 * (p + 1)
-}
-
-// Refusal 7 for words that stand from place `first` on; accepted, with 0, where all are in range.
-fn check_words(words: &[u32], first: usize) -> Answer
-    requires { ⌜ first + length (now words) ≤ mostSamples ⌝ }
-    ensures { λ r. ⌜ r ≡ readable first (now (words .entry)) ⌝ }
-{
-    let mut i: usize = 0;
-    while i < words.len() {
-        if !in_range(words[i]) {
-            return Answer::Refused(Reason::Read(first + i));
-        }
-        i += 1;
-    }
-    Answer::Done(0)
 }
 
 // Refusal 7 for what the repair of a gap reads: the window before the gap, and then behind it.

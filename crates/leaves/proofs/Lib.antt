@@ -1,5 +1,7 @@
 -- Laws on numbers, lists and floats that several proofs, here and in the crates above, cite.
 pub mod Numbers
 pub mod Lists
+pub mod Parts
+pub mod Stores
 pub mod Values
 pub mod Rounding

@@ -3,9 +3,9 @@
 use Prim.Native.Nat.{ℕ}
 use mathlib.Core.Bool.{false}
 use mathlib.Core.List.{List}
-use lib.IntN.{pos}
+use lib.IntN.{pos, negsuc}
 use lib.ListN.{getD}
-use lib.Ieee.{Float, nan, fin, Format, binary32, binary64, round, add, sub, mul, div}
+use lib.Ieee.{Float, nan, fin, Format, binary32, binary64, ofBits, ofInt, round, add, sub, mul, div}
 
 infixl 65 _+₃₂_ _-₃₂_ _+₆₄_ _-₆₄_
 infixl 70 _*₃₂_ _/₃₂_ _*₆₄_ _/₆₄_
@@ -33,17 +33,29 @@ _*₆₄_ = mul binary64
 abbrev pub _/₆₄_ : Float → Float → Float
 _/₆₄_ = div binary64
 
--- +0 and 1, which both formats hold
+-- +0, 1 and 1 / 2, which both formats hold
 abbrev pub nought : Float
 nought = fin false 0 (pos 0)
 
 abbrev pub one : Float
 one = fin false 1 (pos 0)
 
+abbrev pub half : Float
+half = fin false 1 (negsuc 0)
+
 -- the float of a format that is nearest to a / b, for b above 0: so 1e-6 in an f64 is `near binary64 1 1000000`
 unfoldable pub near : Format → ℕ → ℕ → Float
 unfolding round
 near f a b = round f false a b
+
+-- the float of a sample, and of a whole number, in f32
+unfoldable pub float : ℕ → Float
+unfolding ofBits
+float w = ofBits binary32 w
+
+unfoldable pub count : ℕ → Float
+unfolding ofInt
+count n = ofInt binary32 (pos n)
 
 -- what stands at place i of a list of floats
 abbrev pub at : List Float → ℕ → Float

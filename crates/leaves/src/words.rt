@@ -1,7 +1,9 @@
 // Words and floats: the float that a bit pattern stands for, the pattern of a float, a float at the
 // wider format, and whether a sample is in range.
 ghost use mathlib.Core.Path.{_≡_};
+ghost use Prim.Native.Nat.{_≤_};
 ghost use lib.Ieee.{binary32, binary64, ofBits, toBits};
+ghost use Rattle.leaves.specs.Arithmetic.{count};
 ghost use Rattle.leaves.specs.Floats.{inRange};
 
 // A pattern has the sign on top, then the exponent's field, then the digits below the leading one. The
@@ -67,6 +69,14 @@ pub fn widen(x: f32) -> f64
     ensures { λ r. ⌜ r ≡ x ⌝ }
 {
     std::num::f32_to_f64_with_nan(x)
+}
+
+// A count as an f32, which holds every whole number up to 2 ^ 24.
+pub fn count_as_f32(n: usize) -> f32
+    requires { ⌜ n ≤ 16777216 ⌝ }
+    ensures { λ r. ⌜ r ≡ count n ⌝ }
+{
+    std::num::nearest_u32_to_f32(n as u32)
 }
 
 // Whether a sample is in range. A NaN and the infinities fail one of the two comparisons.

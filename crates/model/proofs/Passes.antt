@@ -15,7 +15,7 @@ use Rattle.leaves.proofs.Lists.{read-before, read-after}
 use Rattle.recording.proofs.open.Laws.{truth}
 use Rattle.model.specs.Model.{plus, plusWhere, known, lagSum, lags, estimate, coefAutocorr, rightSide, rightSides}
 use Rattle.model.specs.Model.{solveBanded, backward, solved, pass, passes, orderFor, filled}
-use Rattle.model.proofs.Parts.{part-of-sets}
+use Rattle.leaves.proofs.Parts.{part-of-sets}
 use Rattle.model.proofs.sums.Laws.{plus-agree, each-agree, known-before}
 
 -- two windows that are the same outside the gap

@@ -1,25 +1,13 @@
 // The sums of the model, each over lent lists and in the order of its rule.
 ghost use mathlib.Core.Path.{_≡_};
 ghost use mathlib.Core.Bool.{Bool};
-ghost use Prim.Native.Nat.{_+_, _-_, _*_, _≤_, _<_, min};
+ghost use Prim.Native.Nat.{_+_, _-_, _*_, _≤_, _<_};
 ghost use lib.ListN.{length};
 ghost use lib.Ieee.{binary64, mul};
 ghost use Rattle.leaves.specs.Arithmetic.{_*₆₄_, at};
 ghost use Rattle.model.specs.Model.{less, known, mat, lagSum, shortfall, coefAt, rightSide};
-
-// a - b, and 0 where b is the larger.
-pub fn above(a: usize, b: usize) -> usize
-    ensures { λ r. ⌜ r ≡ a - b ⌝ }
-{
-    if b <= a { a - b } else { 0 }
-}
-
-// The smaller of two counts.
-pub fn least(a: usize, b: usize) -> usize
-    ensures { λ r. ⌜ r ≡ min a b ⌝ }
-{
-    if a <= b { a } else { b }
-}
+use leaves::counts::above;
+use leaves::counts::least;
 
 // Whether place i of the window lies outside the gap.
 fn is_known(g: usize, len: usize, i: usize) -> bool

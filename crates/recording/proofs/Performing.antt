@@ -2,12 +2,13 @@
 -- workspace, of words or of doubles, and that the places it names ascend. Assumes nothing.
 use mathlib.Core.Path.{_≡_, refl, sym, ap, _∙_}
 use mathlib.Core.Bool.{Bool, true, false, cond}
-use mathlib.Core.List.{List, [], _∷_}
+use mathlib.Core.List.{List, [], _∷_, _++_}
 use mathlib.Core.Logic.{inl, inr}
 use Prim.Native.Nat.{ℕ, _+_, _-_, _≤_}
 use native.Mathlib.Omega.{arith}
 use lib.Dec.{ltb, eqb}
-use lib.ListN.{length, take, drop, length-take}
+use lib.ListN.{length, take, drop, replicate, length-take, length-replicate}
+use lib.Seq.{sets-eq}
 use Rattle.recording.specs.Recording.{State, Ended, ended, differ, tooMany, overUsed, fitting, cleared, clears}
 use Rattle.recording.specs.Recording.{workAfter}
 use Rattle.recording.specs.Recording.{Placed, entrySize, entered, ranged, Plan, change, span, picked, carried, performed}
@@ -80,6 +81,26 @@ commit-clears nought s mark cs a after e n work next done =
     let answer : a ≡ carried s (change mark cs) .answer = ap (λ (x : Ended). x .answer) e in
     let clear : clears a ≡ true = rw answer (carried-clears s mark cs) in
     rw clear done
+
+-- clearing does not depend on what stood in the part that is cleared
+cleared-same : {A : Type 0} (nought : A) (n : ℕ) (w v : List A) → n ≤ length w → length v ≡ length w
+    → drop n v ≡ drop n w → cleared nought n v ≡ cleared nought n w
+cleared-same nought n w v h e k =
+    let zeros = replicate n nought in
+    let count : length zeros ≡ n = length-replicate n nought in
+    let there : 0 + length zeros ≡ n = omega arith in
+    sets-eq zeros v 0 (omega arith)
+    ∙ ap (λ (i : ℕ). zeros ++ drop i v) there
+    ∙ ap (λ (l : List _). zeros ++ l) k
+    ∙ sym (ap (λ (i : ℕ). zeros ++ drop i w) there)
+    ∙ sym (sets-eq zeros w 0 (omega arith))
+
+-- a workspace that kept what is not needed, cleared of what is, with the number of these under another name
+pub cleared-too : {A : Type 0} (nought : A) (k n : ℕ) (w v next : List A)
+    → next ≡ cleared nought k v → k ≡ n → n ≤ length w
+    → length v ≡ length w → drop n v ≡ drop n w → next ≡ cleared nought n w
+cleared-too nought k n w v next e ek h count kept =
+    e ∙ ap (λ (i : ℕ). cleared nought i v) ek ∙ cleared-same nought n w v h count kept
 
 -- ---- Named places ascend
 

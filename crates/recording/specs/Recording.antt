@@ -9,7 +9,7 @@ use lib.Seq.{sets}
 use lib.Dec.{leb, ltb, eqb}
 use Rattle.leaves.specs.Floats.{inRange}
 use Rattle.recording.specs.declared.Reason.{Reason}
-use Rattle.recording.specs.declared.Reason.the-variants.{Counts, TooMany, Used, Result, Room, Nothing, Malformed}
+use Rattle.recording.specs.declared.Reason.the-variants.{Counts, TooMany, Used, Read, Result, Room, Nothing, Malformed}
 use Rattle.recording.specs.declared.Answer.{Answer}
 use Rattle.recording.specs.declared.Answer.the-variants.{Done, Refused}
 use Rattle.recording.specs.Answers.{number}
@@ -170,6 +170,18 @@ ranged (c ∷ cs) = let later = ranged cs in if inRange (c .value) then later el
 pub data Plan : Type 0 where
   refuse : Reason → Plan
   change : ℕ → List Placed → Plan
+
+-- 7: "a sample that the repair reads is not in range", with "the lowest such place", for words that stand from place i on; or
+-- else an acceptance
+unfoldable pub readable : ℕ → List ℕ → Answer
+unfolding inRange
+readable i [] = Done 0
+readable i (w ∷ ws) = let later = readable (i + 1) ws in if inRange w then later else Refused (Read i)
+
+-- a refusal where there is one, and else the rest of the plan
+abbrev pub unlessRead : Answer → Plan → Plan
+unlessRead (Done m) rest = rest
+unlessRead (Refused why) rest = refuse why
 
 -- named as a span: consecutive places from i on, with these words
 unfoldable pub span : ℕ → List ℕ → List Placed

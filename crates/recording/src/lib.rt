@@ -5,6 +5,7 @@ pub mod clear;
 pub mod commit;
 pub mod numbers;
 pub mod open;
+pub mod read;
 pub mod undo;
 
 // Why a call is turned away, in the order of document 01's table, whose first line is number 1. The

@@ -15,7 +15,7 @@ use lib.Ieee.{Float, nan, inf, fin, binary32, up, down, neg, div, mul, lt, eq, n
 use lib.Ieee.Fits.{down-pos}
 use lib.Ieee.Scale.{finite}
 use borrow.Author.Tests.{lt-ltb, le-ltb, le-leb, lt-leb, eq-eqb, ne-eqb, ltb-true, ltb-false, leb-true}
-use Rattle.leaves.specs.Arithmetic.{nought, one}
+use Rattle.leaves.specs.Arithmetic.{nought, one, float, count}
 use Rattle.leaves.specs.Floats.{larger}
 use Rattle.leaves.proofs.words.Laws.{nan-test, one-nan}
 use Rattle.recording.specs.Answers.{number}
@@ -26,7 +26,7 @@ use Rattle.recording.specs.declared.Answer.{Answer}
 use Rattle.recording.specs.declared.Answer.the-variants.{Done, Refused}
 use Rattle.recording.proofs.open.Laws.{EitherWay, truth}
 use Rattle.model.proofs.Passes.{both-hold}
-use Rattle.inpaint.specs.Gap.{float, count, needed, gapRepair}
+use Rattle.inpaint.specs.Gap.{needed, gapRepair}
 use Rattle.inpaint.specs.Auto.{allowed, limit, dropout, begins, qualifies, runLength, runAt, nextAmong, nextRun}
 use Rattle.inpaint.specs.Auto.{Scan, scan, repairAt, scanFrom, scannable, automatic}
 use Rattle.inpaint.specs.declared.Run.{Run}

@@ -10,6 +10,7 @@ use borrow.Rule.Slice.PartMut.{putMid}
 use lib.ListN.{length, getD, take, drop, length-map, drop-of-length-le}
 use lib.Seq.{sets, drop-cons, length-sets}
 use lib.Ieee.{Float, binary32, ofBits, toBits}
+use Rattle.leaves.specs.Arithmetic.{float}
 use Rattle.leaves.specs.Floats.{inRange, narrowed}
 use Rattle.leaves.proofs.Lists.{lent-count, lent-back}
 use Rattle.model.specs.Model.{orderFor, filled, solved}
@@ -17,9 +18,9 @@ use Rattle.model.specs.Areas.{area, Only, Laid, resultsAt, doublesFor}
 use Rattle.recording.specs.Recording.{span, ranged}
 use Rattle.recording.specs.declared.Reason.the-variants.{Result}
 use Rattle.recording.specs.declared.Answer.the-variants.{Done, Refused}
-use Rattle.inpaint.specs.Gap.{context, from, to, windowSize, window, needed, float, narrowWord, model}
+use Rattle.inpaint.specs.Gap.{context, from, to, windowSize, window, needed, narrowWord, model}
 use Rattle.inpaint.proofs.window.Laws.{context-most, needed-model, band-most}
-use Rattle.model.proofs.Parts.{part-length, part-of-sets, drop-sets}
+use Rattle.leaves.proofs.Parts.{part-length, part-of-sets, drop-sets}
 use Rattle.model.proofs.Passes.{one-pass, filled-length}
 
 -- ---- Words and doubles

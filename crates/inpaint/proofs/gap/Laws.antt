@@ -11,15 +11,16 @@ use lib.Dec.{ltb}
 use lib.ListN.{length, drop, replicate, length-replicate}
 use lib.Seq.{sets-eq}
 use Rattle.leaves.specs.Floats.{inRange}
-use Rattle.recording.specs.Recording.{State, Ended, ended, refused, Plan, refuse, change, span, fitting, carried}
+use Rattle.recording.specs.Recording.{State, Ended, ended, refused, Plan, refuse, change, span, fitting, carried, readable}
 use Rattle.recording.specs.Recording.{cleared, clears, workAfter, if_then_else_, gapByModel, gapByLine}
 use Rattle.recording.specs.declared.Reason.{Reason}
 use Rattle.recording.specs.declared.Reason.the-variants.{Gap, Workspace, Read}
 use Rattle.recording.specs.declared.Answer.{Answer}
 use Rattle.recording.specs.declared.Answer.the-variants.{Done, Refused}
 use Rattle.recording.proofs.open.Laws.{EitherWay, truth}
+use Rattle.recording.proofs.read.Laws.{ReadEnds, readable-ends}
 use Rattle.recording.proofs.Performing.{unfit, fit}
-use Rattle.inpaint.specs.Gap.{gapWrong, needed, readable, allReadable, from, knownBefore, knownBehind}
+use Rattle.inpaint.specs.Gap.{gapWrong, needed, allReadable, from, knownBefore, knownBehind}
 use Rattle.inpaint.specs.Gap.{line, model, repaired, gapPlan, gapRepair}
 use Rattle.inpaint.proofs.window.Laws.{gap-right}
 use Rattle.inpaint.proofs.fill.Laws.{model-passes}
@@ -90,19 +91,6 @@ refused-as s why = refl
 
 -- ---- The workspace
 
--- the test of what is read gives no other refusal than 7
-abbrev ReadEnds : Answer → Type 0
-ReadEnds a = (a ≡ Done 0) ⊎ ((i : ℕ) × (a ≡ Refused (Read i)))
-
-readable-ends : (i : ℕ) (ws : List ℕ) → ReadEnds (readable i ws)
-unfolding readable
-readable-ends i [] = inl refl
-readable-ends i (w ∷ ws) = one (truth (inRange w)) (readable-ends (i + 1) ws)
-  where
-    one : EitherWay (inRange w) → ReadEnds (readable (i + 1) ws) → ReadEnds (readable i (w ∷ ws))
-    one (inl h) later = rw h later
-    one (inr h) later = inr (i, rw h refl)
-
 all-ends : (samples : List ℕ) (start len : ℕ) → ReadEnds (allReadable samples start len)
 unfolding allReadable
 all-ends samples start len =
@@ -126,23 +114,3 @@ read-keeps nought samples start len a e why h n work = rw kept refl
       where
         never : Refused why ≡ Done 0 → ⊥
         never both = let none : _≡_ {A = ℕ} 0 1 = cc in omega arith
-
--- clearing does not depend on what stood in the part that is cleared
-cleared-same : {A : Type 0} (nought : A) (n : ℕ) (w v : List A) → n ≤ length w → length v ≡ length w
-    → drop n v ≡ drop n w → cleared nought n v ≡ cleared nought n w
-cleared-same nought n w v h e k =
-    let zeros = replicate n nought in
-    let count : length zeros ≡ n = length-replicate n nought in
-    let there : 0 + length zeros ≡ n = omega arith in
-    sets-eq zeros v 0 (omega arith)
-    ∙ ap (λ (i : ℕ). zeros ++ drop i v) there
-    ∙ ap (λ (l : List _). zeros ++ l) k
-    ∙ sym (ap (λ (i : ℕ). zeros ++ drop i w) there)
-    ∙ sym (sets-eq zeros w 0 (omega arith))
-
--- a workspace that kept what is not needed, cleared of what is, with the number of these under another name
-pub cleared-too : {A : Type 0} (nought : A) (k n : ℕ) (w v next : List A)
-    → next ≡ cleared nought k v → k ≡ n → n ≤ length w
-    → length v ≡ length w → drop n v ≡ drop n w → next ≡ cleared nought n w
-cleared-too nought k n w v next e ek h count kept =
-    e ∙ ap (λ (i : ℕ). cleared nought i v) ek ∙ cleared-same nought n w v h count kept

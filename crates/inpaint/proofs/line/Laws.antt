@@ -12,21 +12,17 @@ use lib.ListN.{length, getD, set, take, drop}
 use lib.Seq.{sets}
 use lib.IntN.{pos}
 use lib.Ieee.{Float, binary32, ofBits, toBits, ofInt}
-use Rattle.leaves.specs.Arithmetic.{_+₃₂_, _-₃₂_, _*₃₂_, _/₃₂_, nought, one}
+use Rattle.leaves.specs.Arithmetic.{_+₃₂_, _-₃₂_, _*₃₂_, _/₃₂_, nought, one, float, count}
 use Rattle.leaves.specs.Floats.{inRange}
 use Rattle.leaves.proofs.Lists.{lent-count, lent-back}
 use Rattle.recording.specs.Recording.{span, ranged}
 use Rattle.recording.specs.declared.Reason.the-variants.{Result}
 use Rattle.recording.specs.declared.Answer.{Answer}
 use Rattle.recording.specs.declared.Answer.the-variants.{Done, Refused}
-use Rattle.inpaint.specs.Gap.{float, count, leftOf, rightOf, lineAt, lineFrom, line}
-use Rattle.inpaint.proofs.Stores.{stored-over}
+use Rattle.inpaint.specs.Gap.{leftOf, rightOf, lineAt, lineFrom, line}
+use Rattle.leaves.proofs.Stores.{stored-over}
 
 -- ---- Its ends and its words
-
-pub count-is : (n : ℕ) (x : Float) → x ≡ ofInt binary32 (pos n) → x ≡ count n
-unfolding count
-count-is n x e = e
 
 -- the code's literals
 no-sample : ofBits binary32 0 ≡ nought

@@ -18,8 +18,9 @@ use Rattle.recording.specs.declared.Reason.{Reason}
 use Rattle.recording.specs.declared.Reason.the-variants.{Read}
 use Rattle.recording.specs.declared.Answer.{Answer}
 use Rattle.recording.specs.declared.Answer.the-variants.{Done, Refused}
+use Rattle.recording.specs.Recording.{readable}
 use Rattle.recording.proofs.open.Laws.{EitherWay, truth}
-use Rattle.inpaint.specs.Gap.{gapWrong, context, from, to, window, needed, readable}
+use Rattle.inpaint.specs.Gap.{gapWrong, context, from, to, window, needed}
 use Rattle.inpaint.specs.Gap.{knownBefore, knownBehind, allReadable}
 
 -- ---- Refusal 5
@@ -84,23 +85,6 @@ band-most len p h k =
     mul-le-mul h wide
 
 -- ---- What is read
-
--- one turn of the test of words, and the word that is out of range
-pub read-more : (ws : List ℕ) (first i : ℕ) → i < length ws → inRange (getD ws i 0) ≡ true
-    → readable (first + i) (drop i ws) ≡ readable (first + (i + 1)) (drop (i + 1) ws)
-unfolding readable
-read-more ws first i h e =
-    let next : first + i + 1 ≡ first + (i + 1) = omega arith in
-    rw (drop-cons ws i 0, e, next, add-one i) refl
-
-pub read-out : (ws : List ℕ) (first i : ℕ) → i < length ws → inRange (getD ws i 0) ≡ false
-    → readable (first + i) (drop i ws) ≡ Refused (Read (first + i))
-unfolding readable
-read-out ws first i h e = rw (drop-cons ws i 0, e) refl
-
-pub read-done : (ws : List ℕ) (first i : ℕ) → length ws ≤ i → readable (first + i) (drop i ws) ≡ Done 0
-unfolding readable
-read-done ws first i h = rw (drop-of-length-le ws h) refl
 
 module _ (samples : List ℕ) (start len f t : ℕ) (ef : f ≡ from start len) (et : t ≡ to (length samples) start len) where
   pub window-is : take (t - f) (drop f samples) ≡ window samples start len

@@ -6,11 +6,13 @@ use Prim.Native.Nat.{ℕ, _+_, _*_, _%_, _^_, _<_, _≤_}
 use native.Mathlib.Omega.{arith}
 use lib.Dec.{T, eqb}
 use lib.Ieee.{Float, nan, inf, fin, Format, binary32, binary64, up, down, level, ones, hid, top, neg, div, le, ne}
-use lib.Ieee.{isNan, fits, nanBits, ofBits, toBits}
+use lib.Ieee.{isNan, fits, nanBits, ofBits, toBits, ofInt}
+use lib.IntN.{pos}
 use lib.Ieee.Bits.{nanBits-is, nanBits-above, toBits-ofBits, toBits-lt}
 use lib.Ieee.Fits.{down-pos}
 use lib.Ieee.Scale.{finite}
 use borrow.Author.Tests.{lt-ltb, le-ltb, eqb-true, eqb-false, eq-eqb, ne-eqb}
+use Rattle.leaves.specs.Arithmetic.{count}
 use Rattle.leaves.specs.Floats.{magnitude, largest, inRange}
 
 -- ---- NaN
@@ -109,3 +111,8 @@ word-back w h e = toBits-ofBits binary32 w h (rw e tt)
 -- The word of an f32 fits 32 bits.
 pub word-fits : (x : Float) → T (fits binary32 x) → toBits binary32 x < 2 ^ 32
 word-fits x h = toBits-lt binary32 x h
+
+-- a count, as the library rounds it
+pub count-is : (n : ℕ) (x : Float) → x ≡ ofInt binary32 (pos n) → x ≡ count n
+unfolding count
+count-is n x e = e

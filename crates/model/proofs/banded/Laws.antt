@@ -15,8 +15,8 @@ use Rattle.leaves.specs.Root.{root}
 use Rattle.model.specs.Model.{less, mat, laid, cellAt, cells, rows, factored}
 use Rattle.model.specs.Model.{forwardAt, forward, backwardAt, backward}
 use Rattle.model.specs.Areas.{area}
-use Rattle.model.proofs.Parts.{take-sets, drop-sets, store-next, store-before, part-length, part-of-sets}
-use Rattle.model.proofs.Parts.{part-before-sets, part-grows}
+use Rattle.leaves.proofs.Parts.{take-sets, drop-sets, store-next, store-before, part-length, part-of-sets}
+use Rattle.leaves.proofs.Parts.{part-before-sets, part-grows}
 use Rattle.model.proofs.sums.Laws.{micro-word, no-sum, pico-word}
 
 -- ---- Where a place of the band lies

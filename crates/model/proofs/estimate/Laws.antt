@@ -16,8 +16,9 @@ use Rattle.leaves.specs.Floats.{magnitude}
 use Rattle.model.specs.Model.{micro, each, unit, lagSum, lags, raisedAt, raised, shortfall, orders}
 use Rattle.model.specs.Model.{levinson, estimate}
 use Rattle.model.specs.Areas.{area, Only, coefsAt}
-use Rattle.model.proofs.Parts.{take-sets, store-next, part-of-sets, part-before-sets, part-behind-sets}
-use Rattle.model.proofs.Parts.{part-length, only-sets, only-then, only-wider, only-before}
+use Rattle.leaves.proofs.Parts.{take-sets, store-next, part-of-sets, part-before-sets, part-behind-sets}
+use Rattle.leaves.proofs.Parts.{part-length}
+use Rattle.model.proofs.Parts.{only-sets, only-then, only-wider, only-before}
 use Rattle.model.proofs.sums.Laws.{each-next, length-each, micro-word, no-sum, pico-word}
 
 -- ---- The literals of the code

@@ -9,7 +9,7 @@ use lib.ListN.{length, length-set, length-map, drop}
 use lib.Seq.{sets}
 use lib.Ieee.{nan}
 use Rattle.inpaint.specs.Gap.{narrowWord}
-use Rattle.inpaint.proofs.Stores.{stored-over, image-more, image-all}
+use Rattle.leaves.proofs.Stores.{stored-over, image-more, image-all}
 use Rattle.inpaint.proofs.fill.model_fill.Statement.{statement}
 use Rattle.inpaint.proofs.fill.model_fill.Tie as tie
 

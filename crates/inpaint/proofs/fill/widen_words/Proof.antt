@@ -7,8 +7,8 @@ use mathlib.Core.Path.{_≡_, refl}
 use mathlib.Core.List.{map}
 use lib.ListN.{length, length-set, drop}
 use lib.Seq.{sets}
-use Rattle.inpaint.specs.Gap.{float}
-use Rattle.inpaint.proofs.Stores.{image-more, image-all}
+use Rattle.leaves.specs.Arithmetic.{float}
+use Rattle.leaves.proofs.Stores.{image-more, image-all}
 use Rattle.inpaint.proofs.fill.Laws.{float-is}
 use Rattle.inpaint.proofs.fill.widen_words.Statement.{statement}
 use Rattle.inpaint.proofs.fill.widen_words.Tie as tie

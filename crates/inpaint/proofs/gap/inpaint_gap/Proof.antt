@@ -15,7 +15,8 @@ use Rattle.recording.proofs.Performing.{unfit-keeps, commit-clears}
 use Rattle.inpaint.specs.Gap.{gapWrong, needed, gapPlan, gapRepair}
 use Rattle.inpaint.proofs.window.Laws.{Right, gap-right}
 use Rattle.inpaint.proofs.gap.Laws.{plan-gap, plan-short, plan-read, plan-line, plan-model}
-use Rattle.inpaint.proofs.gap.Laws.{sizes-refused, ends-as, refused-as, read-keeps, cleared-too}
+use Rattle.recording.proofs.Performing.{cleared-too}
+use Rattle.inpaint.proofs.gap.Laws.{sizes-refused, ends-as, refused-as, read-keeps}
 use Rattle.inpaint.proofs.gap.inpaint_gap.Statement.{statement}
 use Rattle.inpaint.proofs.gap.inpaint_gap.Tie as tie
 

@@ -8,7 +8,7 @@ use lib.ListN.{length, length-set}
 use lib.Seq.{sets}
 use Rattle.model.specs.Model.{cells}
 use Rattle.model.specs.Areas.{area}
-use Rattle.model.proofs.Parts.{own-part}
+use Rattle.leaves.proofs.Parts.{own-part}
 use Rattle.model.proofs.banded.Laws.{row-more, lent-length, run-grows, cells-turn, cells-done}
 use Rattle.model.proofs.banded.factor_row.Statement.{statement}
 use Rattle.model.proofs.banded.factor_row.Tie as tie

@@ -1,8 +1,8 @@
--- `inpaint::line::count_as_f32` meets its contract: the library rounds as the rule does. Assumes nothing.
+-- `leaves::words::count_as_f32` meets its contract: the library rounds as the rule does. Assumes nothing.
 use borrow.Author.Needs.{needs}
-use Rattle.inpaint.proofs.line.Laws.{count-is}
-use Rattle.inpaint.proofs.line.count_as_f32.Statement.{statement}
-use Rattle.inpaint.proofs.line.count_as_f32.Tie as tie
+use Rattle.leaves.proofs.words.Laws.{count-is}
+use Rattle.leaves.proofs.words.count_as_f32.Statement.{statement}
+use Rattle.leaves.proofs.words.count_as_f32.Tie as tie
 
 cast-nearest-u32-to-f32 : tie.Need-cast-nearest-u32-to-f32
 cast-nearest-u32-to-f32 c = search needs

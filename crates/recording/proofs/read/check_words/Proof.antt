@@ -1,4 +1,4 @@
--- `inpaint::window::check_words` meets its contract. The loop's invariant: the test of what is left gives the answer of
+-- `recording::read::check_words` meets its contract. The loop's invariant: the test of what is left gives the answer of
 -- the whole. The measure is how many words are left. Assumes nothing.
 use Prim.Native.Nat.{_+_, _-_, _≤_}
 use native.Mathlib.Omega.{arith}
@@ -7,10 +7,10 @@ use mathlib.Core.Path.{_≡_, sym, _∙_}
 use native.Mathlib.Nat.{add-zero}
 use borrow.Author.Tests.{not-true, not-false}
 use lib.ListN.{length, drop}
-use Rattle.inpaint.specs.Gap.{readable}
-use Rattle.inpaint.proofs.window.Laws.{read-more, read-out, read-done}
-use Rattle.inpaint.proofs.window.check_words.Statement.{statement}
-use Rattle.inpaint.proofs.window.check_words.Tie as tie
+use Rattle.recording.specs.Recording.{readable}
+use Rattle.recording.proofs.read.Laws.{read-more, read-out, read-done}
+use Rattle.recording.proofs.read.check_words.Statement.{statement}
+use Rattle.recording.proofs.read.check_words.Tie as tie
 
 abbrev Inv-loop : tie.InvT-loop
 Inv-loop words first i₀ i = (i ≤ length words) × (readable (first + i) (drop i words) ≡ readable first words)

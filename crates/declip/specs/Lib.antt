@@ -1,0 +1,3 @@
+pub mod Declip
+pub mod Consequences
+pub mod Rows

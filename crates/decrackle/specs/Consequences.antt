@@ -1,0 +1,20 @@
+-- What follows from the rules of decrackle, each proved in proofs/. Statements only.
+use Prim.Native.Nat.{ℕ, _+_}
+use mathlib.Core.Path.{_≡_}
+use mathlib.Core.Bool.{false}
+use mathlib.Core.List.{List}
+use mathlib.Core.Logic.{_⊎_}
+use lib.ListN.{length, getD}
+use lib.Ieee.{Float}
+use Rattle.recording.specs.History.{LawfulRepair}
+use Rattle.decrackle.specs.Decrackle.{flagsOf, decracklePlan}
+
+-- "The ends are never flagged", so that a flagged run has a sample on either side and `repair_hermite`'s edge branch, for a run
+-- that touches an end, can't be reached
+abbrev pub EndsNeverFlagged : Type 0
+EndsNeverFlagged =
+    (sensitivity : Float) (samples : List ℕ) (i : ℕ) → (i ≡ 0) ⊎ (i + 1 ≡ length samples) → getD (flagsOf sensitivity samples) i false ≡ false
+
+-- demand 3 covers the repair
+abbrev pub DecrackleIsLawful : Type 0
+DecrackleIsLawful = (sensitivity : Float) (room : ℕ) → LawfulRepair (decracklePlan sensitivity room)

@@ -1,0 +1,129 @@
+-- Decrackle: document 01's decrackle.rs paragraph, whose sentences the comments quote. Definitions only.
+use Prim.Native.Nat.{ℕ, zero, suc, _+_, _-_}
+use mathlib.Core.Bool.{Bool, false, not, _||_}
+use mathlib.Core.List.{List, [], _∷_}
+use lib.ListN.{length, getD}
+use lib.Dec.{leb, ltb, eqb}
+use lib.Ieee.{Float, binary32, lt, isNan, add, sub, mul, div, neg}
+use Rattle.leaves.specs.Arithmetic.{_+₃₂_, _-₃₂_, _*₃₂_, _/₃₂_, nought, one, half, near, float, count}
+use Rattle.leaves.specs.Floats.{magnitude, larger, held}
+use Rattle.recording.specs.Recording.{State, Ended, Plan, if_then_else_}
+use Rattle.recording.specs.Recording as recording
+use Rattle.whole.specs.Whole.{sample, store, Drawn, drawn, untouched, wholePlan, wholeRepair}
+use Rattle.whole.specs.Runs.{overRuns}
+
+-- ---- The settings
+
+-- "Sensitivity not NaN"
+abbrev pub allowed : Float → Bool
+allowed sensitivity = not (isNan sensitivity)
+
+-- "held to 1..10; factor 12−sensitivity"
+unfoldable pub factorFor : Float → Float
+unfolding held count sub
+factorFor sensitivity = count 12 -₃₂ held one (count 10) sensitivity
+
+-- ---- The flags
+
+-- "Detector 0 at both ends, elsewhere s[i]−0.5*(s[i−1]+s[i+1])."
+unfoldable pub detector : List ℕ → ℕ → Float
+unfolding float add sub mul
+detector s i =
+    if eqb i 0 || eqb (i + 1) (length s) then nought
+    else sample s i -₃₂ half *₃₂ (sample s (i - 1) +₃₂ sample s (i + 1))
+
+-- "Floor starts at 1e-6"
+unfoldable pub openingFloor : Float
+unfolding near
+openingFloor = near binary32 1 1000000
+
+-- the 1e-6 of "max(floor,1e-6)", and 0.001
+unfoldable pub leastFloor : Float
+unfolding near
+leastFloor = near binary32 1 1000000
+
+unfoldable pub alpha : Float
+unfolding near
+alpha = near binary32 1 1000
+
+-- "floor=floor*(1−0.001)+a*0.001"
+unfoldable pub floorAfter : Float → Float → Float
+unfolding alpha add sub mul
+floorAfter floor a = floor *₃₂ (one -₃₂ alpha) +₃₂ a *₃₂ alpha
+
+-- "then flag if a>factor*max(floor,1e-6)"
+unfoldable pub flagged : Float → Float → Float → Bool
+unfolding larger leastFloor lt mul
+flagged factor floor a = lt (factor *₃₂ larger floor leastFloor) a
+
+-- the flags of n places from i on, where `floor` is the floor before them: a is the detector's magnitude
+unfoldable pub flagsFrom : Float → List ℕ → Float → ℕ → ℕ → List Bool
+unfolding detector floorAfter flagged
+flagsFrom factor s floor i zero = []
+flagsFrom factor s floor i (suc n) =
+    let a = magnitude (detector s i) in
+    let next = floorAfter floor a in
+    flagged factor next a ∷ flagsFrom factor s next (i + 1) n
+
+unfoldable pub flagsOf : Float → List ℕ → List Bool
+unfolding factorFor flagsFrom openingFloor
+flagsOf sensitivity s = flagsFrom (factorFor sensitivity) s openingFloor 0 (length s)
+
+-- ---- "Each flagged run is rewritten as `repair_hermite` does": the run from s to before e, between the anchors at s-1 and e
+
+-- the slopes at the two anchors, where there is a sample beyond them
+unfoldable pub slopeBefore : List ℕ → ℕ → Float
+unfolding float sub
+slopeBefore out s = if leb 2 s then sample out (s - 1) -₃₂ sample out (s - 2) else nought
+
+unfoldable pub slopeBehind : List ℕ → ℕ → Float
+unfolding float sub
+slopeBehind out e = if ltb (e + 1) (length out) then sample out (e + 1) -₃₂ sample out e else nought
+
+-- sample k of the run, from the anchors' samples p0 and p1, their slopes m0 and m1, and the number of steps between them
+unfoldable pub hermiteAt : Float → Float → Float → Float → Float → ℕ → Float
+unfolding count add sub mul div neg
+hermiteAt p0 p1 m0 m1 span k =
+    let t = count (k + 1) /₃₂ span in
+    let t2 = t *₃₂ t in
+    let t3 = t2 *₃₂ t in
+    let h00 = count 2 *₃₂ t3 -₃₂ count 3 *₃₂ t2 +₃₂ one in
+    let h10 = t3 -₃₂ count 2 *₃₂ t2 +₃₂ t in
+    let h01 = neg (count 2) *₃₂ t3 +₃₂ count 3 *₃₂ t2 in
+    let h11 = t3 -₃₂ t2 in
+    h00 *₃₂ p0 +₃₂ h10 *₃₂ (m0 *₃₂ span) +₃₂ h01 *₃₂ p1 +₃₂ h11 *₃₂ (m1 *₃₂ span)
+
+-- n samples of it, from the k-th on
+unfoldable pub hermiteFrom : Float → Float → Float → Float → Float → ℕ → ℕ → ℕ → List ℕ → List ℕ
+unfolding hermiteAt
+hermiteFrom p0 p1 m0 m1 span s k zero out = out
+hermiteFrom p0 p1 m0 m1 span s k (suc n) out =
+    hermiteFrom p0 p1 m0 m1 span s (k + 1) n (store out (s + k) (hermiteAt p0 p1 m0 m1 span k))
+
+-- the anchors and the slopes are read before the run is written
+unfoldable pub rewritten : ℕ → ℕ → List ℕ → List ℕ
+unfolding float count slopeBefore slopeBehind hermiteFrom
+rewritten s e out =
+    hermiteFrom (sample out (s - 1)) (sample out e) (slopeBefore out s) (slopeBehind out e) (count (e - (s - 1))) s 0 (e - s) out
+
+-- ---- The repair
+
+-- "left to right on the changing output"
+unfoldable pub smoothed : List Bool → List ℕ → List ℕ
+unfolding overRuns rewritten
+smoothed flags out = overRuns (λ i. getD flags i false) rewritten 0 (length flags) out
+
+-- "Under 8 samples: nothing named." "Named: the flagged places."
+unfoldable pub decrackled : Float → List ℕ → Drawn
+unfolding flagsOf smoothed
+decrackled sensitivity samples =
+    let flags = flagsOf sensitivity samples in
+    if ltb (length samples) 8 then untouched samples else drawn (smoothed flags samples) flags
+
+unfoldable pub decracklePlan : Float → ℕ → List ℕ → Plan
+unfolding wholePlan decrackled
+decracklePlan sensitivity room = wholePlan (allowed sensitivity) room recording.decrackle (decrackled sensitivity)
+
+unfoldable pub decrackleRepair : Float → ℕ → State → Ended
+unfolding wholeRepair decrackled
+decrackleRepair sensitivity room = wholeRepair (allowed sensitivity) room recording.decrackle (decrackled sensitivity)

@@ -1,0 +1,2 @@
+pub mod Decrackle
+pub mod Consequences

@@ -1,0 +1,225 @@
+// Decrackle: samples that stand out from their neighbours by more than a running floor are flagged, and
+// each flagged run is rewritten by a curve between the samples on either side of it.
+ghost use mathlib.Core.Path.{_≡_};
+ghost use mathlib.Core.Bool.{not, false};
+ghost use mathlib.Core.List.{map};
+ghost use Prim.Native.Nat.{ℕ, _+_, _-_, _*_, _≤_, _<_};
+ghost use lib.Dec.{eqb};
+ghost use lib.ListN.{length, getD, drop};
+ghost use lib.Ieee.{binary32, toBits};
+ghost use Rattle.recording.specs.Recording.{state, ended, mostSamples, workAfter};
+ghost use Rattle.recording.specs.Inner.{flags};
+ghost use Rattle.whole.specs.Whole.{drawn, untouched, needed};
+ghost use Rattle.whole.specs.Runs.{begins, runLength};
+ghost use Rattle.whole.specs.Inner.{wordsIn, flagsIn, drawnIn, flagWord, flaggedAt, Holds, Room};
+ghost use Rattle.decrackle.specs.Decrackle.{allowed, factorFor, detector, floorAfter, flagged, flagsOf, slopeBefore, slopeBehind, hermiteAt, rewritten, smoothed, decrackled, decrackleRepair};
+use leaves::order::clamp32;
+use leaves::order::larger32;
+use leaves::order::magnitude32;
+use leaves::words::count_as_f32;
+use leaves::words::f32_of_word;
+use leaves::words::word_of_f32;
+use recording::Answer;
+use whole::begin;
+use whole::finish;
+
+// The mark that decrackle sets.
+const DECRACKLE: u8 = 4;
+
+// A shorter recording has nothing named.
+const LEAST_SAMPLES: usize = 8;
+
+// How far above the floor a flagged sample stands: 11 at sensitivity 1, 2 at 10.
+fn factor_for(sensitivity: f32) -> f32
+    ensures { λ r. ⌜ r ≡ factorFor sensitivity ⌝ }
+{
+    12.0 - clamp32(sensitivity, 1.0, 10.0)
+}
+
+// How far a sample lies from the middle of its neighbours; 0 at both ends, which have one neighbour.
+fn detector_at(samples: &[u32], i: usize) -> f32
+    requires { ⌜ i < length (now samples) ⌝ }
+    ensures { λ r. ⌜ r ≡ detector (now (samples .entry)) i ⌝ }
+{
+    if i == 0 {
+        return 0.0;
+    }
+    if i + 1 == samples.len() {
+        return 0.0;
+    }
+    let before = f32_of_word(samples[i - 1]);
+    let behind = f32_of_word(samples[i + 1]);
+    f32_of_word(samples[i]) - 0.5 * (before + behind)
+}
+
+// The floor once it has taken in the detector's magnitude a.
+fn raise_floor(floor: f32, a: f32) -> f32
+    ensures { λ r. ⌜ r ≡ floorAfter floor a ⌝ }
+{
+    floor * (1.0 - 0.001) + a * 0.001
+}
+
+// 1 where a sample with the detector's magnitude a is flagged, and else 0.
+fn flag_word(factor: f32, floor: f32, a: f32) -> u32
+    ensures { λ r. ⌜ r ≡ flagWord (flagged factor floor a) ⌝ }
+{
+    if factor * larger32(floor, 1e-6) < a {
+        1
+    } else {
+        0
+    }
+}
+
+// Flags the samples that stand out: each raises the floor first, and is then held against it.
+fn flag_samples(samples: &[u32], sensitivity: f32, work: &mut [u32])
+    requires { ⌜ Room (length (now samples)) (now work) ⌝ }
+    ensures { λ _. ⌜ Holds (length (now (samples .entry))) (drawn (wordsIn (length (now (samples .entry))) (now (work .entry))) (flagsOf sensitivity (now (samples .entry))))
+        (now (work .entry)) (now (work .exit)) ⌝ }
+{
+    let n = samples.len();
+    let factor = factor_for(sensitivity);
+    let mut floor: f32 = 1e-6;
+    let mut i: usize = 0;
+    while i < n {
+        let a = magnitude32(detector_at(samples, i));
+        floor = raise_floor(floor, a);
+        work[n + i] = flag_word(factor, floor, a);
+        i += 1;
+    }
+}
+
+// Whether a flagged run begins at place i.
+fn run_begins(work: &[u32], n: usize, i: usize) -> bool
+    requires { ⌜ Room n (now work) × (i < n) ⌝ }
+    ensures { λ r. ⌜ r ≡ begins (flaggedAt n (now (work .entry))) i ⌝ }
+{
+    if work[n + i] == 0 {
+        return false;
+    }
+    if i == 0 {
+        return true;
+    }
+    work[n + i - 1] == 0
+}
+
+// The first place behind the flagged run that begins at `start`.
+fn run_end(work: &[u32], n: usize, start: usize) -> usize
+    requires { ⌜ Room n (now work) × (start ≤ n) ⌝ }
+    ensures { λ r. ⌜ r ≡ start + runLength (flaggedAt n (now (work .entry))) start (n - start) ⌝ }
+{
+    let mut end = start;
+    while end < n {
+        if work[n + end] == 0 {
+            return end;
+        }
+        end += 1;
+    }
+    end
+}
+
+// The slope at the anchor before place `start`, or 0 where there is no sample before the anchor.
+fn slope_before(work: &[u32], n: usize, start: usize) -> f32
+    requires { ⌜ Room n (now work) × (1 ≤ start) × (start ≤ n) ⌝ }
+    ensures { λ r. ⌜ r ≡ slopeBefore (wordsIn n (now (work .entry))) start ⌝ }
+{
+    if start < 2 {
+        return 0.0;
+    }
+    f32_of_word(work[start - 1]) - f32_of_word(work[start - 2])
+}
+
+// The slope at the anchor at place `end`, or 0 where there is no sample behind it.
+fn slope_behind(work: &[u32], n: usize, end: usize) -> f32
+    requires { ⌜ Room n (now work) × (end < n) ⌝ }
+    ensures { λ r. ⌜ r ≡ slopeBehind (wordsIn n (now (work .entry))) end ⌝ }
+{
+    if n <= end + 1 {
+        return 0.0;
+    }
+    f32_of_word(work[end + 1]) - f32_of_word(work[end])
+}
+
+// The word of a curve's sample k: Hermite's four polynomials at t, weighed by the anchors' samples and by
+// their slopes, which are scaled to the whole span.
+fn hermite_word(p0: f32, p1: f32, m0: f32, m1: f32, span: f32, k: usize) -> u32
+    requires { ⌜ k < mostSamples ⌝ }
+    ensures { λ r. ⌜ r ≡ toBits binary32 (hermiteAt p0 p1 m0 m1 span k) ⌝ }
+{
+    let t = count_as_f32(k + 1) / span;
+    let t2 = t * t;
+    let t3 = t2 * t;
+    let h00 = 2.0 * t3 - 3.0 * t2 + 1.0;
+    let h10 = t3 - 2.0 * t2 + t;
+    let h01 = -2.0 * t3 + 3.0 * t2;
+    let h11 = t3 - t2;
+    word_of_f32(h00 * p0 + h10 * (m0 * span) + h01 * p1 + h11 * (m1 * span))
+}
+
+// Rewrites the run from `start` to before `end`. The original's branch for a run that touches an end is
+// left out, since no end is ever flagged.
+fn repair_hermite(work: &mut [u32], n: usize, start: usize, end: usize)
+    requires { ⌜ Room n (now work) × (1 ≤ start) × (start ≤ end) × (end < n) ⌝ }
+    ensures { λ _. ⌜ (wordsIn n (now (work .exit)) ≡ rewritten start end (wordsIn n (now (work .entry))))
+        × (drop n (now (work .exit)) ≡ drop n (now (work .entry))) ⌝ }
+{
+    let p0 = f32_of_word(work[start - 1]);
+    let p1 = f32_of_word(work[end]);
+    let m0 = slope_before(work, n, start);
+    let m1 = slope_behind(work, n, end);
+    let span = count_as_f32(end - (start - 1));
+    let mut k: usize = 0;
+    while k < end - start {
+        work[start + k] = hermite_word(p0, p1, m0, m1, span, k);
+        k += 1;
+    }
+}
+
+// Rewrites every flagged run, left to right, each from what the earlier ones left.
+fn smooth_runs(work: &mut [u32], n: usize)
+    requires { ⌜ Room n (now work) × (flaggedAt n (now work) 0 ≡ false) × (flaggedAt n (now work) (n - 1) ≡ false) ⌝ }
+    ensures { λ _. ⌜ (wordsIn n (now (work .exit)) ≡ smoothed (flags (flagsIn n (now (work .entry)))) (wordsIn n (now (work .entry))))
+        × (drop n (now (work .exit)) ≡ drop n (now (work .entry))) ⌝ }
+{
+    let mut i: usize = 0;
+    while i < n {
+        if run_begins(work, n, i) {
+            repair_hermite(work, n, i, run_end(work, n, i));
+        }
+        i += 1;
+    }
+}
+
+// Works out the words and the flags of all samples in the workspace.
+fn draw(samples: &[u32], sensitivity: f32, work: &mut [u32])
+    requires { ⌜ Room (length (now samples)) (now work) × (drawnIn (length (now samples)) (now work) ≡ untouched (now samples)) ⌝ }
+    ensures { λ _. ⌜ Holds (length (now (samples .entry))) (decrackled sensitivity (now (samples .entry))) (now (work .entry)) (now (work .exit)) ⌝ }
+{
+    let n = samples.len();
+    if n < LEAST_SAMPLES {
+        return;
+    }
+    flag_samples(samples, sensitivity, work);
+    smooth_runs(work, n);
+}
+
+// Repairs the samples that stand out from their neighbours, or refuses and changes nothing.
+pub fn decrackle(
+    samples: &mut [u32],
+    marks: &mut [u8],
+    journal: &mut [u32],
+    used: &mut usize,
+    sensitivity: f32,
+    work: &mut [u32],
+) -> Answer
+    ensures { λ r. ⌜ (ended r (state (now (samples .exit)) (now (marks .exit)) (now (journal .exit)) (now (used .exit)))
+        ≡ decrackleRepair sensitivity (length (now (work .entry)))
+        (state (now (samples .entry)) (now (marks .entry)) (now (journal .entry)) (now (used .entry))))
+        × (now (work .exit) ≡ workAfter 0 (needed (length (now (samples .entry)))) r (now (work .entry))) ⌝ }
+{
+    let begun = begin(samples, marks, journal, *used, sensitivity == sensitivity, work);
+    let Answer::Done(_) = begun else {
+        return begun;
+    };
+    draw(samples, sensitivity, work);
+    finish(samples, marks, journal, used, work, DECRACKLE)
+}

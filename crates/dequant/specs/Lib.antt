@@ -1,0 +1,3 @@
+pub mod Dequant
+pub mod Consequences
+pub mod Rows

@@ -1,0 +1,3 @@
+pub mod Whole
+pub mod Runs
+pub mod Inner
