@@ -13,7 +13,7 @@ use Rattle.recording.specs.History.{Keeps}
 use Rattle.recording.specs.declared.Answer.{Answer}
 use Rattle.recording.specs.declared.Answer.the-variants.{Done, Refused}
 use Rattle.recording.proofs.open.Laws.{truth}
-use Rattle.recording.proofs.Performing.{span-ascends}
+use Rattle.recording.proofs.Performing.{span-ascends, unless-kept}
 use Rattle.inpaint.specs.Gap.{gapWrong, byLine, needed, allReadable, line, model, repaired, gapPlan}
 use Rattle.inpaint.specs.Consequences.{GapIsLawful}
 use Rattle.recording.proofs.Picks.{picks}
@@ -25,11 +25,6 @@ use Rattle.inpaint.proofs.fill.Laws.{length-model}
 span-kept : (n start len mark : ℕ) (ws : List ℕ) → made mark ≡ true → length ws ≡ len → start + len ≤ n
     → Keeps n (change mark (span start ws))
 span-kept n start len mark ws m count h = (m, span-ascends n 0 start ws (omega arith) (rw count h))
-
--- a refusal decides between plans that keep to the law
-unless-kept : (n : ℕ) (a : Answer) (p : Plan) → Keeps n p → Keeps n (unlessRead a p)
-unless-kept n (Done m) p kp = kp
-unless-kept n (Refused why) p kp = tt
 
 repaired-kept : (passes : ℕ) (samples : List ℕ) (start len : ℕ) → start + len ≤ length samples
     → Keeps (length samples) (repaired passes samples start len)

@@ -26,3 +26,15 @@ image-more f l whole vs a next i d v h e ev rest =
 pub image-all : {A B : Type 0} (f : A → B) (l whole : List B) (vs : List A) (a i : ℕ) → length vs ≤ i
     → sets l a (map f (drop i vs)) ≡ whole → l ≡ whole
 image-all f l whole vs a i h rest = sym (ap (λ (xs : List _). sets l a (map f xs)) (drop-of-length-le vs h)) ∙ rest
+
+-- the same, where it is stored as it stands there
+pub copy-more : {A : Type 0} (l whole vs : List A) (a next i : ℕ) (d : A) → i < length vs → next ≡ a + 1
+    → sets l a (drop i vs) ≡ whole
+    → sets (set l a (getD vs i d)) next (drop (i + 1) vs) ≡ whole
+copy-more l whole vs a next i d h e rest =
+    let there : next ≡ suc a = omega arith in
+    let more : i + 1 ≡ suc i = omega arith in
+    rw (there, more) (sym (ap (λ (xs : List _). sets l a xs) (drop-cons vs i d h)) ∙ rest)
+
+pub all-copied : {A : Type 0} (l whole vs : List A) (a i : ℕ) → length vs ≤ i → sets l a (drop i vs) ≡ whole → l ≡ whole
+all-copied l whole vs a i h rest = sym (ap (λ (xs : List _). sets l a xs) (drop-of-length-le vs h)) ∙ rest

@@ -10,9 +10,9 @@ use lib.Dec.{ltb, eqb}
 use lib.ListN.{length, take, drop, replicate, length-take, length-replicate}
 use lib.Seq.{sets-eq}
 use Rattle.recording.specs.Recording.{State, Ended, ended, differ, tooMany, overUsed, fitting, cleared, clears}
-use Rattle.recording.specs.Recording.{workAfter}
+use Rattle.recording.specs.Recording.{workAfter, unlessRead}
 use Rattle.recording.specs.Recording.{Placed, entrySize, entered, ranged, Plan, change, span, picked, carried, performed}
-use Rattle.recording.specs.History.{Ascending}
+use Rattle.recording.specs.History.{Ascending, Keeps}
 use Rattle.recording.specs.Inner.{flags, pickedBy}
 use Rattle.recording.specs.declared.Reason.{Reason}
 use Rattle.recording.specs.declared.Answer.{Answer}
@@ -36,7 +36,7 @@ module _ (s : State) (p : Plan) (a : Answer) (sized : a ≡ fitting s) where
 -- ---- The workspace
 
 -- refusals 1 to 3 keep its contents
-fitting-keeps : (s : State) (why : Reason) → fitting s ≡ Refused why → clears (fitting s) ≡ false
+pub fitting-keeps : (s : State) (why : Reason) → fitting s ≡ Refused why → clears (fitting s) ≡ false
 unfolding fitting
 fitting-keeps s why h = one (truth (differ s)) (truth (tooMany s)) (truth (overUsed s))
   where
@@ -128,3 +128,8 @@ pub pickedBy-ascends : (work : List ℕ) (n : ℕ) → Ascending n 0 (pickedBy w
 unfolding pickedBy
 pickedBy-ascends work n =
     picked-ascends n 0 0 (flags (take n (drop n work))) (take n work) (omega arith) (simp length-take (omega arith))
+
+-- a refusal decides between plans that keep to the law
+pub unless-kept : (n : ℕ) (a : Answer) (p : Plan) → Keeps n p → Keeps n (unlessRead a p)
+unless-kept n (Done m) p kp = kp
+unless-kept n (Refused why) p kp = tt

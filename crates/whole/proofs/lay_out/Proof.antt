@@ -1,58 +1,65 @@
+-- `whole::lay_out` meets its contract. The loop's invariant: storing what is left gives the whole. The measure is how many
+-- samples are left. Assumes nothing.
+use Prim.Native.Nat.{_-_, _≤_}
+use mathlib.Core.Path.{_≡_, refl}
+use native.Mathlib.Omega.{arith}
+use lib.ListN.{length, length-set, drop}
+use lib.Seq.{sets}
+use Rattle.leaves.proofs.Stores.{copy-more, all-copied}
+use Rattle.whole.proofs.Workspace.{laid-out, sets-count}
 use Rattle.whole.proofs.lay_out.Statement.{statement}
 use Rattle.whole.proofs.lay_out.Tie as tie
-use Rattle.whole.proofs.lay_out.Reads as reads
-use Rattle.whole.proofs.lay_out.Lts as lts
-use Rattle.recording.proofs.clear.clear_words.Reads as clear-words-reads
 
 abbrev Inv-loop : tie.InvT-loop
-Inv-loop samples work₀ n i₀ work i = ?
+Inv-loop samples work₀ n i₀ work i =
+    (i ≤ length samples) × (length work ≡ length work₀) × (sets work i (drop i samples) ≡ sets work₀ 0 samples)
 
 abbrev μ-loop : tie.MeasureT-loop
-μ-loop samples work₀ n i₀ work i = ?
+μ-loop samples work₀ n i₀ work i = length samples - i
 
--- src/lib.rt:24:5
 loop-holds : tie.Need-loop-holds Inv-loop μ-loop
-loop-holds c = ?
+loop-holds c = (omega arith, refl, refl)
 
--- src/lib.rt:25:19
 mul-work : tie.Need-mul-work Inv-loop μ-loop
-mul-work c = ?
+mul-work c = omega arith
 
--- src/lib.rt:25:19
 shared-slice-read-work : tie.Need-shared-slice-read-work Inv-loop μ-loop
-shared-slice-read-work c = ?
+shared-slice-read-work c = omega arith
 
--- src/lib.rt:25:9
 mul-work-2 : tie.Need-mul-work-2 Inv-loop μ-loop
-mul-work-2 c = ?
+mul-work-2 c = omega arith
 
--- src/lib.rt:25:9
 slice-write-work : tie.Need-slice-write-work Inv-loop μ-loop
-slice-write-work c = ?
+slice-write-work c = omega arith
 
--- src/lib.rt:26:9
 add-i : tie.Need-add-i Inv-loop μ-loop
-add-i c = ?
+add-i c = omega arith
 
--- src/lib.rt:24:5
 loop-less : tie.Need-loop-less Inv-loop μ-loop
-loop-less c = ?
+loop-less c = omega arith
 
--- src/lib.rt:24:5
 loop-again : tie.Need-loop-again Inv-loop μ-loop
-loop-again c = ?
+loop-again c =
+    let turn = c .before in
+    let inv = turn .before .loop .inv in
+    (omega arith, simp length-set (inv .1), copy-more _ _ _ _ _ _ 0 (turn .loop-test .taken) refl (inv .2))
 
--- src/lib.rt:28:5
 clear-words-requires : tie.Need-clear-words-requires Inv-loop μ-loop
-clear-words-requires c κs = ?
+clear-words-requires c κs =
+    let at = c .before .before in
+    omega (arith, at .loop .inv .1, at .before .before .before .pre)
 
--- src/lib.rt:18:1
 same-length : tie.Need-same-length Inv-loop μ-loop
-same-length c = ?
+same-length c =
+    let at = c .before .before .before .before .before in
+    omega (arith, at .loop .inv .1)
 
--- src/lib.rt:18:1
 returns : tie.Need-returns Inv-loop μ-loop
-returns c = ?
+returns c =
+    let done = c .before .before .before .before in
+    let inv = done .before .loop .inv in
+    laid-out _ _ _ _ (done .before .before .before .before .pre) (all-copied _ _ _ _ _ (done .loop-test .left) (inv .2)) (inv .1)
+    (c .before .before .clear-words .ensures)
 
 pub lay-out-spec : {M : Type 1} → statement M
 lay-out-spec =
