@@ -1,7 +1,7 @@
 -- Dequantize, both forms: document 01's dequant.rs paragraph, whose sentences the comments quote. n is the number of samples.
 -- Definitions only.
 use Prim.Native.Nat.{ℕ, zero, suc, _+_, _-_, _^_, min, max}
-use mathlib.Core.Bool.{Bool, not, _&&_}
+use mathlib.Core.Bool.{Bool, false, not, _&&_}
 use mathlib.Core.List.{List, [], _∷_}
 use lib.ListN.{length}
 use lib.Dec.{leb, ltb}
