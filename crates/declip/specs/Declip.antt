@@ -65,9 +65,9 @@ declipped threshold samples =
     overRuns (clippedAt threshold samples) (bridged (length samples)) 0 (length samples) (untouched samples)
 
 unfoldable pub declipPlan : Float → ℕ → List ℕ → Plan
-unfolding wholePlan declipped
+unfolding wholePlan declipped lt
 declipPlan threshold room = wholePlan (allowed threshold) room cubicDeclip (declipped threshold)
 
 unfoldable pub declipRepair : Float → ℕ → State → Ended
-unfolding wholeRepair declipped
+unfolding wholeRepair declipped lt
 declipRepair threshold room = wholeRepair (allowed threshold) room cubicDeclip (declipped threshold)

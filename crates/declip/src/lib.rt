@@ -142,7 +142,14 @@ pub fn declip(
         (state (now (samples .entry)) (now (marks .entry)) (now (journal .entry)) (now (used .entry))))
         × (now (work .exit) ≡ workAfter 0 (needed (length (now (samples .entry)))) r (now (work .entry))) ⌝ }
 {
-    let begun = begin(samples, marks, journal, *used, threshold_allowed(threshold), work);
+    let begun = begin(
+        samples,
+        marks,
+        journal,
+        *used,
+        threshold_allowed(threshold),
+        work,
+    );
     let Answer::Done(_) = begun else {
         return begun;
     };

@@ -121,9 +121,9 @@ decrackled sensitivity samples =
     if ltb (length samples) 8 then untouched samples else drawn (smoothed flags samples) flags
 
 unfoldable pub decracklePlan : Float → ℕ → List ℕ → Plan
-unfolding wholePlan decrackled
+unfolding wholePlan decrackled isNan
 decracklePlan sensitivity room = wholePlan (allowed sensitivity) room recording.decrackle (decrackled sensitivity)
 
 unfoldable pub decrackleRepair : Float → ℕ → State → Ended
-unfolding wholeRepair decrackled
+unfolding wholeRepair decrackled isNan
 decrackleRepair sensitivity room = wholeRepair (allowed sensitivity) room recording.decrackle (decrackled sensitivity)

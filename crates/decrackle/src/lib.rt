@@ -216,7 +216,14 @@ pub fn decrackle(
         (state (now (samples .entry)) (now (marks .entry)) (now (journal .entry)) (now (used .entry))))
         × (now (work .exit) ≡ workAfter 0 (needed (length (now (samples .entry)))) r (now (work .entry))) ⌝ }
 {
-    let begun = begin(samples, marks, journal, *used, sensitivity == sensitivity, work);
+    let begun = begin(
+        samples,
+        marks,
+        journal,
+        *used,
+        sensitivity == sensitivity,
+        work,
+    );
     let Answer::Done(_) = begun else {
         return begun;
     };

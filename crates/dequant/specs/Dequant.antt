@@ -103,11 +103,11 @@ dequantized bits strength samples =
     if acts held 3 n then drawn (widened step held (firstPass step held 1 (n - 2) samples)) (inner 1 n) else untouched samples
 
 unfoldable pub dequantizePlan : ℕ → Float → ℕ → List ℕ → Plan
-unfolding wholePlan dequantized
+unfolding wholePlan dequantized isNan
 dequantizePlan bits strength room = wholePlan (allowed strength) room recording.dequantize (dequantized bits strength)
 
 unfoldable pub dequantizeRepair : ℕ → Float → ℕ → State → Ended
-unfolding wholeRepair dequantized
+unfolding wholeRepair dequantized isNan
 dequantizeRepair bits strength room = wholeRepair (allowed strength) room recording.dequantize (dequantized bits strength)
 
 -- ---- `dequantize_cosparse`, at a sample with a and b before it and c and d behind it
@@ -174,11 +174,11 @@ cosparse bits strength iterations samples =
     then drawn (sparsePasses (stepOf bits) held (min iterations mostIterations) samples) (inner 2 n) else untouched samples
 
 unfoldable pub cosparsePlan : ℕ → Float → ℕ → ℕ → List ℕ → Plan
-unfolding wholePlan cosparse
+unfolding wholePlan cosparse isNan
 cosparsePlan bits strength iterations room =
     wholePlan (allowed strength) room recording.dequantize (cosparse bits strength iterations)
 
 unfoldable pub cosparseRepair : ℕ → Float → ℕ → ℕ → State → Ended
-unfolding wholeRepair cosparse
+unfolding wholeRepair cosparse isNan
 cosparseRepair bits strength iterations room =
     wholeRepair (allowed strength) room recording.dequantize (cosparse bits strength iterations)

@@ -108,7 +108,13 @@ fn draw(work: &mut [u32], n: usize, bits: u32, strength: f32, iterations: u32)
         return;
     }
     let step = step_of(bits);
-    sparse_passes(work, n, step, held, least(iterations as usize, MOST_ITERATIONS));
+    sparse_passes(
+        work,
+        n,
+        step,
+        held,
+        least(iterations as usize, MOST_ITERATIONS),
+    );
     name_inner(work, n, 2);
 }
 

@@ -7,10 +7,10 @@ ghost use lib.ListN.{length};
 ghost use lib.Seq.{sets};
 ghost use Rattle.model.specs.Model.{laid, cellAt, cells, factored, forwardAt, forward, backwardAt, backward};
 ghost use Rattle.model.specs.Areas.{area};
-use leaves::counts::above;
-use leaves::counts::least;
 use super::sums::minus_column;
 use super::sums::minus_products;
+use leaves::counts::above;
+use leaves::counts::least;
 use leaves::order::larger64;
 use leaves::root::square_root;
 
