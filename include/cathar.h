@@ -123,6 +123,47 @@ uint32_t cathar_inpaint_auto(uint32_t *samples, size_t n, uint8_t *marks, size_t
                              uint32_t rate, float max_gap_ms,
                              double *work, size_t work_n, size_t *qualified, size_t *repaired);
 
+/* The four repairs that follow are over the whole recording. Each reads every sample, whatever its settings,
+ * and works its results out in a workspace of words before it writes any.
+ * work is the workspace: work_n words, of any contents. Of these it needs 2n: they are all 0 after an
+ * acceptance or after refusal 8 or 9, and else they stay. All others stay.
+ * value receives the number m of named samples where it was accepted, which may be 0, the lowest such place for
+ * refusals 7 and 8, and 0 for the others; what it held has no say.
+ * Refusals of each: 1, 2, 3, 4, 6, 7, 8, 9. */
+
+/* Bridges clipped runs by a cubic: mark 3. A run is a longest stretch of samples with a magnitude at or above
+ * the threshold, from s to before e. With a = max(0, s-4) and z = min(min(e, n-1)+4, n-1), and where z exceeds
+ * a+4, it names and rewrites all places between a and z, shoulders included; runs go from left to right, each
+ * on what the ones before it left.
+ * Refusal 4 is given where threshold is a NaN, an infinity, or not above 0. */
+uint32_t cathar_declip(uint32_t *samples, size_t n, uint8_t *marks, size_t marks_n,
+                       uint32_t *journal, size_t journal_n, size_t *used,
+                       float threshold, uint32_t *work, size_t work_n, size_t *value);
+
+/* Rewrites samples that stand out from the middle of their neighbours by more than a running floor, each run
+ * of them by a cubic between its neighbours: mark 4. The sensitivity is held to 1..10, and the higher it is the
+ * more samples are named. A recording of fewer than 8 samples has none named, and no end ever is.
+ * Refusal 4 is given where sensitivity is a NaN. */
+uint32_t cathar_decrackle(uint32_t *samples, size_t n, uint8_t *marks, size_t marks_n,
+                          uint32_t *journal, size_t journal_n, size_t *used,
+                          float sensitivity, uint32_t *work, size_t work_n, size_t *value);
+
+/* Moves samples that were recorded with so many bits toward what their neighbours predict, and never further
+ * than half a step from the nearest level: mark 5. bits is held to 4..24 and strength to 0..1. Where strength
+ * is above 0 and n at least 3 it names places 1 to n-2, and else none.
+ * Refusal 4 is given where strength is a NaN. */
+uint32_t cathar_dequantize(uint32_t *samples, size_t n, uint8_t *marks, size_t marks_n,
+                           uint32_t *journal, size_t journal_n, size_t *used,
+                           uint32_t bits, float strength, uint32_t *work, size_t work_n, size_t *value);
+
+/* The same from two neighbours on either side, in as many iterations as are asked for and 16 at most: mark 5.
+ * Where strength and iterations are above 0 and n is at least 5 it names places 2 to n-3, and else none.
+ * Refusal 4 is given where strength is a NaN. */
+uint32_t cathar_dequantize_cosparse(uint32_t *samples, size_t n, uint8_t *marks, size_t marks_n,
+                                    uint32_t *journal, size_t journal_n, size_t *used,
+                                    uint32_t bits, float strength, uint32_t iterations,
+                                    uint32_t *work, size_t work_n, size_t *value);
+
 #ifdef __cplusplus
 }
 #endif

@@ -9,6 +9,10 @@ ghost use Rattle.leaves.specs.Root.{Rooted};
 ghost use Rattle.recording.specs.Recording.{state, opened, undone, workAfter};
 ghost use Rattle.inpaint.specs.Gap.{needed, gapRepair};
 ghost use Rattle.inpaint.specs.Auto.{scan, automatic};
+ghost use Rattle.whole.specs.Whole as whole;
+ghost use Rattle.declip.specs.Declip.{declipRepair};
+ghost use Rattle.decrackle.specs.Decrackle.{decrackleRepair};
+ghost use Rattle.dequant.specs.Dequant.{dequantizeRepair, cosparseRepair};
 ghost use Rattle.cathar.specs.Exports.{Tells, Gives};
 use recording::numbers::number_of;
 use recording::numbers::value_of;
@@ -80,6 +84,105 @@ pub extern "C" fn cathar_inpaint_auto(
     *qualified = scanned.qualified;
     *repaired = scanned.repaired;
     scanned.refused
+}
+
+// Bridges the runs of samples whose magnitude is at or above the threshold, shoulders included. The number
+// of the refusal, 1 to 4 or 6 to 9, or 0; value becomes the number of named samples, the place for 7 and 8,
+// and 0 for the other refusals.
+#[no_mangle]
+pub extern "C" fn cathar_declip(
+    samples: &mut [u32],
+    marks: &mut [u8],
+    journal: &mut [u32],
+    used: &mut usize,
+    threshold: f32,
+    work: &mut [u32],
+    value: &mut usize,
+) -> u32
+    ensures { λ r. ⌜ Gives (declipRepair threshold (length (now (work .entry)))
+        (state (now (samples .entry)) (now (marks .entry)) (now (journal .entry)) (now (used .entry)))) r (now (value .exit))
+        (state (now (samples .exit)) (now (marks .exit)) (now (journal .exit)) (now (used .exit))) ⌝ }
+    ensures { λ r. ⌜ now (work .exit) ≡ workAfter 0 (whole.needed (length (now (samples .entry))))
+        (declipRepair threshold (length (now (work .entry)))
+        (state (now (samples .entry)) (now (marks .entry)) (now (journal .entry)) (now (used .entry))) .answer) (now (work .entry)) ⌝ }
+{
+    let answer = declip::declip(samples, marks, journal, used, threshold, work);
+    *value = value_of(answer);
+    number_of(answer)
+}
+
+// Rewrites the samples that stand out from their neighbours. Answer and value as of `cathar_declip`.
+#[no_mangle]
+pub extern "C" fn cathar_decrackle(
+    samples: &mut [u32],
+    marks: &mut [u8],
+    journal: &mut [u32],
+    used: &mut usize,
+    sensitivity: f32,
+    work: &mut [u32],
+    value: &mut usize,
+) -> u32
+    ensures { λ r. ⌜ Gives (decrackleRepair sensitivity (length (now (work .entry)))
+        (state (now (samples .entry)) (now (marks .entry)) (now (journal .entry)) (now (used .entry)))) r (now (value .exit))
+        (state (now (samples .exit)) (now (marks .exit)) (now (journal .exit)) (now (used .exit))) ⌝ }
+    ensures { λ r. ⌜ now (work .exit) ≡ workAfter 0 (whole.needed (length (now (samples .entry))))
+        (decrackleRepair sensitivity (length (now (work .entry)))
+        (state (now (samples .entry)) (now (marks .entry)) (now (journal .entry)) (now (used .entry))) .answer) (now (work .entry)) ⌝ }
+{
+    let answer = decrackle::decrackle(samples, marks, journal, used, sensitivity, work);
+    *value = value_of(answer);
+    number_of(answer)
+}
+
+// Moves samples that were recorded in coarse steps toward what their neighbours predict. Answer and value
+// as of `cathar_declip`.
+#[no_mangle]
+pub extern "C" fn cathar_dequantize(
+    samples: &mut [u32],
+    marks: &mut [u8],
+    journal: &mut [u32],
+    used: &mut usize,
+    bits: u32,
+    strength: f32,
+    work: &mut [u32],
+    value: &mut usize,
+) -> u32
+    ensures { λ r. ⌜ Gives (dequantizeRepair bits strength (length (now (work .entry)))
+        (state (now (samples .entry)) (now (marks .entry)) (now (journal .entry)) (now (used .entry)))) r (now (value .exit))
+        (state (now (samples .exit)) (now (marks .exit)) (now (journal .exit)) (now (used .exit))) ⌝ }
+    ensures { λ r. ⌜ now (work .exit) ≡ workAfter 0 (whole.needed (length (now (samples .entry))))
+        (dequantizeRepair bits strength (length (now (work .entry)))
+        (state (now (samples .entry)) (now (marks .entry)) (now (journal .entry)) (now (used .entry))) .answer) (now (work .entry)) ⌝ }
+{
+    let answer = dequant::passes::dequantize(samples, marks, journal, used, bits, strength, work);
+    *value = value_of(answer);
+    number_of(answer)
+}
+
+// The same in up to 16 iterations, with two samples at either end left alone. Answer and value as of
+// `cathar_declip`.
+#[no_mangle]
+pub extern "C" fn cathar_dequantize_cosparse(
+    samples: &mut [u32],
+    marks: &mut [u8],
+    journal: &mut [u32],
+    used: &mut usize,
+    bits: u32,
+    strength: f32,
+    iterations: u32,
+    work: &mut [u32],
+    value: &mut usize,
+) -> u32
+    ensures { λ r. ⌜ Gives (cosparseRepair bits strength iterations (length (now (work .entry)))
+        (state (now (samples .entry)) (now (marks .entry)) (now (journal .entry)) (now (used .entry)))) r (now (value .exit))
+        (state (now (samples .exit)) (now (marks .exit)) (now (journal .exit)) (now (used .exit))) ⌝ }
+    ensures { λ r. ⌜ now (work .exit) ≡ workAfter 0 (whole.needed (length (now (samples .entry))))
+        (cosparseRepair bits strength iterations (length (now (work .entry)))
+        (state (now (samples .entry)) (now (marks .entry)) (now (journal .entry)) (now (used .entry))) .answer) (now (work .entry)) ⌝ }
+{
+    let answer = dequant::cosparse::dequantize_cosparse(samples, marks, journal, used, bits, strength, iterations, work);
+    *value = value_of(answer);
+    number_of(answer)
 }
 
 // Takes back the last entry of the journal. The number of the refusal, 1, 2, 3, 10 or 11, or 0; value

@@ -1,0 +1,51 @@
+-- `cathar::cathar_declip` meets its contract: it tells what the cubic declip ends in, and the workspace is left as that answer says.
+-- Assumes nothing.
+use borrow.Author.Needs.{needs}
+use lib.ListN.{length}
+use Rattle.whole.specs.Whole.{needed}
+use Rattle.cathar.proofs.Exports.{gives, works}
+use Rattle.cathar.proofs.cathar_declip.Statement.{statement}
+use Rattle.cathar.proofs.cathar_declip.Tie as tie
+
+declip-requires : tie.Need-declip-requires
+declip-requires c κs = search needs
+
+value-of-requires : tie.Need-value-of-requires
+value-of-requires c κs = search needs
+
+number-of-requires : tie.Need-number-of-requires
+number-of-requires c κs = search needs
+
+same-length : tie.Need-same-length
+same-length c = search needs
+
+same-length-2 : tie.Need-same-length-2
+same-length-2 c = search needs
+
+same-length-3 : tie.Need-same-length-3
+same-length-3 c = search needs
+
+same-length-4 : tie.Need-same-length-4
+same-length-4 c = search needs
+
+returns : tie.Need-returns
+returns c =
+    let call = c .before .before .before .before .before .before .before .before .before .before in
+    let args = call .before .before .before .before .before .before .before .before .before .before .args in
+    let end = call .declip .ensures in (
+      gives _ _ _ _ _ (end .0) (c .number-of .ensures) (c .before .value-of .ensures),
+      works _ _ _ 0 (needed (length (args .samples .now))) (args .work .now) _ (end .0) (end .1),
+    )
+
+pub cathar-declip-spec : {M : Type 1} → statement M
+cathar-declip-spec =
+    tie.close
+    (tie.spec
+    declip-requires
+    value-of-requires
+    number-of-requires
+    same-length
+    same-length-2
+    same-length-3
+    same-length-4
+    returns)
