@@ -117,6 +117,26 @@ fn quiet(journal: &mut [u32]) {
     take_back(&mut samples, &mut marks, journal, &mut used);
 }
 
+// 9 samples of which only place 4 is 1, decrackled at sensitivity 10.
+fn crackle() {
+    let mut samples = [0u32, 0, 0, 0, ONE, 0, 0, 0, 0];
+    let mut marks = [7u8; 9];
+    let mut journal = [LEFT; 12];
+    let mut used: usize = 99;
+    let mut work = [LEFT; 20];
+    open(&samples, &mut marks, &mut journal, &mut used);
+    let answer = decrackle::decrackle(
+        &mut samples,
+        &mut marks,
+        &mut journal,
+        &mut used,
+        10.0,
+        &mut work,
+    );
+    show(b"decrackle at 10", answer, &samples, &marks, &journal, used);
+    print_words(b"  workspace", &work, 1);
+}
+
 // How many samples are the number of their place.
 fn own_numbers(samples: &[u32]) -> usize
     requires { ⌜ length (now samples) ≤ 4097 ⌝ }
@@ -212,6 +232,8 @@ fn main() {
     quiet(&mut eight);
     io::write_all(1, b"Quiet, with a journal of 7 words\n");
     quiet(&mut seven);
+    io::write_all(1, b"Nine samples, one of them 1\n");
+    crackle();
     io::write_all(1, b"Long gaps\n");
     long_gaps();
 }

@@ -9,7 +9,7 @@ ghost use Rattle.leaves.specs.Root.{Rooted};
 ghost use Rattle.recording.specs.Recording.{state, opened, undone, workAfter};
 ghost use Rattle.inpaint.specs.Gap.{needed, gapRepair};
 ghost use Rattle.inpaint.specs.Auto.{scan, automatic};
-ghost use Rattle.whole.specs.Whole as whole;
+ghost use Rattle.redraw.specs.Whole as whole;
 ghost use Rattle.declip.specs.Declip.{declipRepair};
 ghost use Rattle.decrackle.specs.Decrackle.{decrackleRepair};
 ghost use Rattle.dequant.specs.Dequant.{dequantizeRepair, cosparseRepair};
@@ -180,7 +180,16 @@ pub extern "C" fn cathar_dequantize_cosparse(
         (cosparseRepair bits strength iterations (length (now (work .entry)))
         (state (now (samples .entry)) (now (marks .entry)) (now (journal .entry)) (now (used .entry))) .answer) (now (work .entry)) ⌝ }
 {
-    let answer = dequant::cosparse::dequantize_cosparse(samples, marks, journal, used, bits, strength, iterations, work);
+    let answer = dequant::cosparse::dequantize_cosparse(
+        samples,
+        marks,
+        journal,
+        used,
+        bits,
+        strength,
+        iterations,
+        work,
+    );
     *value = value_of(answer);
     number_of(answer)
 }

@@ -9,8 +9,8 @@ use lib.Ieee.Scale.{finite}
 use Rattle.leaves.specs.Arithmetic.{_+₃₂_, _-₃₂_, _*₃₂_, _/₃₂_, nought, one, float, count}
 use Rattle.leaves.specs.Floats.{magnitude}
 use Rattle.recording.specs.Recording.{State, Ended, Plan, cubicDeclip, if_then_else_}
-use Rattle.whole.specs.Whole.{sample, store, Drawn, drawn, untouched, wholePlan, wholeRepair}
-use Rattle.whole.specs.Runs.{overRuns}
+use Rattle.redraw.specs.Whole.{sample, store, Drawn, drawn, untouched, wholePlan, wholeRepair}
+use Rattle.redraw.specs.Runs.{overRuns}
 
 -- "Threshold finite and above 0, else 4."
 abbrev pub allowed : Float → Bool

@@ -5,9 +5,9 @@ ghost use Prim.Native.Nat.{ℕ, _+_, _-_, _*_, _≤_, _<_};
 ghost use lib.ListN.{length, getD};
 ghost use lib.Ieee.{binary32, toBits};
 ghost use Rattle.recording.specs.Recording.{state, ended, mostSamples, workAfter};
-ghost use Rattle.whole.specs.Whole.{untouched, needed};
-ghost use Rattle.whole.specs.Runs.{begins, runLength};
-ghost use Rattle.whole.specs.Inner.{drawnIn, Holds, Room};
+ghost use Rattle.redraw.specs.Whole.{untouched, needed};
+ghost use Rattle.redraw.specs.Runs.{begins, runLength};
+ghost use Rattle.redraw.specs.Inner.{drawnIn, Holds, Room};
 ghost use Rattle.declip.specs.Declip.{allowed, clipped, clippedAt, from, to, cubicAt, cubicFill, bridged, declipped, declipRepair};
 use leaves::counts::above;
 use leaves::counts::least;
@@ -16,8 +16,8 @@ use leaves::words::count_as_f32;
 use leaves::words::f32_of_word;
 use leaves::words::word_of_f32;
 use recording::Answer;
-use whole::begin;
-use whole::finish;
+use redraw::begin;
+use redraw::finish;
 
 // The mark that a cubic declip sets.
 const CUBIC_DECLIP: u8 = 3;

@@ -9,8 +9,8 @@ use Rattle.leaves.specs.Arithmetic.{_+₃₂_, _-₃₂_, _*₃₂_, _/₃₂_,
 use Rattle.leaves.specs.Floats.{magnitude, larger, held}
 use Rattle.recording.specs.Recording.{State, Ended, Plan, if_then_else_}
 use Rattle.recording.specs.Recording as recording
-use Rattle.whole.specs.Whole.{sample, store, Drawn, drawn, untouched, wholePlan, wholeRepair}
-use Rattle.whole.specs.Runs.{overRuns}
+use Rattle.redraw.specs.Whole.{sample, store, Drawn, drawn, untouched, wholePlan, wholeRepair}
+use Rattle.redraw.specs.Runs.{overRuns}
 
 -- ---- The settings
 

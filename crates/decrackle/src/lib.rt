@@ -9,9 +9,9 @@ ghost use lib.ListN.{length, getD, drop};
 ghost use lib.Ieee.{binary32, toBits};
 ghost use Rattle.recording.specs.Recording.{state, ended, mostSamples, workAfter};
 ghost use Rattle.recording.specs.Inner.{flags};
-ghost use Rattle.whole.specs.Whole.{drawn, untouched, needed};
-ghost use Rattle.whole.specs.Runs.{begins, runLength};
-ghost use Rattle.whole.specs.Inner.{wordsIn, flagsIn, drawnIn, flagWord, flaggedAt, Holds, Room};
+ghost use Rattle.redraw.specs.Whole.{drawn, untouched, needed};
+ghost use Rattle.redraw.specs.Runs.{begins, runLength};
+ghost use Rattle.redraw.specs.Inner.{wordsIn, flagsIn, drawnIn, flagWord, flaggedAt, Holds, Room};
 ghost use Rattle.decrackle.specs.Decrackle.{allowed, factorFor, detector, floorAfter, flagged, flagsOf, slopeBefore, slopeBehind, hermiteAt, rewritten, smoothed, decrackled, decrackleRepair};
 use leaves::order::clamp32;
 use leaves::order::larger32;
@@ -20,8 +20,8 @@ use leaves::words::count_as_f32;
 use leaves::words::f32_of_word;
 use leaves::words::word_of_f32;
 use recording::Answer;
-use whole::begin;
-use whole::finish;
+use redraw::begin;
+use redraw::finish;
 
 // The mark that decrackle sets.
 const DECRACKLE: u8 = 4;

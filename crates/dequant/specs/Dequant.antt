@@ -11,7 +11,7 @@ use Rattle.leaves.specs.Arithmetic.{_+₃₂_, _-₃₂_, _*₃₂_, _/₃₂_,
 use Rattle.leaves.specs.Floats.{magnitude, held, rounded}
 use Rattle.recording.specs.Recording.{State, Ended, Plan, if_then_else_}
 use Rattle.recording.specs.Recording as recording
-use Rattle.whole.specs.Whole.{sample, store, Drawn, drawn, untouched, wholePlan, wholeRepair}
+use Rattle.redraw.specs.Whole.{sample, store, Drawn, drawn, untouched, wholePlan, wholeRepair}
 
 -- ---- The settings
 

@@ -5,8 +5,8 @@ ghost use Prim.Native.Nat.{ℕ, _+_, _-_, _*_, _≤_, _<_, min};
 ghost use lib.ListN.{length, take, drop};
 ghost use lib.Ieee.{binary32, toBits};
 ghost use Rattle.recording.specs.Recording.{state, ended, workAfter};
-ghost use Rattle.whole.specs.Whole.{untouched, needed};
-ghost use Rattle.whole.specs.Inner.{wordsIn, flagsIn, restOf, drawnIn, Holds, Room};
+ghost use Rattle.redraw.specs.Whole.{untouched, needed};
+ghost use Rattle.redraw.specs.Inner.{wordsIn, flagsIn, restOf, drawnIn, Holds, Room};
 ghost use Rattle.dequant.specs.Dequant.{cubicWeight, candidate, localStrength, sparseAt, sparsePass, sparsePasses, mostIterations, cosparse, cosparseRepair};
 use super::lattice::DEQUANTIZE;
 use super::lattice::name_inner;
@@ -21,8 +21,8 @@ use leaves::order::magnitude32;
 use leaves::words::f32_of_word;
 use leaves::words::word_of_f32;
 use recording::Answer;
-use whole::begin;
-use whole::finish;
+use redraw::begin;
+use redraw::finish;
 
 // How many iterations run at most.
 const MOST_ITERATIONS: usize = 16;

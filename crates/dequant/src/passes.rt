@@ -4,8 +4,8 @@ ghost use Prim.Native.Nat.{ℕ, _+_, _-_, _*_, _≤_, _<_};
 ghost use lib.ListN.{length, take, drop};
 ghost use lib.Ieee.{binary32, toBits};
 ghost use Rattle.recording.specs.Recording.{state, ended, workAfter};
-ghost use Rattle.whole.specs.Whole.{sample, untouched, needed};
-ghost use Rattle.whole.specs.Inner.{wordsIn, flagsIn, restOf, drawnIn, Holds, Room};
+ghost use Rattle.redraw.specs.Whole.{sample, untouched, needed};
+ghost use Rattle.redraw.specs.Inner.{wordsIn, flagsIn, restOf, drawnIn, Holds, Room};
 ghost use Rattle.dequant.specs.Dequant.{firstAt, firstPass, secondAt, secondPass, wide, dequantized, dequantizeRepair};
 use super::lattice::DEQUANTIZE;
 use super::lattice::name_inner;
@@ -17,8 +17,8 @@ use super::lattice::target_of;
 use leaves::words::f32_of_word;
 use leaves::words::word_of_f32;
 use recording::Answer;
-use whole::begin;
-use whole::finish;
+use redraw::begin;
+use redraw::finish;
 
 // The first pass's word at place i, from the words as they stand.
 fn first_word(work: &[u32], i: usize, step: f32, strength: f32) -> u32

@@ -2,7 +2,7 @@
 -- Assumes nothing.
 use borrow.Author.Needs.{needs}
 use lib.ListN.{length}
-use Rattle.whole.specs.Whole.{needed}
+use Rattle.redraw.specs.Whole.{needed}
 use Rattle.cathar.proofs.Exports.{gives, works}
 use Rattle.cathar.proofs.cathar_decrackle.Statement.{statement}
 use Rattle.cathar.proofs.cathar_decrackle.Tie as tie

@@ -1,0 +1,399 @@
+// Replays a list of the original's answers for every repair, and compares. The list is text on standard
+// input, a line for each case: a letter and then words of eight hexadecimal digits in lower case, with a
+// space before each.
+//   g start len n, n samples, len words: the gap's words after the repair of one gap at 3 passes
+//   s n, n samples, n samples: all of the recording after a scan at the rate 48,000, limit 1 ms
+//   d threshold 0 0 n, n samples, n samples: all of it after a cubic declip
+//   c sensitivity 0 0 n, n samples, n samples: after a decrackle
+//   q bits strength 0 n, n samples, n samples: after `dequantize`
+//   p bits strength iterations n, n samples, n samples: after `dequantize_cosparse`
+// After a gap all other samples are to be what they were. A setting that is a float stands as its word.
+ghost use Prim.Native.Nat.{_+_, _*_, _≤_, _<_};
+ghost use lib.ListN.{length};
+use dequant::cosparse::dequantize_cosparse;
+use dequant::passes::dequantize;
+use inpaint::auto::inpaint_auto;
+use inpaint::gap::inpaint_gap;
+use leaves::words::f32_of_word;
+
+// How many samples a recording of the list has at most; what its journal and its workspaces hold.
+const MOST: usize = 120;
+
+const JOURNAL_WORDS: usize = 512;
+
+const WORKSPACE: usize = 4_788;
+
+const WORKSPACE_WORDS: usize = 240;
+
+// A word takes its eight digits and the space or the line's end behind them; the letter takes two bytes.
+const WORD: usize = 9;
+
+const LETTER: usize = 2;
+
+// The letter and four words: no case is shorter.
+const SHORTEST: usize = 38;
+
+const RATE: u32 = 48_000;
+
+const PASSES: u32 = 3;
+
+// The number that an ASCII digit stands for; any other byte counts as 0.
+fn digit(c: u8) -> u32
+    ensures { λ r. ⌜ r ≤ 15 ⌝ }
+{
+    match c {
+        b'0'..=b'9' => (c - b'0') as u32,
+        b'a'..=b'f' => (c - b'a' + 10) as u32,
+        _ => 0,
+    }
+}
+
+// The word that the eight digits from `at` on spell. Of what stands before a digit the lowest 28 bits
+// stay, which are all there are.
+fn word(list: &[u8], at: usize) -> u32
+    requires { ⌜ at + 9 ≤ length (now list) ⌝ }
+{
+    let mut n: u32 = 0;
+    let mut i: usize = 0;
+    while i < 8 {
+        n = n % 0x1000_0000 * 16 + digit(list[at + i]);
+        i += 1;
+    }
+    n
+}
+
+// A word of the list as a count.
+fn count(list: &[u8], at: usize) -> usize
+    requires { ⌜ at + 9 ≤ length (now list) ⌝ }
+    ensures { λ r. ⌜ r ≤ 4294967295 ⌝ }
+{
+    word(list, at) as usize
+}
+
+// Fills the samples with the words of the list from `at` on.
+fn load(list: &[u8], at: usize, samples: &mut [u32])
+    requires { ⌜ at + 9 * length (now samples) ≤ length (now list) ⌝ }
+{
+    let mut i: usize = 0;
+    while i < samples.len() {
+        samples[i] = word(list, at + WORD * i);
+        i += 1;
+    }
+}
+
+// Whether the samples are the words of the list from `at` on.
+fn same(list: &[u8], at: usize, samples: &[u32]) -> bool
+    requires { ⌜ at + 9 * length (now samples) ≤ length (now list) ⌝ }
+{
+    let mut i: usize = 0;
+    while i < samples.len() {
+        if samples[i] != word(list, at + WORD * i) {
+            return false;
+        }
+        i += 1;
+    }
+    true
+}
+
+// Whether the gap of a recording whose samples stand in the list from `at` on, with the gap's new words
+// behind them, is repaired so. The samples and marks are lent, as many as the recording has.
+fn gap_agrees(
+    list: &[u8],
+    at: usize,
+    start: usize,
+    len: usize,
+    samples: &mut [u32],
+    marks: &mut [u8],
+) -> bool
+    requires { ⌜ (at + 9 * (length (now samples) + len) ≤ length (now list)) × (start + len ≤ length (now samples)) ⌝ }
+{
+    let mut journal = [0u32; JOURNAL_WORDS];
+    let mut work = [1.5f64; WORKSPACE];
+    let mut used: usize = 0;
+    load(list, at, samples);
+    inpaint_gap(
+        samples,
+        marks,
+        &mut journal,
+        &mut used,
+        start,
+        len,
+        PASSES,
+        &mut work,
+    );
+    let n = samples.len();
+    let end = start + len;
+    if !same(list, at, &samples[0..start]) {
+        return false;
+    }
+    if !same(list, at + WORD * n, &samples[start..end]) {
+        return false;
+    }
+    same(list, at + WORD * end, &samples[end..n])
+}
+
+// Whether the recording whose samples stand in the list from `at` on is scanned to those behind them. The
+// samples and marks are lent, as many as the recording has.
+fn scan_agrees(list: &[u8], at: usize, samples: &mut [u32], marks: &mut [u8]) -> bool
+    requires { ⌜ at + 18 * length (now samples) ≤ length (now list) ⌝ }
+{
+    let mut journal = [0u32; JOURNAL_WORDS];
+    let mut work = [1.5f64; WORKSPACE];
+    let mut used: usize = 0;
+    load(list, at, samples);
+    inpaint_auto(
+        samples,
+        marks,
+        &mut journal,
+        &mut used,
+        RATE,
+        1.0,
+        &mut work,
+    );
+    same(list, at + WORD * samples.len(), samples)
+}
+
+// Repairs a recording over the whole of it, as a case's letter and its three settings say.
+fn repair_whole(
+    letter: u8,
+    first: u32,
+    second: u32,
+    third: u32,
+    samples: &mut [u32],
+    marks: &mut [u8],
+) {
+    let mut journal = [0u32; JOURNAL_WORDS];
+    let mut work = [7u32; WORKSPACE_WORDS];
+    let mut used: usize = 0;
+    match letter {
+        b'd' => {
+            let threshold = f32_of_word(first);
+            declip::declip(
+                samples,
+                marks,
+                &mut journal,
+                &mut used,
+                threshold,
+                &mut work,
+            );
+        }
+        b'c' => {
+            let sensitivity = f32_of_word(first);
+            decrackle::decrackle(
+                samples,
+                marks,
+                &mut journal,
+                &mut used,
+                sensitivity,
+                &mut work,
+            );
+        }
+        b'q' => {
+            let strength = f32_of_word(second);
+            dequantize(
+                samples,
+                marks,
+                &mut journal,
+                &mut used,
+                first,
+                strength,
+                &mut work,
+            );
+        }
+        _ => {
+            let strength = f32_of_word(second);
+            dequantize_cosparse(
+                samples,
+                marks,
+                &mut journal,
+                &mut used,
+                first,
+                strength,
+                third,
+                &mut work,
+            );
+        }
+    }
+}
+
+// How many words the case that begins at `at` says that it has.
+fn words_told(list: &[u8], at: usize) -> usize
+    requires { ⌜ at + 38 ≤ length (now list) ⌝ }
+    ensures { λ r. ⌜ r ≤ 8589934594 ⌝ }
+{
+    let first = at + LETTER;
+    match list[at] {
+        b'g' => 3 + count(list, first + WORD) + count(list, first + 2 * WORD),
+        b's' => 1 + 2 * count(list, first),
+        _ => 4 + 2 * count(list, first + 3 * WORD),
+    }
+}
+
+// Where the case that begins at `at` ends, or the list's end where that comes first.
+fn case_end(list: &[u8], at: usize) -> usize
+    requires { ⌜ at < length (now list) ⌝ }
+    ensures { λ r. ⌜ (at < r) × (r ≤ length (now (list .entry))) ⌝ }
+{
+    let full = list.len();
+    if full - at < SHORTEST {
+        return full;
+    }
+    let first = at + LETTER;
+    let words = words_told(list, at);
+    if full - first < WORD * words {
+        full
+    } else {
+        first + WORD * words
+    }
+}
+
+// Whether the gap of the case that begins at `at` agrees; one that does not fit its line does not.
+fn gap_case(list: &[u8], at: usize) -> bool
+    requires { ⌜ at + 38 ≤ length (now list) ⌝ }
+{
+    let first = at + LETTER;
+    let start = count(list, first);
+    let len = count(list, first + WORD);
+    let n = count(list, first + 2 * WORD);
+    if MOST < n {
+        return false;
+    }
+    if n < start + len {
+        return false;
+    }
+    if list.len() - first - 3 * WORD < WORD * (n + len) {
+        return false;
+    }
+    let mut samples = [0u32; MOST];
+    let mut marks = [0u8; MOST];
+    gap_agrees(
+        list,
+        first + 3 * WORD,
+        start,
+        len,
+        &mut samples[..n],
+        &mut marks[..n],
+    )
+}
+
+// Whether the scan of the case that begins at `at` agrees.
+fn scan_case(list: &[u8], at: usize) -> bool
+    requires { ⌜ at + 38 ≤ length (now list) ⌝ }
+{
+    let first = at + LETTER;
+    let n = count(list, first);
+    if MOST < n {
+        return false;
+    }
+    if list.len() - first - WORD < 2 * WORD * n {
+        return false;
+    }
+    let mut samples = [0u32; MOST];
+    let mut marks = [0u8; MOST];
+    scan_agrees(list, first + WORD, &mut samples[..n], &mut marks[..n])
+}
+
+// Whether the recording whose samples stand in the list from `at` on is repaired to those behind them, as the
+// letter and the three settings before `at` say. The samples and marks are lent, as many as the recording has.
+fn whole_agrees(list: &[u8], letter: u8, at: usize, samples: &mut [u32], marks: &mut [u8]) -> bool
+    requires { ⌜ (at + 18 * length (now samples) ≤ length (now list)) × (36 ≤ at) ⌝ }
+{
+    load(list, at, samples);
+    let third = word(list, at - 2 * WORD);
+    let second = word(list, at - 3 * WORD);
+    let first = word(list, at - 4 * WORD);
+    repair_whole(letter, first, second, third, samples, marks);
+    same(list, at + WORD * samples.len(), samples)
+}
+
+// Whether the repair over the whole recording of the case that begins at `at` agrees.
+fn whole_case(list: &[u8], at: usize) -> bool
+    requires { ⌜ at + 38 ≤ length (now list) ⌝ }
+{
+    let first = at + LETTER;
+    let n = count(list, first + 3 * WORD);
+    if MOST < n {
+        return false;
+    }
+    if list.len() - first - 4 * WORD < 2 * WORD * n {
+        return false;
+    }
+    let mut samples = [0u32; MOST];
+    let mut marks = [0u8; MOST];
+    whole_agrees(
+        list,
+        list[at],
+        first + 4 * WORD,
+        &mut samples[..n],
+        &mut marks[..n],
+    )
+}
+
+// Whether the case that begins at `at` agrees.
+fn agrees(list: &[u8], at: usize) -> bool
+    requires { ⌜ at < length (now list) ⌝ }
+{
+    if list.len() - at < SHORTEST {
+        return false;
+    }
+    match list[at] {
+        b'g' => gap_case(list, at),
+        b's' => scan_case(list, at),
+        _ => whole_case(list, at),
+    }
+}
+
+// How many cases with this letter there are.
+fn cases(list: &[u8], letter: u8) -> usize {
+    let mut n: usize = 0;
+    let mut next: usize = 0;
+    while next < list.len() {
+        let at = next;
+        next = case_end(list, at);
+        if list[at] == letter {
+            n += 1;
+        }
+    }
+    n
+}
+
+// How many of them agree.
+fn agreeing(list: &[u8], letter: u8) -> usize {
+    let mut n: usize = 0;
+    let mut next: usize = 0;
+    while next < list.len() {
+        let at = next;
+        next = case_end(list, at);
+        if list[at] == letter {
+            if agrees(list, at) {
+                n += 1;
+            }
+        }
+    }
+    n
+}
+
+// Writes a name and a number.
+fn print_number(name: &[u8], n: usize) {
+    io::write_all(1, name);
+    io::print_decimal(1, n as u64);
+}
+
+// Writes, as a line, how many cases with a letter there are and how many of them agree.
+fn report(list: &[u8], name: &[u8], letter: u8) {
+    print_number(name, cases(list, letter));
+    print_number(b" agree ", agreeing(list, letter));
+    io::write_all(1, b"\n");
+}
+
+fn main() {
+    let mut space = io::large_buffer();
+    let n = io::read_full(0, &mut space);
+    let list = &space[..n];
+    report(list, b"gaps ", b'g');
+    report(list, b"scans ", b's');
+    report(list, b"declips ", b'd');
+    report(list, b"decrackles ", b'c');
+    report(list, b"dequantizes ", b'q');
+    report(list, b"dequantizes by cosparse ", b'p');
+}
