@@ -1,0 +1,3 @@
+-- What follows from the rules of decrackle.
+pub mod Signs
+pub mod Ends
