@@ -1,5 +1,5 @@
 -- The rules of cubic declip as the code follows them: the test of a threshold, a word of the curve, a fill place by place,
--- one run's bridge, and all runs one after the other. Assumes nothing.
+-- one run's bridge, all runs one after the other, and how the call ends. Assumes nothing.
 use mathlib.Core.Path.{_≡_, refl, sym, ap, subst, _∙_}
 use mathlib.Core.Bool.{Bool, true, false, _&&_, false≢true, and-false}
 use mathlib.Core.List.{List}
@@ -12,13 +12,18 @@ use lib.Ieee.{Float, nan, inf, fin, binary32, ofBits, toBits, ofInt, lt, le, div
 use lib.Ieee.Scale.{finite}
 use Rattle.leaves.specs.Arithmetic.{_+₃₂_, _-₃₂_, _*₃₂_, _/₃₂_, nought, one, float, count}
 use Rattle.leaves.specs.Floats.{magnitude}
-use Rattle.recording.specs.Inner.{flags}
-use Rattle.whole.specs.Whole.{Drawn, drawn, sample, untouched}
+use Rattle.recording.specs.Recording.{State, ended, change, carried, cleared, workAfter, cubicDeclip}
+use Rattle.recording.specs.Inner.{flags, pickedBy}
+use Rattle.recording.specs.declared.Reason.{Reason}
+use Rattle.recording.specs.declared.Answer.{Answer}
+use Rattle.recording.specs.declared.Answer.the-variants.{Done, Refused}
+use Rattle.whole.specs.Whole.{Drawn, drawn, sample, untouched, needed}
 use Rattle.whole.specs.Runs.{begins, runLength, overRuns}
-use Rattle.whole.specs.Inner.{wordsIn, flagsIn, restOf, drawnIn, Holds}
+use Rattle.whole.specs.Inner.{begun, Begun, wordsIn, flagsIn, restOf, drawnIn, Holds}
 use Rattle.whole.proofs.Workspace.{store-words, store-behind, word-there, flag-words, name-flag, flags-behind, store-rest}
 use Rattle.whole.proofs.Runs.{over-one, over-none, over-all}
-use Rattle.declip.specs.Declip.{allowed, clipped, clippedAt, to, cubicAt, cubicFrom, cubicFill, bridged, declipped}
+use Rattle.whole.proofs.Ending.{whole-refused, whole-done}
+use Rattle.declip.specs.Declip.{allowed, clipped, clippedAt, to, cubicAt, cubicFrom, cubicFill, bridged, declipped, declipRepair}
 
 -- ---- The threshold
 
@@ -168,30 +173,54 @@ module _ (threshold : Float) (samples : List ℕ) where
   pub runs-begin : (w : List ℕ) → drawnIn n w ≡ untouched samples → Going threshold samples w 0 w
   unfolding declipped
   runs-begin w e =
-      record { count = refl; keeps = refl; rest = ap (overRuns test (bridged n) 0 (n - 0)) e ∙ ap (λ (k : ℕ). overRuns test (bridged n) 0 k (untouched samples)) (sub-zero n) }
+      let all = ap (λ (k : ℕ). overRuns test (bridged n) 0 k (untouched samples)) (sub-zero n) in
+      record { count = refl; keeps = refl; rest = ap (overRuns test (bridged n) 0 (n - 0)) e ∙ all }
 
   module _ (w₀ w : List ℕ) (i : ℕ) (h : i < n) (b : Bool) (eb : b ≡ begins test i) (g : Going threshold samples w₀ i w) where
     -- a run begins at place i, and is bridged
     pub run-bridged : (e : ℕ) (v u : List ℕ) → b ≡ true → e ≡ i + runLength test i (n - i) → Holds n (bridged n i e (drawnIn n w)) w v
         → length v ≡ length w → u ≡ v → Going threshold samples w₀ (i + 1) u
-    run-bridged e v u t ends held count eu = subst (Going threshold samples w₀ (i + 1)) (sym eu) (
-        record {
-          count = count ∙ g .count;
-          keeps = held .keeps ∙ g .keeps;
-          rest = over-one test (bridged n) i n e (drawnIn n w) (drawnIn n v) (declipped threshold samples) h (sym eb ∙ t) ends (held .holds) (g .rest);
-        }
-        )
+    run-bridged e v u t ends held count eu =
+        let whole = declipped threshold samples in
+        let next = over-one test (bridged n) i n e (drawnIn n w) (drawnIn n v) whole h (sym eb ∙ t) ends (held .holds) (g .rest) in
+        subst (Going threshold samples w₀ (i + 1)) (sym eu)
+        (record { count = count ∙ g .count; keeps = held .keeps ∙ g .keeps; rest = next })
 
     -- none does
     pub run-passed : (u : List ℕ) → b ≡ false → u ≡ w → Going threshold samples w₀ (i + 1) u
-    run-passed u f eu = subst (Going threshold samples w₀ (i + 1)) (sym eu) (
-        record {
-          count = g .count;
-          keeps = g .keeps;
-          rest = over-none test (bridged n) i n (drawnIn n w) (declipped threshold samples) h (sym eb ∙ f) (g .rest);
-        }
-        )
+    run-passed u f eu =
+        let next = over-none test (bridged n) i n (drawnIn n w) (declipped threshold samples) h (sym eb ∙ f) (g .rest) in
+        subst (Going threshold samples w₀ (i + 1)) (sym eu) (record { count = g .count; keeps = g .keeps; rest = next })
 
   pub runs-end : (w₀ w : List ℕ) (i : ℕ) → n ≤ i → Going threshold samples w₀ i w → Holds n (declipped threshold samples) w₀ w
   runs-end w₀ w i h g =
       record { holds = over-all test (bridged n) i n (drawnIn n w) (declipped threshold samples) h (g .rest); keeps = g .keeps }
+
+-- ---- The call
+
+-- an accepted start leaves the samples in the workspace
+pub begun-laid : (samples w v : List ℕ) (a : Answer) (m : ℕ) → a ≡ Done m → Begun a samples w v
+    → drawnIn (length samples) v ≡ untouched samples
+begun-laid samples w v a m accepted laid =
+    let there : Holds (length samples) (untouched samples) w v = subst (λ (x : Answer). Begun x samples w v) accepted laid in
+    there .holds
+
+-- how it ends, with the answer of its start, a, and the test of its threshold, b, under other names
+module _ (threshold : Float) (b : Bool) (test : b ≡ allowed threshold) (w : List ℕ) (s : State) (a : Answer)
+    (start : a ≡ begun b (length w) s) where
+  starts : a ≡ begun (allowed threshold) (length w) s
+  starts = start ∙ ap (λ (x : Bool). begun x (length w) s) test
+
+  pub declip-refused : (why : Reason) (v : List ℕ) → a ≡ Refused why → Begun a (s .samples) w v
+      → (ended a s ≡ declipRepair threshold (length w) s) × (v ≡ workAfter 0 (needed (length (s .samples))) a w)
+  unfolding declipRepair
+  declip-refused = whole-refused (allowed threshold) w s a starts cubicDeclip (declipped threshold)
+
+  pub declip-done : (m : ℕ) (v u next : List ℕ) (r : Answer) (after : State) → a ≡ Done m
+      → Begun a (s .samples) w v → length v ≡ length w
+      → Holds (length (s .samples)) (declipped threshold (s .samples)) v u → length u ≡ length v
+      → ended r after ≡ carried s (change cubicDeclip (pickedBy u (length (s .samples))))
+      → next ≡ cleared 0 (needed (length (s .samples))) u
+      → (ended r after ≡ declipRepair threshold (length w) s) × (next ≡ workAfter 0 (needed (length (s .samples))) r w)
+  unfolding declipRepair
+  declip-done = whole-done (allowed threshold) w s a starts cubicDeclip (declipped threshold)

@@ -45,14 +45,14 @@ loop-again c =
     let test = c .before in
     let turn = test .before in
     let at = turn .before in
-    let args = start at .args in
+    let samples = start at .args .samples .now in
     let inside = turn .loop-test .taken in
     let begun = test .run-begins .ensures in
     let going = at .loop .inv .1 in (
       omega arith,
       ⊎-elim
-          (λ t. run-bridged _ (args .samples .now) _ _ _ inside _ begun going _ _ _ (t .0 .taken) (t .2 .ensures) (t .3 .ensures) (t .4 .given) (t .6))
-          (λ e. run-passed _ (args .samples .now) _ _ _ inside _ begun going _ (e .0 .left) (e .1))
+          (λ t. run-bridged _ samples _ _ _ inside _ begun going _ _ _ (t .0 .taken) (t .2 .ensures) (t .3 .ensures) (t .4 .given) (t .6))
+          (λ e. run-passed _ samples _ _ _ inside _ begun going _ (e .0 .left) (e .1))
           (c .if1 .came),
     )
 

@@ -18,7 +18,6 @@ Inv-loop work₀ n a z y0 y1 i₀ work i =
 abbrev μ-loop : tie.MeasureT-loop
 μ-loop work₀ n a z y0 y1 i₀ work i = z - i
 
--- the places that the fill is asked for lie in the workspace
 mul-f32-of-word : tie.Need-mul-f32-of-word Inv-loop μ-loop
 mul-f32-of-word c = let pre = c .before .pre in omega (arith, pre .0 .few)
 
@@ -46,8 +45,13 @@ start c = c .before .before .before .before .before .before
 
 loop-holds : tie.Need-loop-holds Inv-loop μ-loop
 loop-holds c =
-    let pre = c .before .before .before .before .before .pre in
-    (omega arith, omega arith, refl, refl, fill-begins _ _ _ _ _ _ (pre .1) (pre .2) (c .before .before .f32-of-word .ensures) (c .f32-of-word2 .ensures))
+    let pre = c .before .before .before .before .before .pre in (
+      omega arith,
+      omega arith,
+      refl,
+      refl,
+      fill-begins _ _ _ _ _ _ (pre .1) (pre .2) (c .before .before .f32-of-word .ensures) (c .f32-of-word2 .ensures),
+    )
 
 cubic-word-requires : tie.Need-cubic-word-requires Inv-loop μ-loop
 cubic-word-requires c κs =

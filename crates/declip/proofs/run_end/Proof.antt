@@ -40,8 +40,8 @@ is-clipped-requires c κs = tt
 returns : tie.Need-returns Inv-loop μ-loop
 returns c =
     let turn = c .before .before .before in
-    run-stops (test (turn .before .before .before)) _ _ _ (turn .loop-test .taken) (sym (c .before .is-clipped .ensures) ∙ not-true _ (c .if1 .taken))
-    (turn .before .loop .inv .1)
+    let out = sym (c .before .is-clipped .ensures) ∙ not-true _ (c .if1 .taken) in
+    run-stops (test (turn .before .before .before)) _ _ _ (turn .loop-test .taken) out (turn .before .loop .inv .1)
 
 add-end : tie.Need-add-end Inv-loop μ-loop
 add-end c = omega arith
