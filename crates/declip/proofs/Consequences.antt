@@ -10,9 +10,9 @@ use lib.ListN.{length, length-set}
 use lib.Ieee.{Float}
 use Rattle.recording.specs.Recording.{cubicDeclip}
 use Rattle.recording.proofs.Picks.{picks}
-use Rattle.whole.specs.Whole.{Drawn, sample, untouched}
-use Rattle.whole.proofs.Runs.{over-keeps}
-use Rattle.whole.proofs.Ending.{whole-lawful}
+use Rattle.redraw.specs.Whole.{Drawn, sample, untouched}
+use Rattle.redraw.proofs.Runs.{over-keeps}
+use Rattle.redraw.proofs.Ending.{whole-lawful}
 use Rattle.declip.specs.Declip.{allowed, clippedAt, from, to, cubicFrom, cubicFill, bridged, declipped, declipPlan}
 use Rattle.declip.specs.Consequences.{GuardNeverMet, DeclipIsLawful}
 

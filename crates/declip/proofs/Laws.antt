@@ -17,12 +17,12 @@ use Rattle.recording.specs.Inner.{flags, pickedBy}
 use Rattle.recording.specs.declared.Reason.{Reason}
 use Rattle.recording.specs.declared.Answer.{Answer}
 use Rattle.recording.specs.declared.Answer.the-variants.{Done, Refused}
-use Rattle.whole.specs.Whole.{Drawn, drawn, sample, untouched, needed}
-use Rattle.whole.specs.Runs.{begins, runLength, overRuns}
-use Rattle.whole.specs.Inner.{begun, Begun, wordsIn, flagsIn, restOf, drawnIn, Holds}
-use Rattle.whole.proofs.Workspace.{store-words, store-behind, word-there, flag-words, name-flag, flags-behind, store-rest}
-use Rattle.whole.proofs.Runs.{over-one, over-none, over-all}
-use Rattle.whole.proofs.Ending.{whole-refused, whole-done}
+use Rattle.redraw.specs.Whole.{Drawn, drawn, sample, untouched, needed}
+use Rattle.redraw.specs.Runs.{begins, runLength, overRuns}
+use Rattle.redraw.specs.Inner.{begun, Begun, wordsIn, flagsIn, restOf, drawnIn, Holds}
+use Rattle.redraw.proofs.Workspace.{store-words, store-behind, word-there, flag-words, name-flag, flags-behind, store-rest}
+use Rattle.redraw.proofs.Runs.{over-one, over-none, over-all}
+use Rattle.redraw.proofs.Ending.{whole-refused, whole-done}
 use Rattle.declip.specs.Declip.{allowed, clipped, clippedAt, to, cubicAt, cubicFrom, cubicFill, bridged, declipped, declipRepair}
 
 -- ---- The threshold

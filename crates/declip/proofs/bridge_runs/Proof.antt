@@ -4,7 +4,7 @@ use mathlib.Core.Logic.{⊎-elim}
 use Prim.Native.Nat.{_-_, _≤_}
 use native.Mathlib.Omega.{arith}
 use lib.ListN.{length}
-use Rattle.whole.proofs.Workspace.{room-stays}
+use Rattle.redraw.proofs.Workspace.{room-stays}
 use Rattle.declip.proofs.Laws.{Going, runs-begin, run-bridged, run-passed, runs-end}
 use Rattle.declip.proofs.bridge_runs.Statement.{statement}
 use Rattle.declip.proofs.bridge_runs.Tie as tie

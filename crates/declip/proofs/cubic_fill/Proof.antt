@@ -4,7 +4,7 @@ use Prim.Native.Nat.{_-_, _≤_, _<_}
 use mathlib.Core.Path.{_≡_, refl}
 use native.Mathlib.Omega.{arith}
 use lib.ListN.{length, length-set}
-use Rattle.whole.specs.Inner.{drawnIn, restOf}
+use Rattle.redraw.specs.Inner.{drawnIn, restOf}
 use Rattle.declip.specs.Declip.{cubicFrom, cubicFill}
 use Rattle.declip.proofs.Laws.{fill-begins, fill-more, fill-ends, named-rest}
 use Rattle.declip.proofs.cubic_fill.Statement.{statement}

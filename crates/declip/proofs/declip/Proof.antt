@@ -5,9 +5,9 @@ use native.Mathlib.Omega.{arith}
 use lib.ListN.{length}
 use Rattle.recording.specs.Recording.{State, state}
 use Rattle.recording.specs.Inner.{Fits}
-use Rattle.whole.specs.Inner.{Room}
-use Rattle.whole.proofs.Workspace.{room-stays}
-use Rattle.whole.proofs.Ending.{start-fits, start-room}
+use Rattle.redraw.specs.Inner.{Room}
+use Rattle.redraw.proofs.Workspace.{room-stays}
+use Rattle.redraw.proofs.Ending.{start-fits, start-room}
 use Rattle.declip.proofs.Laws.{begun-laid, declip-refused, declip-done}
 use Rattle.declip.proofs.declip.Statement.{statement}
 use Rattle.declip.proofs.declip.Tie as tie
