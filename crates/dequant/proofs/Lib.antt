@@ -1,0 +1,2 @@
+-- What both forms of dequantize cite.
+pub mod Flags
