@@ -1,0 +1,3 @@
+-- What both forms of dequantize cite.
+pub mod Flags
+pub mod LawfulCosparse
