@@ -7,7 +7,7 @@ use native.Mathlib.Omega.{arith}
 use native.Mathlib.Nat.{add-zero, sub-zero}
 use borrow.Author.Tests.{eq-eqb, ne-eqb}
 use lib.Dec.{eqb}
-use lib.ListN.{length, getD, set, take, drop}
+use lib.ListN.{length, getD, set, take, drop, length-map}
 use lib.Seq.{sets}
 use lib.Ieee.{Float, binary32, ofBits, ofInt, round, lt}
 use Rattle.leaves.specs.Arithmetic.{_+₃₂_, _-₃₂_, _*₃₂_, nought, one, half, near, float, count}
@@ -121,15 +121,11 @@ flags-back [] = refl
 flags-back (true ∷ bs) = ap (λ (l : List Bool). true ∷ l) (flags-back bs)
 flags-back (false ∷ bs) = ap (λ (l : List Bool). false ∷ l) (flags-back bs)
 
-length-words : (bs : List Bool) → length (map flagWord bs) ≡ length bs
-length-words [] = refl
-length-words (b ∷ bs) = ap suc (length-words bs)
-
 -- a workspace into which flags are stored holds them
 stored-held : (n : ℕ) (bs : List Bool) (w u : List ℕ) → Room n w → length bs ≡ n → u ≡ sets w n (map flagWord bs)
     → Holds n (drawn (wordsIn n w) bs) w u
 stored-held n bs w u room count e =
-    let many : length (map flagWord bs) ≡ n = length-words bs ∙ count in
+    let many : length (map flagWord bs) ≡ n = length-map bs flagWord ∙ count in
     let words : wordsIn n u ≡ wordsIn n w = ap (λ (l : List ℕ). take n l) e ∙ take-sets w (map flagWord bs) n n (omega arith) in
     let stored : flagsIn n u ≡ map flagWord bs =
     ap (λ (l : List ℕ). take n (drop n l)) e ∙ part-of-sets w (map flagWord bs) n n many (omega (arith, room .enough)) in

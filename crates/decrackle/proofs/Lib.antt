@@ -2,3 +2,4 @@
 pub mod Flags
 pub mod Curves
 pub mod Ends
+pub mod Drawing
