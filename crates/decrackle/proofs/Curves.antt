@@ -1,6 +1,5 @@
 -- The curves of decrackle: the slopes at the anchors, a curve's word, and a run rewritten word by word. Assumes nothing.
 use mathlib.Core.Path.{_≡_, refl, sym, ap, _∙_}
-use mathlib.Core.Bool.{Bool, true, false}
 use mathlib.Core.List.{List}
 use Prim.Native.Nat.{ℕ, zero, suc, _+_, _-_, _≤_, _<_}
 use native.Mathlib.Omega.{arith}
@@ -8,7 +7,7 @@ use native.Mathlib.Nat.{sub-zero}
 use borrow.Author.Tests.{lt-ltb, le-ltb, le-leb, lt-leb}
 use lib.ListN.{length, getD, set, drop, length-set}
 use lib.Ieee.{Float, binary32, ofBits, toBits, ofInt, neg}
-use Rattle.leaves.specs.Arithmetic.{_+₃₂_, _-₃₂_, _*₃₂_, _/₃₂_, one, float, count}
+use Rattle.leaves.specs.Arithmetic.{_+₃₂_, _-₃₂_, _*₃₂_, _/₃₂_, float, count}
 use Rattle.whole.specs.Whole.{sample}
 use Rattle.whole.specs.Inner.{wordsIn, Room}
 use Rattle.whole.proofs.Workspace.{store-words, store-behind, word-there, words-count}

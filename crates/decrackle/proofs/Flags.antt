@@ -1,6 +1,6 @@
 -- The flags of decrackle: the detector, the floor, and the flags as a loop stores them, one by one. Assumes nothing.
 use mathlib.Core.Path.{_≡_, refl, sym, ap, _∙_}
-use mathlib.Core.Bool.{Bool, true, false, not, cond}
+use mathlib.Core.Bool.{Bool, true, false, not}
 use mathlib.Core.List.{List, [], _∷_, map}
 use Prim.Native.Nat.{ℕ, zero, suc, _+_, _-_, _≤_, _<_}
 use native.Mathlib.Omega.{arith}
@@ -130,13 +130,16 @@ stored-held n bs w u room count e =
     let stored : flagsIn n u ≡ map flagWord bs =
     ap (λ (l : List ℕ). take n (drop n l)) e ∙ part-of-sets w (map flagWord bs) n n many (omega (arith, room .enough)) in
     record {
-      holds = ap (λ (l : List ℕ). drawn l (flags (flagsIn n u))) words ∙ ap (λ (bs' : List Bool). drawn (wordsIn n w) bs') (ap flags stored ∙ flags-back bs);
+      holds = ap (λ (l : List ℕ). drawn l (flags (flagsIn n u))) words
+          ∙ ap (λ (l : List ℕ). drawn (wordsIn n w) (flags l)) stored
+          ∙ ap (λ (l : List Bool). drawn (wordsIn n w) l) (flags-back bs);
       keeps = ap (λ (l : List ℕ). restOf n l) e ∙ drop-sets w (map flagWord bs) n (n + n) (omega (arith, many));
     }
 
 -- all of them, from the code's opening floor on
 pub flags-held : (sensitivity factor floor : Float) (s w u : List ℕ) (i : ℕ) → Room (length s) w → factor ≡ factorFor sensitivity → length s ≤ i
-    → sets u (length s + i) (left-from factor s floor i (length s)) ≡ sets w (length s + 0) (left-from factor s (ofBits binary32 897988541) 0 (length s))
+    → sets u (length s + i) (left-from factor s floor i (length s))
+    ≡ sets w (length s + 0) (left-from factor s (ofBits binary32 897988541) 0 (length s))
     → Holds (length s) (drawn (wordsIn (length s) w) (flagsOf sensitivity s)) w u
 unfolding flagsOf openingFloor
 flags-held sensitivity factor floor s w u i room ef h rest =

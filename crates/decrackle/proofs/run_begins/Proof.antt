@@ -1,5 +1,4 @@
 -- `decrackle::run_begins` meets its contract: each way out is a line of the rule. Assumes nothing.
-use native.Mathlib.Omega.{arith}
 use borrow.Author.Needs.{needs}
 use Rattle.whole.proofs.Runs.{begins-not, begins-first}
 use Rattle.decrackle.proofs.Flags.{flag-clear, flag-stands, begins-behind}

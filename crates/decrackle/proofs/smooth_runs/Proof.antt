@@ -1,7 +1,7 @@
 -- `decrackle::smooth_runs` meets its contract. The loop's invariant: rewriting the runs that are left gives the whole, and the
 -- flags are as they were. The measure is how many places are left. Assumes nothing.
-use Prim.Native.Nat.{_-_, _≤_}
-use mathlib.Core.Path.{_≡_, refl, sym, _∙_}
+use Prim.Native.Nat.{_-_}
+use mathlib.Core.Path.{refl}
 use mathlib.Core.Logic.{⊎-elim}
 use native.Mathlib.Omega.{arith}
 use Rattle.decrackle.proofs.Drawing.{Smoothing, smoothing-room, smooth-none, run-inside, smooth-one, smooth-all}
