@@ -1,0 +1,34 @@
+-- What follows from the rules of decrackle: it keeps the number of words, so the repair is lawful. Assumes nothing.
+use mathlib.Core.Path.{_≡_, refl, _∙_}
+use mathlib.Core.Bool.{Bool, false}
+use mathlib.Core.List.{List}
+use Prim.Native.Nat.{ℕ}
+use lib.Dec.{ltb}
+use lib.ListN.{length, getD}
+use lib.Ieee.{Float}
+use Rattle.recording.specs.Recording as recording
+use Rattle.recording.proofs.Picks.{picks}
+use Rattle.whole.specs.Whole.{Drawn, drawn, untouched}
+use Rattle.whole.proofs.Runs.{over-keeps}
+use Rattle.whole.proofs.Ending.{whole-lawful}
+use Rattle.decrackle.specs.Decrackle.{allowed, flagsOf, rewritten, smoothed, decrackled, decracklePlan}
+use Rattle.decrackle.specs.Consequences.{DecrackleIsLawful}
+use Rattle.decrackle.proofs.Curves.{length-rewritten}
+
+length-smoothed : (bs : List Bool) (out : List ℕ) → length (smoothed bs out) ≡ length out
+unfolding smoothed
+length-smoothed bs out =
+    over-keeps (λ i. getD bs i false) rewritten (λ (l : List ℕ). length l ≡ length out) (λ s e l h. length-rewritten s e l ∙ h)
+    0 (length bs) out refl
+
+decrackle-counts : (sensitivity : Float) (samples : List ℕ) → length (decrackled sensitivity samples .words) ≡ length samples
+unfolding decrackled
+decrackle-counts sensitivity samples =
+    let flags = flagsOf sensitivity samples in
+    picks (λ (d : Drawn). length (d .words) ≡ length samples) (ltb (length samples) 8) (untouched samples) (drawn (smoothed flags samples) flags)
+    refl (length-smoothed flags samples)
+
+pub decrackle-lawful : DecrackleIsLawful
+unfolding decracklePlan
+decrackle-lawful sensitivity room =
+    whole-lawful (allowed sensitivity) room recording.decrackle (decrackled sensitivity) refl (decrackle-counts sensitivity)
