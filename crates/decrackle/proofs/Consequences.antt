@@ -8,9 +8,9 @@ use lib.ListN.{length, getD}
 use lib.Ieee.{Float}
 use Rattle.recording.specs.Recording as recording
 use Rattle.recording.proofs.Picks.{picks}
-use Rattle.whole.specs.Whole.{Drawn, drawn, untouched}
-use Rattle.whole.proofs.Runs.{over-keeps}
-use Rattle.whole.proofs.Ending.{whole-lawful}
+use Rattle.redraw.specs.Whole.{Drawn, drawn, untouched}
+use Rattle.redraw.proofs.Runs.{over-keeps}
+use Rattle.redraw.proofs.Ending.{whole-lawful}
 use Rattle.decrackle.specs.Decrackle.{allowed, flagsOf, rewritten, smoothed, decrackled, decracklePlan}
 use Rattle.decrackle.specs.Consequences.{DecrackleIsLawful}
 use Rattle.decrackle.proofs.Curves.{length-rewritten}

@@ -8,9 +8,9 @@ use borrow.Author.Tests.{lt-ltb, le-ltb, le-leb, lt-leb}
 use lib.ListN.{length, getD, set, drop, length-set}
 use lib.Ieee.{Float, binary32, ofBits, toBits, ofInt, neg}
 use Rattle.leaves.specs.Arithmetic.{_+₃₂_, _-₃₂_, _*₃₂_, _/₃₂_, float, count}
-use Rattle.whole.specs.Whole.{sample}
-use Rattle.whole.specs.Inner.{wordsIn, Room}
-use Rattle.whole.proofs.Workspace.{store-words, store-behind, word-there, words-count}
+use Rattle.redraw.specs.Whole.{sample}
+use Rattle.redraw.specs.Inner.{wordsIn, Room}
+use Rattle.redraw.proofs.Workspace.{store-words, store-behind, word-there, words-count}
 use Rattle.decrackle.specs.Decrackle.{slopeBefore, slopeBehind, hermiteAt, hermiteFrom, rewritten}
 use Rattle.decrackle.proofs.Flags.{no-sample, one-whole}
 

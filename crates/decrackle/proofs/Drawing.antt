@@ -17,12 +17,12 @@ use Rattle.recording.specs.Inner.{flags, Fits, pickedBy}
 use Rattle.recording.specs.declared.Reason.{Reason}
 use Rattle.recording.specs.declared.Answer.{Answer}
 use Rattle.recording.specs.declared.Answer.the-variants.{Done, Refused}
-use Rattle.whole.specs.Whole.{Drawn, drawn, untouched, needed}
-use Rattle.whole.specs.Runs.{begins, runLength, overRuns}
-use Rattle.whole.specs.Inner.{begun, Begun, wordsIn, flagsIn, drawnIn, flaggedAt, Holds, Room}
-use Rattle.whole.proofs.Workspace.{rest-behind, flags-behind, flags-count, room-stays}
-use Rattle.whole.proofs.Ending.{start-fits, start-room, whole-refused, whole-done}
-use Rattle.whole.proofs.Runs.{begins-there, run-short, over-one, over-none, over-all}
+use Rattle.redraw.specs.Whole.{Drawn, drawn, untouched, needed}
+use Rattle.redraw.specs.Runs.{begins, runLength, overRuns}
+use Rattle.redraw.specs.Inner.{begun, Begun, wordsIn, flagsIn, drawnIn, flaggedAt, Holds, Room}
+use Rattle.redraw.proofs.Workspace.{rest-behind, flags-behind, flags-count, room-stays}
+use Rattle.redraw.proofs.Ending.{start-fits, start-room, whole-refused, whole-done}
+use Rattle.redraw.proofs.Runs.{begins-there, run-short, over-one, over-none, over-all}
 use Rattle.decrackle.specs.Decrackle.{allowed, flagsOf, rewritten, smoothed, decrackled, decrackleRepair}
 use Rattle.decrackle.proofs.Ends.{ends-never-flagged}
 

@@ -14,11 +14,11 @@ use Rattle.leaves.specs.Arithmetic.{_+₃₂_, _-₃₂_, _*₃₂_, nought, on
 use Rattle.leaves.specs.Floats.{magnitude, larger, held}
 use Rattle.leaves.proofs.Parts.{take-sets, drop-sets, part-of-sets}
 use Rattle.recording.specs.Inner.{flags}
-use Rattle.whole.specs.Whole.{drawn}
-use Rattle.whole.specs.Runs.{begins}
-use Rattle.whole.specs.Inner.{wordsIn, flagsIn, restOf, flagWord, flaggedAt, Holds, Room}
-use Rattle.whole.proofs.Workspace.{flagged-there}
-use Rattle.whole.proofs.Runs.{begins-after}
+use Rattle.redraw.specs.Whole.{drawn}
+use Rattle.redraw.specs.Runs.{begins}
+use Rattle.redraw.specs.Inner.{wordsIn, flagsIn, restOf, flagWord, flaggedAt, Holds, Room}
+use Rattle.redraw.proofs.Workspace.{flagged-there}
+use Rattle.redraw.proofs.Runs.{begins-after}
 use Rattle.decrackle.specs.Decrackle.{factorFor, detector, openingFloor, leastFloor, alpha, floorAfter, flagged, flagsFrom, flagsOf}
 
 -- ---- The code's literals

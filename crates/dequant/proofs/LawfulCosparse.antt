@@ -2,7 +2,7 @@
 -- sample. Assumes nothing.
 use mathlib.Core.Path.{refl}
 use Rattle.recording.specs.Recording.{dequantize}
-use Rattle.whole.proofs.Ending.{whole-lawful}
+use Rattle.redraw.proofs.Ending.{whole-lawful}
 use Rattle.dequant.specs.Dequant.{allowed, cosparse, cosparsePlan}
 use Rattle.dequant.specs.Consequences.{CosparseIsLawful}
 use Rattle.dequant.proofs.cosparse.Laws.{length-cosparse}

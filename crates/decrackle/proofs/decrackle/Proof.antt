@@ -4,7 +4,7 @@ use native.Mathlib.Omega.{arith}
 use borrow.Author.Needs.{needs}
 use lib.ListN.{length}
 use Rattle.recording.specs.Recording.{State, state}
-use Rattle.whole.specs.Inner.{Room}
+use Rattle.redraw.specs.Inner.{Room}
 use Rattle.decrackle.proofs.Drawing.{call-refused, call-fits, call-room, call-laid, call-done}
 use Rattle.decrackle.proofs.decrackle.Statement.{statement}
 use Rattle.decrackle.proofs.decrackle.Tie as tie

@@ -1,7 +1,7 @@
 -- `decrackle::draw` meets its contract: a short recording stays as it was laid out, and of any other the flags and then the runs
 -- are drawn. Assumes nothing.
 use borrow.Author.Needs.{needs}
-use Rattle.whole.proofs.Workspace.{room-stays}
+use Rattle.redraw.proofs.Workspace.{room-stays}
 use Rattle.decrackle.proofs.Drawing.{drawn-short, first-clear, last-clear, drawn-all}
 use Rattle.decrackle.proofs.draw.Statement.{statement}
 use Rattle.decrackle.proofs.draw.Tie as tie

@@ -5,7 +5,7 @@ use mathlib.Core.Path.{_≡_, refl, _∙_}
 use native.Mathlib.Omega.{arith}
 use borrow.Author.Needs.{needs}
 use lib.ListN.{length, length-set, drop}
-use Rattle.whole.specs.Inner.{wordsIn}
+use Rattle.redraw.specs.Inner.{wordsIn}
 use Rattle.decrackle.specs.Decrackle.{hermiteFrom}
 use Rattle.decrackle.proofs.Curves.{curve-stored, curve-behind, curve-all, curve-is}
 use Rattle.decrackle.proofs.repair_hermite.Statement.{statement}

@@ -19,9 +19,9 @@ use Rattle.recording.specs.Recording.{State, dequantize, if_then_else_}
 use Rattle.recording.specs.declared.Answer.{Answer}
 use Rattle.recording.specs.declared.Answer.the-variants.{Done}
 use Rattle.recording.proofs.Picks.{picks}
-use Rattle.whole.specs.Whole.{Drawn, drawn, untouched, sample, wholeRepair}
-use Rattle.whole.specs.Inner.{wordsIn, flagsIn, restOf, drawnIn, Begun, Holds, Room}
-use Rattle.whole.proofs.Workspace.{store-words, store-behind, flag-there, flags-behind, rest-behind, words-count, holds-then}
+use Rattle.redraw.specs.Whole.{Drawn, drawn, untouched, sample, wholeRepair}
+use Rattle.redraw.specs.Inner.{wordsIn, flagsIn, restOf, drawnIn, Begun, Holds, Room}
+use Rattle.redraw.proofs.Workspace.{store-words, store-behind, flag-there, flags-behind, rest-behind, words-count, holds-then}
 use Rattle.dequant.specs.Dequant.{linear, cubic, cubicWeight, candidate, localStrength, target, sparseAt, sparsePass}
 use Rattle.dequant.specs.Dequant.{sparsePasses, stepOf, strengthOf, inner, acts, mostIterations, cosparse, cosparseRepair}
 use Rattle.dequant.proofs.lattice.Laws.{one-word, half-word, two-word}

@@ -16,8 +16,8 @@ use Rattle.leaves.specs.Arithmetic.{_+₃₂_, _-₃₂_, _*₃₂_, _/₃₂_,
 use Rattle.leaves.specs.Floats.{held, rounded}
 use Rattle.leaves.proofs.Numbers.{one-up}
 use Rattle.leaves.proofs.Stores.{copy-more, all-copied}
-use Rattle.whole.specs.Whole.{drawn}
-use Rattle.whole.specs.Inner.{wordsIn, flagWord, Holds, Room}
+use Rattle.redraw.specs.Whole.{drawn}
+use Rattle.redraw.specs.Inner.{wordsIn, flagWord, Holds, Room}
 use Rattle.dequant.specs.Dequant.{strengthOf, stepOf, target, innerFrom, inner, acts}
 use Rattle.dequant.proofs.Flags.{flagWords, flags-stored}
 

@@ -5,9 +5,9 @@ use native.Mathlib.Omega.{arith}
 use borrow.Author.Needs.{needs}
 use lib.ListN.{length}
 use Rattle.recording.specs.Recording.{State, state, dequantize}
-use Rattle.whole.specs.Inner.{Room}
-use Rattle.whole.proofs.Workspace.{room-stays}
-use Rattle.whole.proofs.Ending.{start-fits, start-room, whole-refused, whole-done}
+use Rattle.redraw.specs.Inner.{Room}
+use Rattle.redraw.proofs.Workspace.{room-stays}
+use Rattle.redraw.proofs.Ending.{start-fits, start-room, whole-refused, whole-done}
 use Rattle.dequant.specs.Dequant.{cosparse}
 use Rattle.dequant.proofs.cosparse.Laws.{drawn-laid, drawn-of, cosparse-is}
 use Rattle.dequant.proofs.cosparse.dequantize_cosparse.Statement.{statement}

@@ -4,8 +4,8 @@ use Prim.Native.Nat.{_-_, _≤_}
 use mathlib.Core.Path.{_≡_, refl}
 use native.Mathlib.Omega.{arith}
 use lib.ListN.{length, length-set, drop}
-use Rattle.whole.specs.Inner.{wordsIn, flagsIn}
-use Rattle.whole.proofs.Workspace.{room-stays}
+use Rattle.redraw.specs.Inner.{wordsIn, flagsIn}
+use Rattle.redraw.proofs.Workspace.{room-stays}
 use Rattle.dequant.specs.Dequant.{sparsePass}
 use Rattle.dequant.proofs.cosparse.Laws.{sparse-from, sparse-more, behind-more, sparse-all}
 use Rattle.dequant.proofs.cosparse.sparse_pass.Statement.{statement}

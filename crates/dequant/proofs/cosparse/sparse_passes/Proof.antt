@@ -4,8 +4,8 @@ use Prim.Native.Nat.{_-_, _≤_}
 use mathlib.Core.Path.{_≡_, refl, _∙_}
 use native.Mathlib.Omega.{arith}
 use lib.ListN.{length}
-use Rattle.whole.specs.Inner.{wordsIn, restOf, Room}
-use Rattle.whole.proofs.Workspace.{room-stays}
+use Rattle.redraw.specs.Inner.{wordsIn, restOf, Room}
+use Rattle.redraw.proofs.Workspace.{room-stays}
 use Rattle.dequant.specs.Dequant.{sparsePasses}
 use Rattle.dequant.proofs.cosparse.Laws.{passes-from, passes-more, passes-keep, passes-all}
 use Rattle.dequant.proofs.cosparse.sparse_passes.Statement.{statement}

@@ -5,7 +5,7 @@ use mathlib.Core.Path.{_≡_, refl}
 use native.Mathlib.Omega.{arith}
 use lib.ListN.{length, length-set}
 use lib.Seq.{sets}
-use Rattle.whole.specs.Inner.{Room}
+use Rattle.redraw.specs.Inner.{Room}
 use Rattle.dequant.specs.Dequant.{innerFrom, inner}
 use Rattle.dequant.proofs.Flags.{flagWords}
 use Rattle.dequant.proofs.lattice.Laws.{named-none, named-more, named-all, named-holds}

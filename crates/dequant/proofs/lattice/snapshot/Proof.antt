@@ -5,7 +5,7 @@ use mathlib.Core.Path.{_≡_, refl}
 use native.Mathlib.Omega.{arith}
 use lib.ListN.{length, length-set, take, drop}
 use lib.Seq.{sets}
-use Rattle.whole.specs.Inner.{Room}
+use Rattle.redraw.specs.Inner.{Room}
 use Rattle.dequant.proofs.lattice.Laws.{kept-none, kept-more, kept-words, kept-all}
 use Rattle.dequant.proofs.lattice.snapshot.Statement.{statement}
 use Rattle.dequant.proofs.lattice.snapshot.Tie as tie
