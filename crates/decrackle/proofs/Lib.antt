@@ -1,5 +1,8 @@
--- The laws of decrackle's rules, and what follows from them.
+-- What the proofs of this crate cite: floats without a sign, the flags, the ends, the curves, the drawing of it all and the call, and
+-- what follows from the rules.
 pub mod Signs
+pub mod Flags
 pub mod Ends
-pub mod Laws
+pub mod Curves
+pub mod Drawing
 pub mod Consequences
