@@ -1,5 +1,5 @@
 -- The rules of cubic declip as the code follows them: the test of a threshold, a word of the curve, a fill place by place,
--- one run's bridge, all runs one after the other, and how the call ends. Assumes nothing.
+-- one run's bridge, all runs one after the other, and how the call ends. Assumes nought-word.
 use mathlib.Core.Path.{_≡_, refl, sym, ap, subst, _∙_}
 use mathlib.Core.Bool.{Bool, true, false, _&&_, false≢true, and-false}
 use mathlib.Core.List.{List}
@@ -8,10 +8,11 @@ use native.Mathlib.Omega.{arith}
 use native.Mathlib.Nat.{sub-zero}
 use borrow.Author.Tests.{lt-ltb, le-ltb}
 use lib.ListN.{length, getD, set}
-use lib.Ieee.{Float, nan, inf, fin, binary32, ofBits, toBits, ofInt, lt, le, div}
+use lib.Ieee.{Float, nan, inf, fin, binary32, ofBits, toBits, lt, le, div}
 use lib.Ieee.Scale.{finite}
-use Rattle.leaves.specs.Arithmetic.{_+₃₂_, _-₃₂_, _*₃₂_, _/₃₂_, nought, one, float, count}
+use Rattle.leaves.specs.Arithmetic.{_+₃₂_, _-₃₂_, _*₃₂_, _/₃₂_, nought, float, count}
 use Rattle.leaves.specs.Floats.{magnitude}
+use Rattle.leaves.proofs.Literals.{nought-word, one-word, two-word, three-word}
 use Rattle.recording.specs.Recording.{State, ended, change, carried, cleared, workAfter, cubicDeclip}
 use Rattle.recording.specs.Inner.{flags, pickedBy}
 use Rattle.recording.specs.declared.Reason.{Reason}
@@ -26,11 +27,6 @@ use Rattle.redraw.proofs.Ending.{whole-refused, whole-done}
 use Rattle.declip.specs.Declip.{allowed, clipped, clippedAt, to, cubicAt, cubicFrom, cubicFill, bridged, declipped, declipRepair}
 
 -- ---- The threshold
-
--- 0.0, and 1.0 / 0.0, as the code has them
-nothing : ofBits binary32 0 ≡ nought
-unfolding ofBits
-nothing = refl
 
 abbrev unbounded : Float
 unbounded = div binary32 (ofBits binary32 1065353216) (ofBits binary32 0)
@@ -48,10 +44,10 @@ above-nought (inf false) h = refl
 above-nought (fin s m e) h = sym h
 
 pub threshold-above : (x : Float) → lt (ofBits binary32 0) x ≡ true → lt x unbounded ≡ allowed x
-threshold-above x h = ap (λ (y : Float). lt x y) plus-infinity ∙ above-nought x (sym (ap (λ (y : Float). lt y x) nothing) ∙ h)
+threshold-above x h = ap (λ (y : Float). lt x y) plus-infinity ∙ above-nought x (sym (ap (λ (y : Float). lt y x) nought-word) ∙ h)
 
 pub threshold-not-above : (x : Float) → lt (ofBits binary32 0) x ≡ false → false ≡ allowed x
-threshold-not-above x h = sym (ap (λ (b : Bool). finite x && b) (sym (ap (λ (y : Float). lt y x) nothing) ∙ h) ∙ and-false (finite x))
+threshold-not-above x h = sym (ap (λ (b : Bool). finite x && b) (sym (ap (λ (y : Float). lt y x) nought-word) ∙ h) ∙ and-false (finite x))
 
 -- ---- A clipped sample
 
@@ -60,19 +56,6 @@ unfolding clipped float
 clipped-word threshold x y w ex ey = rw (ey, ex) refl
 
 -- ---- A word of the curve
-
--- the code's literals
-one-whole : ofBits binary32 1065353216 ≡ one
-unfolding ofBits
-one-whole = refl
-
-two-whole : ofBits binary32 1073741824 ≡ count 2
-unfolding ofBits count ofInt
-two-whole = refl
-
-three-whole : ofBits binary32 1077936128 ≡ count 3
-unfolding ofBits count ofInt
-three-whole = refl
 
 -- the rule's sum, with its constants and counts under other names
 abbrev curve : Float → Float → Float → Float → Float → Float → Float → Float
@@ -86,7 +69,7 @@ pub curve-word : (y0 y1 p q : Float) (a z i w : ℕ) → p ≡ count (i - a) →
     → w ≡ toBits binary32 (curve (ofBits binary32 1065353216) (ofBits binary32 1073741824) (ofBits binary32 1077936128) y0 y1 p q)
     → w ≡ toBits binary32 (cubicAt y0 y1 a z i)
 unfolding cubicAt
-curve-word y0 y1 p q a z i w ep eq e = e ∙ rw (ep, eq, one-whole, two-whole, three-whole) refl
+curve-word y0 y1 p q a z i w ep eq e = e ∙ rw (ep, eq, one-word, two-word, three-word) refl
 
 -- ---- A fill
 
@@ -197,13 +180,6 @@ module _ (threshold : Float) (samples : List ℕ) where
       record { holds = over-all test (bridged n) i n (drawnIn n w) (declipped threshold samples) h (g .rest); keeps = g .keeps }
 
 -- ---- The call
-
--- an accepted start leaves the samples in the workspace
-pub begun-laid : (samples w v : List ℕ) (a : Answer) (m : ℕ) → a ≡ Done m → Begun a samples w v
-    → drawnIn (length samples) v ≡ untouched samples
-begun-laid samples w v a m accepted laid =
-    let there : Holds (length samples) (untouched samples) w v = subst (λ (x : Answer). Begun x samples w v) accepted laid in
-    there .holds
 
 -- how it ends, with the answer of its start, a, and the test of its threshold, b, under other names
 module _ (threshold : Float) (b : Bool) (test : b ≡ allowed threshold) (w : List ℕ) (s : State) (a : Answer)

@@ -1,8 +1,7 @@
 -- What follows from the rules of cubic declip, each proved in proofs/. Statements only.
-use Prim.Native.Nat.{ℕ, _+_, _-_, _<_}
+use Prim.Native.Nat.{ℕ, _+_, _-_}
 use mathlib.Core.Path.{_≡_}
-use mathlib.Core.Bool.{Bool, true, false}
-use mathlib.Core.List.{List}
+use mathlib.Core.Bool.{true, false}
 use lib.Dec.{ltb}
 use lib.Ieee.{Float}
 use Rattle.recording.specs.History.{LawfulRepair}

@@ -1,14 +1,14 @@
 // Cubic declip: each run of clipped samples is bridged by a curve between the samples four places before it
 // and four places behind it. The curve replaces the shoulders too, so they are named as well.
 ghost use mathlib.Core.Path.{_≡_};
-ghost use Prim.Native.Nat.{ℕ, _+_, _-_, _*_, _≤_, _<_};
-ghost use lib.ListN.{length, getD};
+ghost use Prim.Native.Nat.{_+_, _-_, _*_, _≤_, _<_};
+ghost use lib.ListN.{length};
 ghost use lib.Ieee.{binary32, toBits};
 ghost use Rattle.recording.specs.Recording.{state, ended, mostSamples, workAfter};
 ghost use Rattle.redraw.specs.Whole.{untouched, needed};
 ghost use Rattle.redraw.specs.Runs.{begins, runLength};
 ghost use Rattle.redraw.specs.Inner.{drawnIn, Holds, Room};
-ghost use Rattle.declip.specs.Declip.{allowed, clipped, clippedAt, from, to, cubicAt, cubicFill, bridged, declipped, declipRepair};
+ghost use Rattle.declip.specs.Declip.{allowed, clipped, clippedAt, cubicAt, cubicFill, bridged, declipped, declipRepair};
 use leaves::counts::above;
 use leaves::counts::least;
 use leaves::order::magnitude32;

@@ -6,23 +6,13 @@ use native.Mathlib.Omega.{arith}
 use native.Mathlib.Nat.{sub-zero}
 use borrow.Author.Tests.{lt-ltb, le-ltb, le-leb, lt-leb}
 use lib.ListN.{length, getD, set, drop, length-set}
-use lib.Ieee.{Float, binary32, ofBits, toBits, ofInt, neg}
+use lib.Ieee.{Float, binary32, ofBits, toBits, neg}
 use Rattle.leaves.specs.Arithmetic.{_+₃₂_, _-₃₂_, _*₃₂_, _/₃₂_, float, count}
+use Rattle.leaves.proofs.Literals.{nought-word, one-word, two-word, three-word}
 use Rattle.redraw.specs.Whole.{sample}
 use Rattle.redraw.specs.Inner.{wordsIn, Room}
 use Rattle.redraw.proofs.Workspace.{store-words, store-behind, word-there, words-count}
 use Rattle.decrackle.specs.Decrackle.{slopeBefore, slopeBehind, hermiteAt, hermiteFrom, rewritten}
-use Rattle.decrackle.proofs.Flags.{no-sample, one-whole}
-
--- ---- The code's literals
-
-two : ofBits binary32 1073741824 ≡ count 2
-unfolding ofBits count ofInt
-two = refl
-
-three : ofBits binary32 1077936128 ≡ count 3
-unfolding ofBits count ofInt
-three = refl
 
 -- ---- The slopes
 
@@ -33,7 +23,7 @@ sample-there n i w x h e = e ∙ ap (ofBits binary32) (sym (word-there n i 0 w h
 
 pub slope-before-none : (out : List ℕ) (start : ℕ) → start < 2 → ofBits binary32 0 ≡ slopeBefore out start
 unfolding slopeBefore
-slope-before-none out start h = rw (lt-leb _ _ h) no-sample
+slope-before-none out start h = rw (lt-leb _ _ h) nought-word
 
 pub slope-before-some : (n start : ℕ) (w : List ℕ) (x y : Float) → 2 ≤ start → start ≤ n
     → x ≡ ofBits binary32 (getD w (start - 1) 0) → y ≡ ofBits binary32 (getD w (start - 2) 0)
@@ -44,7 +34,7 @@ slope-before-some n start w x y h k ex ey =
 
 pub slope-behind-none : (n end : ℕ) (w : List ℕ) → Room n w → n ≤ end + 1 → ofBits binary32 0 ≡ slopeBehind (wordsIn n w) end
 unfolding slopeBehind
-slope-behind-none n end w room h = rw (words-count n w room, le-ltb _ _ h) no-sample
+slope-behind-none n end w room h = rw (words-count n w room, le-ltb _ _ h) nought-word
 
 pub slope-behind-some : (n end : ℕ) (w : List ℕ) (x y : Float) → Room n w → end + 1 < n
     → x ≡ ofBits binary32 (getD w (end + 1) 0) → y ≡ ofBits binary32 (getD w end 0)
@@ -66,7 +56,7 @@ pub hermite-word : (p0 p1 m0 m1 span a : Float) (k w : ℕ) → a ≡ count (k +
     w ≡ toBits binary32 (h00 *₃₂ p0 +₃₂ h10 *₃₂ (m0 *₃₂ span) +₃₂ h01 *₃₂ p1 +₃₂ h11 *₃₂ (m1 *₃₂ span)))
     → w ≡ toBits binary32 (hermiteAt p0 p1 m0 m1 span k)
 unfolding hermiteAt
-hermite-word p0 p1 m0 m1 span a k w ea e = e ∙ rw (ea, one-whole, two, three) refl
+hermite-word p0 p1 m0 m1 span a k w ea e = e ∙ rw (ea, one-word, two-word, three-word) refl
 
 -- ---- A run, rewritten word by word
 

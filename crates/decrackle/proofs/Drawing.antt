@@ -1,7 +1,7 @@
 -- How decrackle draws its words and flags in the workspace: each flagged run is rewritten, left to right, and what is left to
 -- rewrite gives the whole. And how a call of it ends. Assumes nothing.
 use mathlib.Core.Path.{_≡_, refl, sym, ap, subst, _∙_}
-use mathlib.Core.Bool.{Bool, true, false, not, true≢false}
+use mathlib.Core.Bool.{Bool, true, false, true≢false}
 use mathlib.Core.List.{List}
 use mathlib.Core.Logic.{inl, inr}
 use Prim.Native.Nat.{ℕ, zero, suc, _+_, _-_, _≤_, _<_}
@@ -9,8 +9,8 @@ use native.Mathlib.Omega.{arith}
 use native.Mathlib.Nat.{sub-zero}
 use borrow.Author.Tests.{lt-ltb, le-ltb}
 use lib.ListN.{length, getD, drop, length-map}
-use lib.Ieee.{Float, eq, ne}
-use Rattle.leaves.proofs.words.Laws.{nan-test}
+use lib.Ieee.{Float, eq}
+use Rattle.leaves.proofs.words.Laws.{number-test}
 use Rattle.recording.specs.Recording.{State, ended, change, carried, cleared, workAfter}
 use Rattle.recording.specs.Recording as recording
 use Rattle.recording.specs.Inner.{flags, Fits, pickedBy}
@@ -21,7 +21,7 @@ use Rattle.redraw.specs.Whole.{Drawn, drawn, untouched, needed}
 use Rattle.redraw.specs.Runs.{begins, runLength, overRuns}
 use Rattle.redraw.specs.Inner.{begun, Begun, wordsIn, flagsIn, drawnIn, flaggedAt, Holds, Room}
 use Rattle.redraw.proofs.Workspace.{rest-behind, flags-behind, flags-count, room-stays}
-use Rattle.redraw.proofs.Ending.{start-fits, start-room, whole-refused, whole-done}
+use Rattle.redraw.proofs.Ending.{start-fits, start-room, start-holds, whole-refused, whole-done}
 use Rattle.redraw.proofs.Runs.{begins-there, run-short, over-one, over-none, over-all}
 use Rattle.decrackle.specs.Decrackle.{allowed, flagsOf, rewritten, smoothed, decrackled, decrackleRepair}
 use Rattle.decrackle.proofs.Ends.{ends-never-flagged}
@@ -145,15 +145,6 @@ module _ (sensitivity : Float) (samples w v : List ℕ) (laid : drawnIn (length 
 
 -- ---- The call
 
--- only a NaN differs from itself
-number-test : (x : Float) → eq x x ≡ allowed x
-unfolding ne
-number-test x = twice (eq x x) ∙ ap not (sym (nan-test x))
-  where
-    twice : (b : Bool) → b ≡ not (not b)
-    twice true = refl
-    twice false = refl
-
 module _ (sensitivity : Float) (w : List ℕ) (s : State) (a : Answer) (start : a ≡ begun (eq sensitivity sensitivity) (length w) s) where
   started : a ≡ begun (allowed sensitivity) (length w) s
   started = start ∙ ap (λ (b : Bool). begun b (length w) s) (number-test sensitivity)
@@ -173,7 +164,7 @@ module _ (sensitivity : Float) (w : List ℕ) (s : State) (a : Answer) (start : 
     call-room v count = room-stays (length (s .samples)) v w (start-room (allowed sensitivity) w s a started m e) count
 
     pub call-laid : (v : List ℕ) → Begun a (s .samples) w v → drawnIn (length (s .samples)) v ≡ untouched (s .samples)
-    call-laid v laid = subst (λ (x : Answer). Begun x (s .samples) w v) e laid .holds
+    call-laid v laid = start-holds (s .samples) w v a m e laid .holds
 
     -- what the workspace holds is committed
     pub call-done : (v u next : List ℕ) (r : Answer) (after : State) → Begun a (s .samples) w v → length v ≡ length w

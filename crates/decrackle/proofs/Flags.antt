@@ -1,39 +1,27 @@
 -- The flags of decrackle: the detector, the floor, and the flags as a loop stores them, one by one. Assumes nothing.
 use mathlib.Core.Path.{_≡_, refl, sym, ap, _∙_}
 use mathlib.Core.Bool.{Bool, true, false, not}
-use mathlib.Core.List.{List, [], _∷_, map}
+use mathlib.Core.List.{List, map}
 use Prim.Native.Nat.{ℕ, zero, suc, _+_, _-_, _≤_, _<_}
 use native.Mathlib.Omega.{arith}
 use native.Mathlib.Nat.{add-zero, sub-zero}
 use borrow.Author.Tests.{eq-eqb, ne-eqb}
 use lib.Dec.{eqb}
-use lib.ListN.{length, getD, set, take, drop, length-map}
+use lib.ListN.{length, getD, set}
 use lib.Seq.{sets}
 use lib.Ieee.{Float, binary32, ofBits, ofInt, round, lt}
-use Rattle.leaves.specs.Arithmetic.{_+₃₂_, _-₃₂_, _*₃₂_, nought, one, half, near, float, count}
+use Rattle.leaves.specs.Arithmetic.{_+₃₂_, _-₃₂_, _*₃₂_, near, float, count}
 use Rattle.leaves.specs.Floats.{magnitude, larger, held}
-use Rattle.leaves.proofs.Parts.{take-sets, drop-sets, part-of-sets}
-use Rattle.recording.specs.Inner.{flags}
+use Rattle.leaves.proofs.Literals.{nought-word, half-word, one-word}
 use Rattle.redraw.specs.Whole.{drawn}
 use Rattle.redraw.specs.Runs.{begins}
-use Rattle.redraw.specs.Inner.{wordsIn, flagsIn, restOf, flagWord, flaggedAt, Holds, Room}
+use Rattle.redraw.specs.Inner.{wordsIn, flagWord, flaggedAt, Holds, Room}
 use Rattle.redraw.proofs.Workspace.{flagged-there}
+use Rattle.redraw.proofs.Flags as stored
 use Rattle.redraw.proofs.Runs.{begins-after}
 use Rattle.decrackle.specs.Decrackle.{factorFor, detector, openingFloor, leastFloor, alpha, floorAfter, flagged, flagsFrom, flagsOf}
 
 -- ---- The code's literals
-
-pub no-sample : ofBits binary32 0 ≡ nought
-unfolding ofBits
-no-sample = refl
-
-pub one-whole : ofBits binary32 1065353216 ≡ one
-unfolding ofBits
-one-whole = refl
-
-one-half : ofBits binary32 1056964608 ≡ half
-unfolding ofBits
-one-half = refl
 
 ten : ofBits binary32 1092616192 ≡ count 10
 unfolding ofBits count ofInt
@@ -56,28 +44,28 @@ thousandth = refl
 pub factor-is : (sensitivity x : Float) → x ≡ held (ofBits binary32 1065353216) (ofBits binary32 1092616192) sensitivity
     → ofBits binary32 1094713344 -₃₂ x ≡ factorFor sensitivity
 unfolding factorFor
-factor-is sensitivity x e = rw (e, one-whole, ten, twelve) refl
+factor-is sensitivity x e = rw (e, one-word, ten, twelve) refl
 
 module _ (s : List ℕ) (i : ℕ) where
   pub detector-first : i ≡ 0 → ofBits binary32 0 ≡ detector s i
   unfolding detector
-  detector-first h = rw (eq-eqb _ _ h) no-sample
+  detector-first h = rw (eq-eqb _ _ h) nought-word
 
   module _ (later : i ≡ 0 → ⊥) where
     pub detector-last : i + 1 ≡ length s → ofBits binary32 0 ≡ detector s i
     unfolding detector
-    detector-last h = rw (ne-eqb _ _ later, eq-eqb _ _ h) no-sample
+    detector-last h = rw (ne-eqb _ _ later, eq-eqb _ _ h) nought-word
 
     pub detector-between : (x before behind : Float) → (i + 1 ≡ length s → ⊥)
         → before ≡ ofBits binary32 (getD s (i - 1) 0) → behind ≡ ofBits binary32 (getD s (i + 1) 0) → x ≡ ofBits binary32 (getD s i 0)
         → x -₃₂ ofBits binary32 1056964608 *₃₂ (before +₃₂ behind) ≡ detector s i
     unfolding detector float
-    detector-between x before behind h eb ea ex = rw (ne-eqb _ _ later, ne-eqb _ _ h, one-half, eb, ea, ex) refl
+    detector-between x before behind h eb ea ex = rw (ne-eqb _ _ later, ne-eqb _ _ h, half-word, eb, ea, ex) refl
 
 pub floor-is : (floor a : Float)
     → floor *₃₂ (ofBits binary32 1065353216 -₃₂ ofBits binary32 981668463) +₃₂ a *₃₂ ofBits binary32 981668463 ≡ floorAfter floor a
 unfolding floorAfter alpha
-floor-is floor a = rw (one-whole, thousandth) refl
+floor-is floor a = rw (one-word, thousandth) refl
 
 -- the word of a flag, by what the test found
 pub flag-is : (factor floor a least : Float) (b : Bool) → least ≡ larger floor (ofBits binary32 897988541) → lt (factor *₃₂ least) a ≡ b
@@ -115,27 +103,6 @@ module _ (factor : Float) (s : List ℕ) where
       let none : n - i ≡ 0 = omega arith in
       sym (ap (λ (k : ℕ). sets work (n + i) (map flagWord (flagsFrom factor s floor i k))) none) ∙ rest
 
--- a flag comes back from its word
-flags-back : (bs : List Bool) → flags (map flagWord bs) ≡ bs
-flags-back [] = refl
-flags-back (true ∷ bs) = ap (λ (l : List Bool). true ∷ l) (flags-back bs)
-flags-back (false ∷ bs) = ap (λ (l : List Bool). false ∷ l) (flags-back bs)
-
--- a workspace into which flags are stored holds them
-stored-held : (n : ℕ) (bs : List Bool) (w u : List ℕ) → Room n w → length bs ≡ n → u ≡ sets w n (map flagWord bs)
-    → Holds n (drawn (wordsIn n w) bs) w u
-stored-held n bs w u room count e =
-    let many : length (map flagWord bs) ≡ n = length-map bs flagWord ∙ count in
-    let words : wordsIn n u ≡ wordsIn n w = ap (λ (l : List ℕ). take n l) e ∙ take-sets w (map flagWord bs) n n (omega arith) in
-    let stored : flagsIn n u ≡ map flagWord bs =
-    ap (λ (l : List ℕ). take n (drop n l)) e ∙ part-of-sets w (map flagWord bs) n n many (omega (arith, room .enough)) in
-    record {
-      holds = ap (λ (l : List ℕ). drawn l (flags (flagsIn n u))) words
-          ∙ ap (λ (l : List ℕ). drawn (wordsIn n w) (flags l)) stored
-          ∙ ap (λ (l : List Bool). drawn (wordsIn n w) l) (flags-back bs);
-      keeps = ap (λ (l : List ℕ). restOf n l) e ∙ drop-sets w (map flagWord bs) n (n + n) (omega (arith, many));
-    }
-
 -- all of them, from the code's opening floor on
 pub flags-held : (sensitivity factor floor : Float) (s w u : List ℕ) (i : ℕ) → Room (length s) w → factor ≡ factorFor sensitivity → length s ≤ i
     → sets u (length s + i) (left-from factor s floor i (length s))
@@ -146,7 +113,7 @@ flags-held sensitivity factor floor s w u i room ef h rest =
     let n = length s in
     let all : u ≡ sets w n (map flagWord (flagsOf sensitivity s)) =
     flags-stored factor s floor i n u _ h rest ∙ rw (add-zero n, sub-zero n, millionth, ef) refl in
-    stored-held n (flagsOf sensitivity s) w u room (length-flags (factorFor sensitivity) s openingFloor 0 n) all
+    stored.flags-stored n (flagsOf sensitivity s) w u room (length-flags (factorFor sensitivity) s openingFloor 0 n) all
 
 -- ---- Whether a place is flagged, by its word
 

@@ -1,18 +1,16 @@
 // Decrackle: samples that stand out from their neighbours by more than a running floor are flagged, and
 // each flagged run is rewritten by a curve between the samples on either side of it.
 ghost use mathlib.Core.Path.{_≡_};
-ghost use mathlib.Core.Bool.{not, false};
-ghost use mathlib.Core.List.{map};
-ghost use Prim.Native.Nat.{ℕ, _+_, _-_, _*_, _≤_, _<_};
-ghost use lib.Dec.{eqb};
-ghost use lib.ListN.{length, getD, drop};
+ghost use mathlib.Core.Bool.{false};
+ghost use Prim.Native.Nat.{_+_, _-_, _*_, _≤_, _<_};
+ghost use lib.ListN.{length, drop};
 ghost use lib.Ieee.{binary32, toBits};
 ghost use Rattle.recording.specs.Recording.{state, ended, mostSamples, workAfter};
 ghost use Rattle.recording.specs.Inner.{flags};
 ghost use Rattle.redraw.specs.Whole.{drawn, untouched, needed};
 ghost use Rattle.redraw.specs.Runs.{begins, runLength};
 ghost use Rattle.redraw.specs.Inner.{wordsIn, flagsIn, drawnIn, flagWord, flaggedAt, Holds, Room};
-ghost use Rattle.decrackle.specs.Decrackle.{allowed, factorFor, detector, floorAfter, flagged, flagsOf, slopeBefore, slopeBehind, hermiteAt, rewritten, smoothed, decrackled, decrackleRepair};
+ghost use Rattle.decrackle.specs.Decrackle.{factorFor, detector, floorAfter, flagged, flagsOf, slopeBefore, slopeBehind, hermiteAt, rewritten, smoothed, decrackled, decrackleRepair};
 use leaves::order::clamp32;
 use leaves::order::larger32;
 use leaves::order::magnitude32;

@@ -8,10 +8,8 @@ use Prim.Native.Nat.{ℕ, _+_, _≤_}
 use native.Mathlib.Omega.{arith}
 use lib.Dec.{ltb}
 use lib.ListN.{length}
-use Rattle.recording.specs.Recording.{Plan, change, span, made, gapByModel, gapByLine, unlessRead}
+use Rattle.recording.specs.Recording.{change, span, made, gapByModel, gapByLine}
 use Rattle.recording.specs.History.{Keeps}
-use Rattle.recording.specs.declared.Answer.{Answer}
-use Rattle.recording.specs.declared.Answer.the-variants.{Done, Refused}
 use Rattle.recording.proofs.open.Laws.{truth}
 use Rattle.recording.proofs.Performing.{span-ascends, unless-kept}
 use Rattle.inpaint.specs.Gap.{gapWrong, byLine, needed, allReadable, line, model, repaired, gapPlan}

@@ -1,7 +1,6 @@
 // The window around a gap, what a repair of it needs, and what it reads.
 ghost use mathlib.Core.Path.{_≡_};
 ghost use Prim.Native.Nat.{_+_, _-_, _≤_};
-ghost use lib.ListN.{length};
 ghost use Rattle.recording.specs.Recording.{mostSamples};
 ghost use Rattle.model.specs.Model.{orderFor};
 ghost use Rattle.inpaint.specs.Gap.{gapWrong, context, from, to, window, needed, allReadable};

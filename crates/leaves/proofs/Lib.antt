@@ -5,3 +5,4 @@ pub mod Parts
 pub mod Stores
 pub mod Values
 pub mod Rounding
+pub mod Literals

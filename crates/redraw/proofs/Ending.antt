@@ -4,7 +4,7 @@ use mathlib.Core.Path.{_≡_, refl, sym, ap, subst, _∙_}
 use mathlib.Core.Bool.{Bool, true, false, not}
 use mathlib.Core.List.{List}
 use mathlib.Core.Logic.{inl, inr}
-use Prim.Native.Nat.{ℕ, _+_, _*_, _≤_, _<_}
+use Prim.Native.Nat.{ℕ, _+_, _≤_, _<_}
 use native.Mathlib.Omega.{arith}
 use borrow.Author.Tests.{lt-ltb, le-ltb, ltb-false}
 use lib.Dec.{ltb}
@@ -19,10 +19,10 @@ use Rattle.recording.specs.declared.Answer.{Answer}
 use Rattle.recording.specs.declared.Answer.the-variants.{Done, Refused}
 use Rattle.recording.proofs.Picks.{picks}
 use Rattle.recording.proofs.Performing.{commit-clears, cleared-too, picked-ascends, fitting-keeps, unless-kept}
-use Rattle.recording.proofs.open.Laws.{EitherWay, truth, accepted-fits}
+use Rattle.recording.proofs.open.Laws.{accepted-fits}
 use Rattle.recording.proofs.read.Laws.{readable-ends}
 use Rattle.redraw.specs.Whole.{Drawn, untouched, needed, wholePlan, wholeRepair}
-use Rattle.redraw.specs.Inner.{begun, Begun, restOf, drawnIn, Holds, Room}
+use Rattle.redraw.specs.Inner.{begun, Begun, wordsIn, drawnIn, Holds, Room}
 
 -- ---- Refusals 1 to 4, 6 and 7
 
@@ -79,6 +79,22 @@ begun-kept a why samples w e = rw e refl
 
 pub begun-laid : (a : Answer) (m : ℕ) (samples w v : List ℕ) → a ≡ Done m → Holds (length samples) (untouched samples) w v → Begun a samples w v
 begun-laid a m samples w v e h = rw e h
+
+-- an accepted start: the workspace holds the samples
+module _ (samples w v : List ℕ) (a : Answer) (m : ℕ) (accepts : a ≡ Done m) (start : Begun a samples w v) where
+  pub start-holds : Holds (length samples) (untouched samples) w v
+  start-holds = subst (λ (x : Answer). Begun x samples w v) accepts start
+
+  words-laid : wordsIn (length samples) v ≡ samples
+  words-laid = ap (λ (d : Drawn). d .words) (start-holds .holds)
+
+  -- for a function that draws from the words of the workspace
+  pub start-laid : drawnIn (length samples) v ≡ untouched (wordsIn (length samples) v)
+  start-laid = start-holds .holds ∙ sym (ap untouched words-laid)
+
+  pub draws-samples : (draw : List ℕ → Drawn) (u : List ℕ) → Holds (length samples) (draw (wordsIn (length samples) v)) v u
+      → Holds (length samples) (draw samples) v u
+  draws-samples draw u h = subst (λ (l : List ℕ). Holds (length samples) (draw l) v u) words-laid h
 
 -- ---- The repair, whatever its rule
 
@@ -191,7 +207,7 @@ module _ (allowed : Bool) (w : List ℕ) (s : State) (a : Answer) (start : a ≡
         → next ≡ cleared 0 (needed (length (s .samples))) u
         → (ended r after ≡ wholeRepair allowed (length w) mark draw s) × (next ≡ workAfter 0 (needed (length (s .samples))) r w)
     whole-done m v u next r after e laid count held count' ends clear =
-        let there : Holds size (untouched (s .samples)) w v = subst (λ (x : Answer). Begun x (s .samples) w v) e laid in
+        let there : Holds size (untouched (s .samples)) w v = start-holds (s .samples) w v a m e laid in
         let two : needed size ≡ size + size = omega arith in
         let kept : drop (needed size) u ≡ drop (needed size) w = rw two (held .keeps ∙ there .keeps) in
         let enough : needed size ≤ length w = start-room m e .enough in (

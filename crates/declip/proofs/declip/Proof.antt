@@ -7,8 +7,8 @@ use Rattle.recording.specs.Recording.{State, state}
 use Rattle.recording.specs.Inner.{Fits}
 use Rattle.redraw.specs.Inner.{Room}
 use Rattle.redraw.proofs.Workspace.{room-stays}
-use Rattle.redraw.proofs.Ending.{start-fits, start-room}
-use Rattle.declip.proofs.Laws.{begun-laid, declip-refused, declip-done}
+use Rattle.redraw.proofs.Ending.{start-fits, start-room, start-holds}
+use Rattle.declip.proofs.Laws.{declip-refused, declip-done}
 use Rattle.declip.proofs.declip.Statement.{statement}
 use Rattle.declip.proofs.declip.Tie as tie
 
@@ -67,7 +67,7 @@ bridge-runs-requires : tie.Need-bridge-runs-requires
 bridge-runs-requires c κs =
     let told = c .before .before in
     let at = starting told in
-    (room told, begun-laid (recording at .samples) _ _ _ _ (told .enum-told .given .1) (at .begin .ensures .1))
+    (room told, start-holds (recording at .samples) _ _ _ _ (told .enum-told .given .1) (at .begin .ensures .1) .holds)
 
 finish-requires : tie.Need-finish-requires
 finish-requires c κs =

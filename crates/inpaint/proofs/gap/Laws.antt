@@ -2,22 +2,19 @@
 -- is then; and what each way out leaves in the workspace. Assumes nothing.
 use mathlib.Core.Path.{_≡_, refl, sym, ap, _∙_}
 use mathlib.Core.Bool.{Bool, true, false}
-use mathlib.Core.List.{List, [], _∷_, _++_}
-use mathlib.Core.Logic.{_⊎_, inl, inr}
+use mathlib.Core.List.{List}
+use mathlib.Core.Logic.{inl, inr}
 use Prim.Native.Nat.{ℕ, _+_, _≤_, _<_}
 use native.Mathlib.Omega.{arith}
 use borrow.Author.Tests.{lt-ltb, le-ltb}
 use lib.Dec.{ltb}
-use lib.ListN.{length, drop, replicate, length-replicate}
-use lib.Seq.{sets-eq}
-use Rattle.leaves.specs.Floats.{inRange}
-use Rattle.recording.specs.Recording.{State, Ended, ended, refused, Plan, refuse, change, span, fitting, carried, readable}
-use Rattle.recording.specs.Recording.{cleared, clears, workAfter, if_then_else_, gapByModel, gapByLine}
+use lib.ListN.{length}
+use Rattle.recording.specs.Recording.{State, Ended, ended, refused, Plan, refuse, change, span, fitting, carried}
+use Rattle.recording.specs.Recording.{clears, workAfter, if_then_else_, gapByModel, gapByLine}
 use Rattle.recording.specs.declared.Reason.{Reason}
-use Rattle.recording.specs.declared.Reason.the-variants.{Gap, Workspace, Read}
+use Rattle.recording.specs.declared.Reason.the-variants.{Gap, Workspace}
 use Rattle.recording.specs.declared.Answer.{Answer}
 use Rattle.recording.specs.declared.Answer.the-variants.{Done, Refused}
-use Rattle.recording.proofs.open.Laws.{EitherWay, truth}
 use Rattle.recording.proofs.read.Laws.{ReadEnds, readable-ends}
 use Rattle.recording.proofs.Performing.{unfit, fit}
 use Rattle.inpaint.specs.Gap.{gapWrong, needed, allReadable, from, knownBefore, knownBehind}

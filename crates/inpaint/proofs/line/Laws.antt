@@ -10,10 +10,10 @@ use borrow.Author.Tests.{eq-eqb, ne-eqb, le-leb, lt-leb}
 use borrow.Rule.Slice.PartMut.{putMid}
 use lib.ListN.{length, getD, set, take, drop}
 use lib.Seq.{sets}
-use lib.IntN.{pos}
-use lib.Ieee.{Float, binary32, ofBits, toBits, ofInt}
-use Rattle.leaves.specs.Arithmetic.{_+₃₂_, _-₃₂_, _*₃₂_, _/₃₂_, nought, one, float, count}
+use lib.Ieee.{Float, binary32, ofBits, toBits}
+use Rattle.leaves.specs.Arithmetic.{_+₃₂_, _-₃₂_, _*₃₂_, _/₃₂_, float, count}
 use Rattle.leaves.specs.Floats.{inRange}
+use Rattle.leaves.proofs.Literals.{nought-word, one-word}
 use Rattle.leaves.proofs.Lists.{lent-count, lent-back}
 use Rattle.recording.specs.Recording.{span, ranged}
 use Rattle.recording.specs.declared.Reason.the-variants.{Result}
@@ -24,19 +24,10 @@ use Rattle.leaves.proofs.Stores.{stored-over}
 
 -- ---- Its ends and its words
 
--- the code's literals
-no-sample : ofBits binary32 0 ≡ nought
-unfolding ofBits
-no-sample = refl
-
-one-whole : ofBits binary32 1065353216 ≡ one
-unfolding ofBits
-one-whole = refl
-
 module _ (samples : List ℕ) (i : ℕ) where
   pub left-none : i ≡ 0 → ofBits binary32 0 ≡ leftOf samples i
   unfolding leftOf
-  left-none h = rw (eq-eqb _ _ h) no-sample
+  left-none h = rw (eq-eqb _ _ h) nought-word
 
   pub left-some : (x : Float) → (i ≡ 0 → ⊥) → x ≡ ofBits binary32 (getD samples (i - 1) 0) → x ≡ leftOf samples i
   unfolding leftOf float
@@ -44,7 +35,7 @@ module _ (samples : List ℕ) (i : ℕ) where
 
   pub right-none : length samples ≤ i → ofBits binary32 0 ≡ rightOf samples i
   unfolding rightOf
-  right-none h = rw (le-leb _ _ h) no-sample
+  right-none h = rw (le-leb _ _ h) nought-word
 
   pub right-some : (x : Float) → i < length samples → x ≡ ofBits binary32 (getD samples i 0) → x ≡ rightOf samples i
   unfolding rightOf float
@@ -55,7 +46,7 @@ pub line-word : (left right a b : Float) (len i w : ℕ) → a ≡ count (i + 1)
     → w ≡ toBits binary32 (left *₃₂ (ofBits binary32 1065353216 -₃₂ a /₃₂ b) +₃₂ right *₃₂ (a /₃₂ b))
     → w ≡ toBits binary32 (lineAt left right len i)
 unfolding lineAt
-line-word left right a b len i w ea eb e = e ∙ rw (ea, eb, one-whole) refl
+line-word left right a b len i w ea eb e = e ∙ rw (ea, eb, one-word) refl
 
 module _ (left right : Float) (len : ℕ) where
   pub length-from : (i n : ℕ) → length (lineFrom left right len i n) ≡ n

@@ -5,7 +5,7 @@ use mathlib.Core.Bool.{Bool, true, false, not, _&&_, and-true, false≢true}
 use Prim.Native.Nat.{ℕ, _+_, _*_, _%_, _^_, _<_, _≤_}
 use native.Mathlib.Omega.{arith}
 use lib.Dec.{T, eqb}
-use lib.Ieee.{Float, nan, inf, fin, Format, binary32, binary64, up, down, level, ones, hid, top, neg, div, le, ne}
+use lib.Ieee.{Float, nan, inf, fin, Format, binary32, binary64, up, down, level, ones, hid, top, neg, div, le, eq, ne}
 use lib.Ieee.{isNan, fits, nanBits, ofBits, toBits, ofInt}
 use lib.IntN.{pos}
 use lib.Ieee.Bits.{nanBits-is, nanBits-above, toBits-ofBits, toBits-lt}
@@ -29,6 +29,15 @@ nan-test nan = refl
 nan-test (inf true) = refl
 nan-test (inf false) = refl
 nan-test (fin s m e) = ap not (sym (level-itself s (m * up e * down e)))
+
+-- A float equals itself where it is no NaN.
+pub number-test : (x : Float) → eq x x ≡ not (isNan x)
+unfolding ne
+number-test x = twice (eq x x) ∙ ap not (sym (nan-test x))
+  where
+    twice : (b : Bool) → b ≡ not (not b)
+    twice true = refl
+    twice false = refl
 
 -- There is one NaN.
 pub one-nan : (x : Float) → isNan x ≡ true → x ≡ nan

@@ -6,7 +6,7 @@ use native.Mathlib.Omega.{arith}
 use lib.ListN.{length, length-set, drop}
 use lib.Seq.{sets}
 use Rattle.leaves.proofs.Stores.{copy-more, all-copied}
-use Rattle.redraw.proofs.Workspace.{laid-out, sets-count}
+use Rattle.redraw.proofs.Workspace.{laid-out}
 use Rattle.redraw.proofs.lay_out.Statement.{statement}
 use Rattle.redraw.proofs.lay_out.Tie as tie
 
