@@ -1,3 +1,4 @@
--- What both forms of dequantize cite.
-pub mod Flags
+-- What both forms of dequantize cite, and that the repair of each is lawful.
+pub mod Calls
+pub mod Lawful
 pub mod LawfulCosparse

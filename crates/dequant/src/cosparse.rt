@@ -1,13 +1,13 @@
 // `dequantize_cosparse`: up to 16 iterations, each over a snapshot, toward a candidate that weighs a cubic
 // through four neighbours against the middle of the nearest two.
 ghost use mathlib.Core.Path.{_≡_};
-ghost use Prim.Native.Nat.{ℕ, _+_, _-_, _*_, _≤_, _<_, min};
-ghost use lib.ListN.{length, take, drop};
+ghost use Prim.Native.Nat.{_+_, _-_, _*_, _≤_, _<_};
+ghost use lib.ListN.{length, drop};
 ghost use lib.Ieee.{binary32, toBits};
 ghost use Rattle.recording.specs.Recording.{state, ended, workAfter};
 ghost use Rattle.redraw.specs.Whole.{untouched, needed};
 ghost use Rattle.redraw.specs.Inner.{wordsIn, flagsIn, restOf, drawnIn, Holds, Room};
-ghost use Rattle.dequant.specs.Dequant.{cubicWeight, candidate, localStrength, sparseAt, sparsePass, sparsePasses, mostIterations, cosparse, cosparseRepair};
+ghost use Rattle.dequant.specs.Dequant.{cubicWeight, candidate, localStrength, sparseAt, sparsePass, sparsePasses, cosparse, cosparseRepair};
 use super::lattice::DEQUANTIZE;
 use super::lattice::name_inner;
 use super::lattice::reaches;

@@ -1,8 +1,7 @@
 // What both forms share: the strength, the step, the target within half a step, and the places that are named.
 ghost use mathlib.Core.Path.{_≡_};
 ghost use mathlib.Core.Bool.{_&&_};
-ghost use Prim.Native.Nat.{ℕ, _+_, _-_, _*_, _≤_, _<_};
-ghost use lib.ListN.{length, take, drop};
+ghost use Prim.Native.Nat.{_+_, _-_, _*_, _≤_, _<_};
 ghost use lib.Dec.{leb, ltb};
 ghost use lib.Seq.{sets};
 ghost use Rattle.recording.specs.Recording.{mostSamples};

@@ -1,11 +1,11 @@
 // `dequantize`: two passes, the first over the changing samples and the second over a snapshot.
 ghost use mathlib.Core.Path.{_≡_};
-ghost use Prim.Native.Nat.{ℕ, _+_, _-_, _*_, _≤_, _<_};
-ghost use lib.ListN.{length, take, drop};
+ghost use Prim.Native.Nat.{_+_, _-_, _*_, _≤_, _<_};
+ghost use lib.ListN.{length, drop};
 ghost use lib.Ieee.{binary32, toBits};
 ghost use Rattle.recording.specs.Recording.{state, ended, workAfter};
 ghost use Rattle.redraw.specs.Whole.{sample, untouched, needed};
-ghost use Rattle.redraw.specs.Inner.{wordsIn, flagsIn, restOf, drawnIn, Holds, Room};
+ghost use Rattle.redraw.specs.Inner.{wordsIn, flagsIn, drawnIn, Holds, Room};
 ghost use Rattle.dequant.specs.Dequant.{firstAt, firstPass, secondAt, secondPass, wide, dequantized, dequantizeRepair};
 use super::lattice::DEQUANTIZE;
 use super::lattice::name_inner;

@@ -24,7 +24,7 @@ use Rattle.redraw.specs.Inner.{wordsIn, flagsIn, restOf, drawnIn, Begun, Holds,
 use Rattle.redraw.proofs.Workspace.{store-words, store-behind, flag-there, flags-behind, rest-behind, words-count, holds-then}
 use Rattle.dequant.specs.Dequant.{linear, cubic, cubicWeight, candidate, localStrength, target, sparseAt, sparsePass}
 use Rattle.dequant.specs.Dequant.{sparsePasses, stepOf, strengthOf, inner, acts, mostIterations, cosparse, cosparseRepair}
-use Rattle.dequant.proofs.lattice.Laws.{one-word, half-word, two-word}
+use Rattle.leaves.proofs.Literals.{one-word, half-word, two-word}
 
 -- ---- The formulas
 

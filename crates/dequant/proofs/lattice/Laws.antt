@@ -1,43 +1,28 @@
 -- What both forms of dequantize share: the strength, the step, the target, the snapshot and the places that are named, each as
 -- the code works it out. Assumes nothing.
 use mathlib.Core.Path.{_≡_, refl, sym, ap, _∙_}
-use mathlib.Core.Bool.{false, _&&_}
+use mathlib.Core.Bool.{Bool, true, false, not, _&&_, false≢true}
 use mathlib.Core.List.{List}
 use Prim.Native.Nat.{ℕ, zero, suc, _+_, _-_, _*_, _%_, _^_, _≤_, _<_, min, max}
 use native.Mathlib.Omega.{arith}
 use native.Mathlib.Nat.{sub-zero}
-use borrow.Author.Tests.{le-leb, lt-leb, lt-ltb, le-ltb}
+use borrow.Author.Tests.{le-leb, lt-leb, lt-ltb, le-ltb, leb-true, not-false}
 use lib.Dec.{leb, ltb}
 use lib.Pow.{pow-mono}
 use lib.ListN.{length, getD, set, take, drop}
 use lib.Seq.{sets, getD-take, length-take-le, take-set-le}
-use lib.Ieee.{Float, binary32, ofBits, ofInt, lt}
-use Rattle.leaves.specs.Arithmetic.{_+₃₂_, _-₃₂_, _*₃₂_, _/₃₂_, nought, one, half, count}
+use lib.Ieee.{Float, binary32, ofBits, lt}
+use Rattle.leaves.specs.Arithmetic.{_+₃₂_, _-₃₂_, _*₃₂_, _/₃₂_, count}
 use Rattle.leaves.specs.Floats.{held, rounded}
+use Rattle.leaves.proofs.Literals.{nought-word, half-word, one-word, two-word}
 use Rattle.leaves.proofs.Numbers.{one-up}
+use Rattle.leaves.proofs.Parts.{take-sets, drop-sets, part-of-sets}
 use Rattle.leaves.proofs.Stores.{copy-more, all-copied}
 use Rattle.redraw.specs.Whole.{drawn}
-use Rattle.redraw.specs.Inner.{wordsIn, flagWord, Holds, Room}
+use Rattle.redraw.specs.Inner.{wordsIn, flagsIn, restOf, flagWord, Holds, Room}
+use Rattle.redraw.proofs.Workspace.{flag-there, words-count}
 use Rattle.dequant.specs.Dequant.{strengthOf, stepOf, target, innerFrom, inner, acts}
-use Rattle.dequant.proofs.Flags.{flagWords, flags-stored}
-
--- ---- The code's literals
-
-pub nought-word : ofBits binary32 0 ≡ nought
-unfolding ofBits
-nought-word = refl
-
-pub one-word : ofBits binary32 1065353216 ≡ one
-unfolding ofBits
-one-word = refl
-
-pub half-word : ofBits binary32 1056964608 ≡ half
-unfolding ofBits
-half-word = refl
-
-pub two-word : ofBits binary32 1073741824 ≡ count 2
-unfolding ofBits count ofInt
-two-word = refl
+use Rattle.redraw.proofs.Flags.{flagWords, flags-stored}
 
 -- ---- The settings
 
@@ -62,7 +47,7 @@ module _ (bits k : ℕ) where
 
 -- the shift, by at most 24 places
 module _ (bits kept : ℕ) (e : kept ≡ min (max bits 4) 24) where
-  pub shift-most : kept ≤ 24
+  shift-most : kept ≤ 24
   shift-most = omega arith
 
   pub shift-few : kept < 32
@@ -92,6 +77,16 @@ module _ (strength : Float) (least n : ℕ) where
   unfolding acts
   acts-long h = rw (le-leb least n h, nought-word) refl
 
+-- where two tests held, the first did
+pub first-holds : (t u : Bool) → t && u ≡ true → t ≡ true
+first-holds true u e = refl
+first-holds false u e = absurd (false≢true e)
+
+-- what its first test tells of the size
+pub acts-size : (strength : Float) (least n : ℕ) (b : Bool) → b ≡ acts strength least n → not b ≡ false → least ≤ n
+unfolding acts
+acts-size strength least n b e h = leb-true least n (first-holds (leb least n) _ (sym e ∙ not-false b h))
+
 -- ---- The snapshot
 
 pub kept-none : (n : ℕ) (w : List ℕ) → sets w (n + 0) (drop 0 (take n w)) ≡ sets w n (take n w)
@@ -115,6 +110,23 @@ module _ (n i : ℕ) (w₀ w : List ℕ) (same : take n w ≡ take n w₀) where
   kept-all whole h room rest =
       let size : length (take n w₀) ≡ n = length-take-le n w₀ room in
       all-copied w whole (take n w₀) (n + i) i (omega arith) rest
+
+-- what the workspace is with it: the words stay, it stands where the flags were, and beyond the 2n words all stays
+module _ (n : ℕ) (w v : List ℕ) (room : Room n w) (e : v ≡ sets w n (wordsIn n w)) where
+  pub snapped-words : wordsIn n v ≡ wordsIn n w
+  snapped-words = ap (λ (l : List ℕ). take n l) e ∙ take-sets w (wordsIn n w) n n (omega arith)
+
+  pub snapped-flags : flagsIn n v ≡ wordsIn n w
+  snapped-flags =
+      ap (λ (l : List ℕ). take n (drop n l)) e ∙ part-of-sets w (wordsIn n w) n n (words-count n w room) (omega (arith, room .enough))
+
+  pub snapped-rest : restOf n v ≡ restOf n w
+  snapped-rest =
+      ap (λ (l : List ℕ). restOf n l) e ∙ drop-sets w (wordsIn n w) n (n + n) (omega (arith, words-count n w room))
+
+-- what is read of it at place k, which the code reads at j
+pub snapped-there : (n k j : ℕ) (w : List ℕ) → k < n → n + k ≡ j → getD (flagsIn n w) k 0 ≡ getD w j 0
+snapped-there n k j w h e = flag-there n k w h ∙ ap (λ (p : ℕ). getD w p 0) e
 
 -- ---- The places that are named
 

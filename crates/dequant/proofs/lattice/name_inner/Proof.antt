@@ -7,7 +7,7 @@ use lib.ListN.{length, length-set}
 use lib.Seq.{sets}
 use Rattle.redraw.specs.Inner.{Room}
 use Rattle.dequant.specs.Dequant.{innerFrom, inner}
-use Rattle.dequant.proofs.Flags.{flagWords}
+use Rattle.redraw.proofs.Flags.{flagWords}
 use Rattle.dequant.proofs.lattice.Laws.{named-none, named-more, named-all, named-holds}
 use Rattle.dequant.proofs.lattice.name_inner.Statement.{statement}
 use Rattle.dequant.proofs.lattice.name_inner.Tie as tie

@@ -1,0 +1,104 @@
+-- `dequant::passes::dequantize` meets its contract: its start refuses as the rule does, and else what it draws is committed. Assumes
+-- nothing.
+use borrow.Author.Needs.{needs}
+use Rattle.recording.specs.Recording.{State, state}
+use Rattle.dequant.proofs.Calls.{call-draws, call-finishes}
+use Rattle.dequant.proofs.passes.Laws.{dequantize-refused, dequantize-done}
+use Rattle.dequant.proofs.passes.dequantize.Statement.{statement}
+use Rattle.dequant.proofs.passes.dequantize.Tie as tie
+
+-- where the call begins, seen from behind its start, and the recording there
+abbrev start : tie.After-begin → tie.Start
+start c = c .before .before .before .before .before .before .before .before .before .before
+
+abbrev recording : tie.After-begin → State
+recording c = let a = start c .args in state (a .samples .now) (a .marks .now) (a .journal .now) (a .used .now)
+
+-- and the recording behind its end
+abbrev after : tie.After-finish → State
+after c = let l = c .finish .last in state (l .0) (l .1 .0) (l .1 .1 .0) (l .1 .1 .1 .0)
+
+begin-requires : tie.Need-begin-requires
+begin-requires c κs = search needs
+
+enum-told : tie.Need-enum-told
+enum-told c = search needs
+
+enum-told-2 : tie.Need-enum-told-2
+enum-told-2 c = search needs
+
+same-length : tie.Need-same-length
+same-length c = search needs
+
+same-length-2 : tie.Need-same-length-2
+same-length-2 c = search needs
+
+same-length-3 : tie.Need-same-length-3
+same-length-3 c = search needs
+
+same-length-4 : tie.Need-same-length-4
+same-length-4 c = search needs
+
+returns : tie.Need-returns
+returns c =
+    let at = c .before .before .before .before in
+    dequantize-refused _ _ _ (recording at) _ (at .begin .ensures .0) _ _ (c .enum-told2 .given .1) (at .begin .ensures .1)
+
+draw-requires : tie.Need-draw-requires
+draw-requires c κs =
+    let told = c .before in
+    let laid = told .before .before .before in
+    let at = laid .before in
+    call-draws _ _ (recording at) _ (at .begin .ensures .0) _ _ (told .enum-told .given .1) (at .begin .ensures .1) (laid .work .given)
+
+finish-requires : tie.Need-finish-requires
+finish-requires c κs =
+    let drawn = c .before .before .before .before .before .before in
+    let told = drawn .before .before .before in
+    let laid = told .before .before .before in
+    let at = laid .before in
+    call-finishes _ (start at .args .work .now) (recording at) _ (at .begin .ensures .0) _ _ _
+    (told .enum-told .given .1) (laid .work .given) (drawn .work2 .given)
+
+same-length-5 : tie.Need-same-length-5
+same-length-5 c = search needs
+
+same-length-6 : tie.Need-same-length-6
+same-length-6 c = search needs
+
+same-length-7 : tie.Need-same-length-7
+same-length-7 c = search needs
+
+same-length-8 : tie.Need-same-length-8
+same-length-8 c = search needs
+
+returns-2 : tie.Need-returns-2
+returns-2 c =
+    let end = c .before .before .before .before .before .before .before .before in
+    let drawn = end .before .before .before .before .before .before .before in
+    let told = drawn .before .before .before in
+    let laid = told .before .before .before in
+    let at = laid .before in
+    dequantize-done _ _ _ (recording at) _ (at .begin .ensures .0) _ _ _ _ _ (after end) (told .enum-told .given .1)
+    (at .begin .ensures .1) (laid .work .given) (drawn .before .draw .ensures) (drawn .work2 .given)
+    (end .finish .ensures .0) (end .finish .ensures .1)
+
+pub dequantize-spec : {M : Type 1} → statement M
+dequantize-spec =
+    tie.close
+    (tie.spec
+    begin-requires
+    enum-told
+    enum-told-2
+    same-length
+    same-length-2
+    same-length-3
+    same-length-4
+    returns
+    draw-requires
+    finish-requires
+    same-length-5
+    same-length-6
+    same-length-7
+    same-length-8
+    returns-2)
