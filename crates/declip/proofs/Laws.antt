@@ -13,17 +13,13 @@ use lib.Ieee.Scale.{finite}
 use Rattle.leaves.specs.Arithmetic.{_+₃₂_, _-₃₂_, _*₃₂_, _/₃₂_, nought, float, count}
 use Rattle.leaves.specs.Floats.{magnitude}
 use Rattle.leaves.proofs.Literals.{nought-word, one-word, two-word, three-word}
-use Rattle.recording.specs.Recording.{State, ended, change, carried, cleared, workAfter, cubicDeclip}
-use Rattle.recording.specs.Inner.{flags, pickedBy}
-use Rattle.recording.specs.declared.Reason.{Reason}
-use Rattle.recording.specs.declared.Answer.{Answer}
-use Rattle.recording.specs.declared.Answer.the-variants.{Done, Refused}
-use Rattle.redraw.specs.Whole.{Drawn, drawn, sample, untouched, needed}
+use Rattle.recording.specs.Recording.{State, cubicDeclip}
+use Rattle.recording.specs.Inner.{flags}
+use Rattle.redraw.specs.Whole.{Drawn, drawn, sample, untouched, wholeRepair}
 use Rattle.redraw.specs.Runs.{begins, runLength, overRuns}
-use Rattle.redraw.specs.Inner.{begun, Begun, wordsIn, flagsIn, restOf, drawnIn, Holds}
+use Rattle.redraw.specs.Inner.{wordsIn, flagsIn, restOf, drawnIn, Holds}
 use Rattle.redraw.proofs.Workspace.{store-words, store-behind, word-there, flag-words, name-flag, flags-behind, store-rest}
 use Rattle.redraw.proofs.Runs.{over-one, over-none, over-all}
-use Rattle.redraw.proofs.Ending.{whole-refused, whole-done}
 use Rattle.declip.specs.Declip.{allowed, clipped, clippedAt, to, cubicAt, cubicFrom, cubicFill, bridged, declipped, declipRepair}
 
 -- ---- The threshold
@@ -181,22 +177,8 @@ module _ (threshold : Float) (samples : List ℕ) where
 
 -- ---- The call
 
--- how it ends, with the answer of its start, a, and the test of its threshold, b, under other names
-module _ (threshold : Float) (b : Bool) (test : b ≡ allowed threshold) (w : List ℕ) (s : State) (a : Answer)
-    (start : a ≡ begun b (length w) s) where
-  starts : a ≡ begun (allowed threshold) (length w) s
-  starts = start ∙ ap (λ (x : Bool). begun x (length w) s) test
-
-  pub declip-refused : (why : Reason) (v : List ℕ) → a ≡ Refused why → Begun a (s .samples) w v
-      → (ended a s ≡ declipRepair threshold (length w) s) × (v ≡ workAfter 0 (needed (length (s .samples))) a w)
-  unfolding declipRepair
-  declip-refused = whole-refused (allowed threshold) w s a starts cubicDeclip (declipped threshold)
-
-  pub declip-done : (m : ℕ) (v u next : List ℕ) (r : Answer) (after : State) → a ≡ Done m
-      → Begun a (s .samples) w v → length v ≡ length w
-      → Holds (length (s .samples)) (declipped threshold (s .samples)) v u → length u ≡ length v
-      → ended r after ≡ carried s (change cubicDeclip (pickedBy u (length (s .samples))))
-      → next ≡ cleared 0 (needed (length (s .samples))) u
-      → (ended r after ≡ declipRepair threshold (length w) s) × (next ≡ workAfter 0 (needed (length (s .samples))) r w)
-  unfolding declipRepair
-  declip-done = whole-done (allowed threshold) w s a starts cubicDeclip (declipped threshold)
+-- its whole rule, with the test of its threshold under another name
+pub declip-is : (threshold : Float) (b : Bool) (room : ℕ) (s : State) → b ≡ allowed threshold
+    → wholeRepair b room cubicDeclip (declipped threshold) s ≡ declipRepair threshold room s
+unfolding declipRepair
+declip-is threshold b room s e = ap (λ (x : Bool). wholeRepair x room cubicDeclip (declipped threshold) s) e

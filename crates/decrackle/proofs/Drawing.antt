@@ -11,19 +11,15 @@ use borrow.Author.Tests.{lt-ltb, le-ltb}
 use lib.ListN.{length, getD, drop, length-map}
 use lib.Ieee.{Float, eq}
 use Rattle.leaves.proofs.words.Laws.{number-test}
-use Rattle.recording.specs.Recording.{State, ended, change, carried, cleared, workAfter}
+use Rattle.recording.specs.Recording.{State}
 use Rattle.recording.specs.Recording as recording
-use Rattle.recording.specs.Inner.{flags, Fits, pickedBy}
-use Rattle.recording.specs.declared.Reason.{Reason}
-use Rattle.recording.specs.declared.Answer.{Answer}
-use Rattle.recording.specs.declared.Answer.the-variants.{Done, Refused}
-use Rattle.redraw.specs.Whole.{Drawn, drawn, untouched, needed}
+use Rattle.recording.specs.Inner.{flags}
+use Rattle.redraw.specs.Whole.{Drawn, drawn, untouched, wholeRepair}
 use Rattle.redraw.specs.Runs.{begins, runLength, overRuns}
-use Rattle.redraw.specs.Inner.{begun, Begun, wordsIn, flagsIn, drawnIn, flaggedAt, Holds, Room}
+use Rattle.redraw.specs.Inner.{wordsIn, flagsIn, drawnIn, flaggedAt, Holds, Room}
 use Rattle.redraw.proofs.Workspace.{rest-behind, flags-behind, flags-count, room-stays}
-use Rattle.redraw.proofs.Ending.{start-fits, start-room, start-holds, whole-refused, whole-done}
 use Rattle.redraw.proofs.Runs.{begins-there, run-short, over-one, over-none, over-all}
-use Rattle.decrackle.specs.Decrackle.{allowed, flagsOf, rewritten, smoothed, decrackled, decrackleRepair}
+use Rattle.decrackle.specs.Decrackle.{flagsOf, rewritten, smoothed, decrackled, decrackleRepair}
 use Rattle.decrackle.proofs.Ends.{ends-never-flagged}
 
 -- ---- A run that begins behind the first place and does not reach the last
@@ -145,33 +141,9 @@ module _ (sensitivity : Float) (samples w v : List ℕ) (laid : drawnIn (length 
 
 -- ---- The call
 
-module _ (sensitivity : Float) (w : List ℕ) (s : State) (a : Answer) (start : a ≡ begun (eq sensitivity sensitivity) (length w) s) where
-  started : a ≡ begun (allowed sensitivity) (length w) s
-  started = start ∙ ap (λ (b : Bool). begun b (length w) s) (number-test sensitivity)
-
-  -- a refusal of the start ends the call
-  pub call-refused : (why : Reason) (v : List ℕ) → a ≡ Refused why → Begun a (s .samples) w v
-      → (ended a s ≡ decrackleRepair sensitivity (length w) s) × (v ≡ workAfter 0 (needed (length (s .samples))) a w)
-  unfolding decrackleRepair
-  call-refused = whole-refused (allowed sensitivity) w s a started recording.decrackle (decrackled sensitivity)
-
-  module _ (m : ℕ) (e : a ≡ Done m) where
-    -- what an accepted start tells
-    pub call-fits : Fits s
-    call-fits = start-fits (allowed sensitivity) w s a started m e
-
-    pub call-room : (v : List ℕ) → length v ≡ length w → Room (length (s .samples)) v
-    call-room v count = room-stays (length (s .samples)) v w (start-room (allowed sensitivity) w s a started m e) count
-
-    pub call-laid : (v : List ℕ) → Begun a (s .samples) w v → drawnIn (length (s .samples)) v ≡ untouched (s .samples)
-    call-laid v laid = start-holds (s .samples) w v a m e laid .holds
-
-    -- what the workspace holds is committed
-    pub call-done : (v u next : List ℕ) (r : Answer) (after : State) → Begun a (s .samples) w v → length v ≡ length w
-        → Holds (length (s .samples)) (decrackled sensitivity (s .samples)) v u → length u ≡ length v
-        → ended r after ≡ carried s (change recording.decrackle (pickedBy u (length (s .samples))))
-        → next ≡ cleared 0 (needed (length (s .samples))) u
-        → (ended r after ≡ decrackleRepair sensitivity (length w) s) × (next ≡ workAfter 0 (needed (length (s .samples))) r w)
-    unfolding decrackleRepair
-    call-done v u next r after =
-        whole-done (allowed sensitivity) w s a started recording.decrackle (decrackled sensitivity) m v u next r after e
+-- its whole rule, with the code's test of its sensitivity
+pub decrackle-is : (sensitivity : Float) (room : ℕ) (s : State)
+    → wholeRepair (eq sensitivity sensitivity) room recording.decrackle (decrackled sensitivity) s ≡ decrackleRepair sensitivity room s
+unfolding decrackleRepair
+decrackle-is sensitivity room s =
+    ap (λ (b : Bool). wholeRepair b room recording.decrackle (decrackled sensitivity) s) (number-test sensitivity)

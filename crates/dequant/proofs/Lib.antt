@@ -1,4 +1,3 @@
--- What both forms of dequantize cite, and that the repair of each is lawful.
-pub mod Calls
+-- The repair of each form of dequantize is lawful.
 pub mod Lawful
 pub mod LawfulCosparse

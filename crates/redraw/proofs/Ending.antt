@@ -21,6 +21,7 @@ use Rattle.recording.proofs.Picks.{picks}
 use Rattle.recording.proofs.Performing.{commit-clears, cleared-too, picked-ascends, fitting-keeps, unless-kept}
 use Rattle.recording.proofs.open.Laws.{accepted-fits}
 use Rattle.recording.proofs.read.Laws.{readable-ends}
+use Rattle.redraw.proofs.Workspace.{room-stays}
 use Rattle.redraw.specs.Whole.{Drawn, untouched, needed, wholePlan, wholeRepair}
 use Rattle.redraw.specs.Inner.{begun, Begun, wordsIn, drawnIn, Holds, Room}
 
@@ -92,7 +93,7 @@ module _ (samples w v : List ℕ) (a : Answer) (m : ℕ) (accepts : a ≡ Done m
   pub start-laid : drawnIn (length samples) v ≡ untouched (wordsIn (length samples) v)
   start-laid = start-holds .holds ∙ sym (ap untouched words-laid)
 
-  pub draws-samples : (draw : List ℕ → Drawn) (u : List ℕ) → Holds (length samples) (draw (wordsIn (length samples) v)) v u
+  draws-samples : (draw : List ℕ → Drawn) (u : List ℕ) → Holds (length samples) (draw (wordsIn (length samples) v)) v u
       → Holds (length samples) (draw samples) v u
   draws-samples draw u h = subst (λ (l : List ℕ). Holds (length samples) (draw l) v u) words-laid h
 
@@ -164,14 +165,23 @@ module _ (allowed : Bool) (w : List ℕ) (s : State) (a : Answer) (start : a ≡
   accepts : (m : ℕ) → a ≡ Done m → Accepts s (fitting s) (not allowed) short (readable 0 (s .samples))
   accepts m e = first-accepts s (fitting s) (not allowed) short (readable 0 (s .samples)) m (sym begins-so ∙ e)
 
-  -- what an accepted start tells
-  pub start-fits : (m : ℕ) → a ≡ Done m → Fits s
-  start-fits m e = let yes' = accepts m e .fits in accepted-fits s (yes' .0) (yes' .1)
+  -- what an accepted start tells, of the workspace and for the end
+  pub start-room : (m : ℕ) (v : List ℕ) → a ≡ Done m → length v ≡ length w → Room (length (s .samples)) v
+  start-room m v e count =
+      let fits = accepts m e .fits in
+      room-stays (length (s .samples)) v w
+      (record { few = accepted-fits s (fits .0) (fits .1) .few; enough = ltb-false _ _ (accepts m e .enough) }) count
 
-  pub start-room : (m : ℕ) → a ≡ Done m → Room (length (s .samples)) w
-  start-room m e = record { few = start-fits m e .few; enough = ltb-false _ _ (accepts m e .enough) }
+  pub start-finishes : (m k l : ℕ) → a ≡ Done m → k ≡ length w → l ≡ k → Fits s × (needed (length (s .samples)) ≤ l)
+  start-finishes m k l e count count' =
+      let fits = accepts m e .fits in
+      (accepted-fits s (fits .0) (fits .1), omega (arith, start-room m w e refl .enough, count, count'))
 
-  module _ (mark : ℕ) (draw : List ℕ → Drawn) where
+  -- how the repair ends, by its mark and its own rule of what is drawn; `rule` is its whole rule
+  module _ (mark : ℕ) (draw : List ℕ → Drawn) (rule : Ended) (is : wholeRepair allowed (length w) mark draw s ≡ rule) where
+    abbrev Ends : Answer → State → List ℕ → Type 0
+    Ends r after next = (ended r after ≡ rule) × (next ≡ workAfter 0 (needed (length (s .samples))) r w)
+
     abbrev planned : Plan
     planned = let d = draw (s .samples) in change mark (picked 0 (d .named) (d .words))
 
@@ -179,14 +189,13 @@ module _ (allowed : Bool) (w : List ℕ) (s : State) (a : Answer) (start : a ≡
     unfolding wholeRepair wholePlan performed
     repair-is = refl
 
-    -- a refusal of the start ends the repair
-    pub whole-refused : (why : Reason) (v : List ℕ) → a ≡ Refused why → Begun a (s .samples) w v
-        → (ended a s ≡ wholeRepair allowed (length w) mark draw s) × (v ≡ workAfter 0 (needed (length (s .samples))) a w)
+    -- a refusal of the start ends it
+    pub whole-refused : (why : Reason) (v : List ℕ) → a ≡ Refused why → Begun a (s .samples) w v → Ends a s v
     whole-refused why v e kept =
         let decided = sym begins-so ∙ e in (
           ap (λ (x : Answer). ended x s) begins-so
               ∙ first-refuses s (fitting s) (not allowed) short (readable 0 (s .samples)) planned why decided
-              ∙ repair-is,
+              ∙ repair-is ∙ is,
           stays v (refused-kept v kept),
         )
       where
@@ -199,24 +208,29 @@ module _ (allowed : Bool) (w : List ℕ) (s : State) (a : Answer) (start : a ≡
             (fitting-keeps s) (read-keeps (s .samples)) (sym begins-so ∙ e)) in
             rw kept k
 
-    -- what the workspace holds is committed, and the repair has ended as its rule says
+    -- what the workspace holds is committed
     pub whole-done : (m : ℕ) (v u next : List ℕ) (r : Answer) (after : State) → a ≡ Done m
         → Begun a (s .samples) w v → length v ≡ length w
         → Holds (length (s .samples)) (draw (s .samples)) v u → length u ≡ length v
         → ended r after ≡ carried s (change mark (pickedBy u (length (s .samples))))
-        → next ≡ cleared 0 (needed (length (s .samples))) u
-        → (ended r after ≡ wholeRepair allowed (length w) mark draw s) × (next ≡ workAfter 0 (needed (length (s .samples))) r w)
+        → next ≡ cleared 0 (needed (length (s .samples))) u → Ends r after next
     whole-done m v u next r after e laid count held count' ends clear =
         let there : Holds size (untouched (s .samples)) w v = start-holds (s .samples) w v a m e laid in
         let two : needed size ≡ size + size = omega arith in
         let kept : drop (needed size) u ≡ drop (needed size) w = rw two (held .keeps ∙ there .keeps) in
-        let enough : needed size ≤ length w = start-room m e .enough in (
-          ends ∙ ap (carried s) (held-plan u (held .holds)) ∙ accepts m e .on planned ∙ repair-is,
+        let enough : needed size ≤ length w = start-room m w e refl .enough in (
+          ends ∙ ap (carried s) (held-picked mark size u (draw (s .samples)) (held .holds)) ∙ accepts m e .on planned ∙ repair-is ∙ is,
           commit-clears 0 s mark _ r after ends (needed size) w next (cleared-too 0 (needed size) (needed size) w u next clear refl enough (count' ∙ count) kept),
         )
-      where
-        held-plan : (u : List ℕ) → drawnIn size u ≡ draw (s .samples) → change mark (pickedBy u size) ≡ planned
-        held-plan u h = held-picked mark size u (draw (s .samples)) h
+
+    -- the same, where it is drawn from the words of the workspace
+    pub whole-drawn : (m : ℕ) (v u next : List ℕ) (r : Answer) (after : State) → a ≡ Done m
+        → Begun a (s .samples) w v → length v ≡ length w
+        → Holds (length (s .samples)) (draw (wordsIn (length (s .samples)) v)) v u → length u ≡ length v
+        → ended r after ≡ carried s (change mark (pickedBy u (length (s .samples))))
+        → next ≡ cleared 0 (needed (length (s .samples))) u → Ends r after next
+    whole-drawn m v u next r after e laid count held =
+        whole-done m v u next r after e laid count (draws-samples (s .samples) w v a m e laid draw u held)
 
 -- ---- Demand 3
 

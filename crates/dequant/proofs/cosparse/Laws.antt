@@ -1,7 +1,7 @@
 -- `dequantize_cosparse`: its formulas with the code's literals, an iteration place by place, the iterations one after the
 -- other, and what is drawn. Assumes nothing.
-use mathlib.Core.Path.{_≡_, refl, sym, ap, subst, _∙_}
-use mathlib.Core.Bool.{Bool, true, false, not, _&&_}
+use mathlib.Core.Path.{_≡_, refl, sym, ap, _∙_}
+use mathlib.Core.Bool.{Bool, true, false, _&&_}
 use mathlib.Core.List.{List}
 use Prim.Native.Nat.{ℕ, zero, suc, _+_, _-_, _≤_, _<_, min}
 use native.Mathlib.Omega.{arith}
@@ -10,17 +10,15 @@ use borrow.Author.Tests.{lt-ltb, le-ltb, leb-true}
 use lib.Dec.{leb, ltb}
 use lib.ListN.{length, getD, set, drop, length-set}
 use lib.Seq.{sets}
-use lib.Ieee.{Float, binary32, ofBits, toBits, ofInt, round, neg, eq, ne, lt, isNan}
+use lib.Ieee.{Float, binary32, ofBits, toBits, ofInt, round, neg, eq, lt}
 use Rattle.leaves.specs.Arithmetic.{_+₃₂_, _-₃₂_, _*₃₂_, _/₃₂_, nought, near, float, count}
 use Rattle.leaves.specs.Floats.{magnitude, held}
 use Rattle.leaves.proofs.Parts.{take-sets, drop-sets, part-of-sets}
-use Rattle.leaves.proofs.words.Laws.{nan-test}
+use Rattle.leaves.proofs.words.Laws.{number-test}
 use Rattle.recording.specs.Recording.{State, dequantize, if_then_else_}
-use Rattle.recording.specs.declared.Answer.{Answer}
-use Rattle.recording.specs.declared.Answer.the-variants.{Done}
 use Rattle.recording.proofs.Picks.{picks}
 use Rattle.redraw.specs.Whole.{Drawn, drawn, untouched, sample, wholeRepair}
-use Rattle.redraw.specs.Inner.{wordsIn, flagsIn, restOf, drawnIn, Begun, Holds, Room}
+use Rattle.redraw.specs.Inner.{wordsIn, flagsIn, restOf, drawnIn, Holds, Room}
 use Rattle.redraw.proofs.Workspace.{store-words, store-behind, flag-there, flags-behind, rest-behind, words-count, holds-then}
 use Rattle.dequant.specs.Dequant.{linear, cubic, cubicWeight, candidate, localStrength, target, sparseAt, sparsePass}
 use Rattle.dequant.specs.Dequant.{sparsePasses, stepOf, strengthOf, inner, acts, mostIterations, cosparse, cosparseRepair}
@@ -220,32 +218,7 @@ module _ (bits iterations n : ℕ) (strength : Float) (w : List ℕ) (room : Roo
 
 -- ---- The call
 
--- where it starts, the workspace holds the samples
-module _ (samples w v : List ℕ) (a : Answer) (m : ℕ) (accepts : a ≡ Done m) (start : Begun a samples w v) where
-  abbrev size : ℕ
-  size = length samples
-
-  laid : Holds size (untouched samples) w v
-  laid = subst (λ (x : Answer). Begun x samples w v) accepts start
-
-  words-laid : wordsIn size v ≡ samples
-  words-laid = ap (λ (d : Drawn). d .words) (laid .holds)
-
-  pub drawn-laid : drawnIn size v ≡ untouched (wordsIn size v)
-  drawn-laid = laid .holds ∙ sym (ap untouched words-laid)
-
-  pub drawn-of : (draw : List ℕ → Drawn) (u : List ℕ) → Holds size (draw (wordsIn size v)) v u → Holds size (draw samples) v u
-  drawn-of draw u h = subst (λ (l : List ℕ). Holds size (draw l) v u) words-laid h
-
--- a strength equals itself where it is no NaN
-number-test : (x : Float) → eq x x ≡ not (isNan x)
-unfolding ne
-number-test x = sym (not-not (eq x x)) ∙ sym (ap not (nan-test x))
-  where
-    not-not : (b : Bool) → not (not b) ≡ b
-    not-not true = refl
-    not-not false = refl
-
+-- its whole rule, with the code's test of its strength
 pub cosparse-is : (bits : ℕ) (strength : Float) (iterations room : ℕ) (s : State)
     → wholeRepair (eq strength strength) room dequantize (cosparse bits strength iterations) s ≡ cosparseRepair bits strength iterations room s
 unfolding cosparseRepair

@@ -10,18 +10,14 @@ use lib.ListN.{length, getD, set, drop}
 use lib.Seq.{sets}
 use lib.Ieee.{Float, binary32, ofBits, toBits, lt, eq, round}
 use Rattle.leaves.specs.Arithmetic.{_+₃₂_, _-₃₂_, _*₃₂_, near, float}
-use Rattle.recording.specs.Recording.{State, ended, change, carried, cleared, workAfter}
+use Rattle.recording.specs.Recording.{State}
 use Rattle.recording.specs.Recording as recording
-use Rattle.recording.specs.Inner.{pickedBy}
-use Rattle.recording.specs.declared.Reason.{Reason}
-use Rattle.recording.specs.declared.Answer.{Answer}
-use Rattle.recording.specs.declared.Answer.the-variants.{Done, Refused}
-use Rattle.redraw.specs.Whole.{sample, drawn, untouched, needed}
-use Rattle.redraw.specs.Inner.{begun, Begun, wordsIn, flagsIn, restOf, drawnIn, Holds, Room}
+use Rattle.redraw.specs.Whole.{sample, drawn, untouched, wholeRepair}
+use Rattle.redraw.specs.Inner.{wordsIn, flagsIn, restOf, drawnIn, Holds, Room}
 use Rattle.redraw.proofs.Workspace.{store-words, store-behind, word-there, flags-behind, rest-behind, words-count}
 use Rattle.dequant.specs.Dequant.{strengthOf, stepOf, target, firstAt, firstPass, quarter, secondAt, secondPass, wide, widened}
 use Rattle.dequant.specs.Dequant.{acts, inner, dequantized, dequantizeRepair}
-use Rattle.dequant.proofs.Calls.{call-refused, call-done}
+use Rattle.leaves.proofs.words.Laws.{number-test}
 use Rattle.leaves.proofs.Literals.{half-word}
 use Rattle.dequant.proofs.lattice.Laws.{first-holds, snapped-words, snapped-flags, snapped-rest, snapped-there}
 
@@ -186,17 +182,9 @@ module _ (n bits : ℕ) (strength h : Float) (w : List ℕ) (held : h ≡ streng
 
 -- ---- The call
 
-module _ (bits : ℕ) (strength : Float) (w : List ℕ) (s : State) (a : Answer) (start : a ≡ begun (eq strength strength) (length w) s) where
-  abbrev Ends : Answer → State → List ℕ → Type 0
-  Ends r after next =
-      (ended r after ≡ dequantizeRepair bits strength (length w) s) × (next ≡ workAfter 0 (needed (length (s .samples))) r w)
-
-  pub dequantize-refused : (why : Reason) (v : List ℕ) → a ≡ Refused why → Begun a (s .samples) w v → Ends a s v
-  unfolding dequantizeRepair
-  dequantize-refused = call-refused strength w s a start (dequantized bits strength)
-
-  pub dequantize-done : (m : ℕ) (v u next : List ℕ) (r : Answer) (after : State) → a ≡ Done m → Begun a (s .samples) w v
-      → length v ≡ length w → let n = length (s .samples) in Holds n (dequantized bits strength (wordsIn n v)) v u → length u ≡ length v
-      → ended r after ≡ carried s (change recording.dequantize (pickedBy u n)) → next ≡ cleared 0 (needed n) u → Ends r after next
-  unfolding dequantizeRepair
-  dequantize-done = call-done strength w s a start (dequantized bits strength)
+-- its whole rule, with the code's test of its strength
+pub dequantize-is : (bits : ℕ) (strength : Float) (room : ℕ) (s : State)
+    → wholeRepair (eq strength strength) room recording.dequantize (dequantized bits strength) s ≡ dequantizeRepair bits strength room s
+unfolding dequantizeRepair
+dequantize-is bits strength room s =
+    ap (λ (b : Bool). wholeRepair b room recording.dequantize (dequantized bits strength) s) (number-test strength)

@@ -1,20 +1,20 @@
--- `dequant::passes::dequantize` meets its contract: its start refuses as the rule does, and else what it draws is committed. Assumes
+-- `dequant::passes::dequantize` meets its contract: a refusal of the start ends it, and else what is drawn is committed. Assumes
 -- nothing.
 use borrow.Author.Needs.{needs}
-use Rattle.recording.specs.Recording.{State, state}
-use Rattle.dequant.proofs.Calls.{call-draws, call-finishes}
-use Rattle.dequant.proofs.passes.Laws.{dequantize-refused, dequantize-done}
+use Rattle.recording.specs.Recording.{State, state, dequantize}
+use Rattle.redraw.proofs.Ending.{start-room, start-finishes, start-laid, whole-refused, whole-drawn}
+use Rattle.dequant.specs.Dequant.{dequantized}
+use Rattle.dequant.proofs.passes.Laws.{dequantize-is}
 use Rattle.dequant.proofs.passes.dequantize.Statement.{statement}
 use Rattle.dequant.proofs.passes.dequantize.Tie as tie
 
--- where the call begins, seen from behind its start, and the recording there
+-- where the call begins, once its start has answered, the recording there, and the one behind its end
 abbrev start : tie.After-begin → tie.Start
 start c = c .before .before .before .before .before .before .before .before .before .before
 
 abbrev recording : tie.After-begin → State
 recording c = let a = start c .args in state (a .samples .now) (a .marks .now) (a .journal .now) (a .used .now)
 
--- and the recording behind its end
 abbrev after : tie.After-finish → State
 after c = let l = c .finish .last in state (l .0) (l .1 .0) (l .1 .1 .0) (l .1 .1 .1 .0)
 
@@ -42,14 +42,19 @@ same-length-4 c = search needs
 returns : tie.Need-returns
 returns c =
     let at = c .before .before .before .before in
-    dequantize-refused _ _ _ (recording at) _ (at .begin .ensures .0) _ _ (c .enum-told2 .given .1) (at .begin .ensures .1)
+    let a = start at .args in
+    whole-refused _ (a .work .now) (recording at) _ (at .begin .ensures .0) dequantize (dequantized (a .bits) (a .strength)) _ (dequantize-is _ _ _ (recording at))
+    _ _ (c .enum-told2 .given .1) (at .begin .ensures .1)
 
 draw-requires : tie.Need-draw-requires
 draw-requires c κs =
     let told = c .before in
     let laid = told .before .before .before in
     let at = laid .before in
-    call-draws _ _ (recording at) _ (at .begin .ensures .0) _ _ (told .enum-told .given .1) (at .begin .ensures .1) (laid .work .given)
+    let done = told .enum-told .given .1 in (
+      start-room _ (start at .args .work .now) (recording at) _ (at .begin .ensures .0) _ _ done (laid .work .given),
+      start-laid (recording at .samples) _ _ _ _ done (at .begin .ensures .1),
+    )
 
 finish-requires : tie.Need-finish-requires
 finish-requires c κs =
@@ -57,7 +62,7 @@ finish-requires c κs =
     let told = drawn .before .before .before in
     let laid = told .before .before .before in
     let at = laid .before in
-    call-finishes _ (start at .args .work .now) (recording at) _ (at .begin .ensures .0) _ _ _
+    start-finishes _ (start at .args .work .now) (recording at) _ (at .begin .ensures .0) _ _ _
     (told .enum-told .given .1) (laid .work .given) (drawn .work2 .given)
 
 same-length-5 : tie.Need-same-length-5
@@ -79,9 +84,10 @@ returns-2 c =
     let told = drawn .before .before .before in
     let laid = told .before .before .before in
     let at = laid .before in
-    dequantize-done _ _ _ (recording at) _ (at .begin .ensures .0) _ _ _ _ _ (after end) (told .enum-told .given .1)
-    (at .begin .ensures .1) (laid .work .given) (drawn .before .draw .ensures) (drawn .work2 .given)
-    (end .finish .ensures .0) (end .finish .ensures .1)
+    let a = start at .args in
+    whole-drawn _ (a .work .now) (recording at) _ (at .begin .ensures .0) dequantize (dequantized (a .bits) (a .strength)) _ (dequantize-is _ _ _ (recording at))
+    _ _ _ _ _ (after end) (told .enum-told .given .1) (at .begin .ensures .1) (laid .work .given)
+    (drawn .before .draw .ensures) (drawn .work2 .given) (end .finish .ensures .0) (end .finish .ensures .1)
 
 pub dequantize-spec : {M : Type 1} → statement M
 dequantize-spec =
