@@ -7,29 +7,23 @@ use borrow.Author.Needs.{needs}
 use Rattle.repairlist.proofs.gap_case.Statement.{statement}
 use Rattle.repairlist.proofs.gap_case.Tie as tie
 
-add-count : tie.Need-add-count
-add-count c = search needs
+add-first : tie.Need-add-first
+add-first c = search needs
 
 count-requires : tie.Need-count-requires
 count-requires c κs = search needs
 
-add-count-2 : tie.Need-add-count-2
-add-count-2 c = search needs
-
-add-count-3 : tie.Need-add-count-3
-add-count-3 c = search needs
+add-count : tie.Need-add-count
+add-count c = search needs
 
 count-requires-2 : tie.Need-count-requires-2
 count-requires-2 c κs = search needs
 
-add-count-4 : tie.Need-add-count-4
-add-count-4 c = search needs
-
 mul-count : tie.Need-mul-count
 mul-count c = search needs
 
-add-count-5 : tie.Need-add-count-5
-add-count-5 c = search needs
+add-count-2 : tie.Need-add-count-2
+add-count-2 c = search needs
 
 count-requires-3 : tie.Need-count-requires-3
 count-requires-3 c κs = search needs
@@ -46,17 +40,23 @@ returns-2 c = search needs
 sub-if3 : tie.Need-sub-if3
 sub-if3 c = search needs
 
+mul-if3 : tie.Need-mul-if3
+mul-if3 c = search needs
+
 sub-if3-2 : tie.Need-sub-if3-2
 sub-if3-2 c = search needs
 
 add-if3 : tie.Need-add-if3
 add-if3 c = search needs
 
-mul-if3 : tie.Need-mul-if3
-mul-if3 c = search needs
+mul-if3-2 : tie.Need-mul-if3-2
+mul-if3-2 c = search needs
 
 returns-3 : tie.Need-returns-3
 returns-3 c = search needs
+
+mul-gap-agrees : tie.Need-mul-gap-agrees
+mul-gap-agrees c = search needs
 
 add-gap-agrees : tie.Need-add-gap-agrees
 add-gap-agrees c = search needs
@@ -85,23 +85,23 @@ pub gap-case-spec : {M : Type 1} → statement M
 gap-case-spec =
     tie.close
     (tie.spec
-    add-count
+    add-first
     count-requires
-    add-count-2
-    add-count-3
+    add-count
     count-requires-2
-    add-count-4
     mul-count
-    add-count-5
+    add-count-2
     count-requires-3
     returns
     add-if2
     returns-2
     sub-if3
+    mul-if3
     sub-if3-2
     add-if3
-    mul-if3
+    mul-if3-2
     returns-3
+    mul-gap-agrees
     add-gap-agrees
     array-borrow-prefix-samples
     slice-aggregate-gap-agrees
