@@ -10,7 +10,8 @@ ghost use Rattle.recording.specs.Inner.{flags};
 ghost use Rattle.redraw.specs.Whole.{drawn, untouched, needed};
 ghost use Rattle.redraw.specs.Runs.{begins, runLength};
 ghost use Rattle.redraw.specs.Inner.{wordsIn, flagsIn, drawnIn, flagWord, flaggedAt, Holds, Room};
-ghost use Rattle.decrackle.specs.Decrackle.{factorFor, detector, floorAfter, flagged, flagsOf, slopeBefore, slopeBehind, hermiteAt, rewritten, smoothed, decrackled, decrackleRepair};
+ghost use Rattle.decrackle.specs.Decrackle.{factorFor, detector, floorAfter, flagged, flagsOf, slopeBefore, slopeBehind};
+ghost use Rattle.decrackle.specs.Decrackle.{hermiteAt, rewritten, smoothed, decrackled, decrackleRepair};
 use leaves::order::clamp32;
 use leaves::order::larger32;
 use leaves::order::magnitude32;
@@ -71,7 +72,8 @@ fn flag_word(factor: f32, floor: f32, a: f32) -> u32
 // Flags the samples that stand out: each raises the floor first, and is then held against it.
 fn flag_samples(samples: &[u32], sensitivity: f32, work: &mut [u32])
     requires { ⌜ Room (length (now samples)) (now work) ⌝ }
-    ensures { λ _. ⌜ Holds (length (now (samples .entry))) (drawn (wordsIn (length (now (samples .entry))) (now (work .entry))) (flagsOf sensitivity (now (samples .entry))))
+    ensures { λ _. ⌜ Holds (length (now (samples .entry)))
+        (drawn (wordsIn (length (now (samples .entry))) (now (work .entry))) (flagsOf sensitivity (now (samples .entry))))
         (now (work .entry)) (now (work .exit)) ⌝ }
 {
     let n = samples.len();

@@ -220,7 +220,8 @@ module _ (allowed : Bool) (w : List ℕ) (s : State) (a : Answer) (start : a ≡
         let kept : drop (needed size) u ≡ drop (needed size) w = rw two (held .keeps ∙ there .keeps) in
         let enough : needed size ≤ length w = start-room m w e refl .enough in (
           ends ∙ ap (carried s) (held-picked mark size u (draw (s .samples)) (held .holds)) ∙ accepts m e .on planned ∙ repair-is ∙ is,
-          commit-clears 0 s mark _ r after ends (needed size) w next (cleared-too 0 (needed size) (needed size) w u next clear refl enough (count' ∙ count) kept),
+          commit-clears 0 s mark _ r after ends (needed size) w next
+              (cleared-too 0 (needed size) (needed size) w u next clear refl enough (count' ∙ count) kept),
         )
 
     -- the same, where it is drawn from the words of the workspace

@@ -161,59 +161,19 @@ fn repair_whole(
     third: u32,
     samples: &mut [u32],
     marks: &mut [u8],
+    journal: &mut [u32],
+    work: &mut [u32],
 ) {
-    let mut journal = [0u32; JOURNAL_WORDS];
-    let mut work = [7u32; WORKSPACE_WORDS];
+    let a = f32_of_word(first);
+    let b = f32_of_word(second);
     let mut used: usize = 0;
     match letter {
-        b'd' => {
-            let threshold = f32_of_word(first);
-            declip::declip(
-                samples,
-                marks,
-                &mut journal,
-                &mut used,
-                threshold,
-                &mut work,
-            );
-        }
-        b'c' => {
-            let sensitivity = f32_of_word(first);
-            decrackle::decrackle(
-                samples,
-                marks,
-                &mut journal,
-                &mut used,
-                sensitivity,
-                &mut work,
-            );
-        }
-        b'q' => {
-            let strength = f32_of_word(second);
-            dequantize(
-                samples,
-                marks,
-                &mut journal,
-                &mut used,
-                first,
-                strength,
-                &mut work,
-            );
-        }
-        _ => {
-            let strength = f32_of_word(second);
-            dequantize_cosparse(
-                samples,
-                marks,
-                &mut journal,
-                &mut used,
-                first,
-                strength,
-                third,
-                &mut work,
-            );
-        }
+        b'd' => declip::declip(samples, marks, journal, &mut used, a, work),
+        b'c' => decrackle::decrackle(samples, marks, journal, &mut used, a, work),
+        b'q' => dequantize(samples, marks, journal, &mut used, first, b, work),
+        _ => dequantize_cosparse(samples, marks, journal, &mut used, first, b, third, work),
     }
+    ;
 }
 
 // How many words the case that begins at `at` says that it has.
@@ -302,7 +262,18 @@ fn whole_agrees(list: &[u8], letter: u8, at: usize, samples: &mut [u32], marks: 
     let third = word(list, at - 2 * WORD);
     let second = word(list, at - 3 * WORD);
     let first = word(list, at - 4 * WORD);
-    repair_whole(letter, first, second, third, samples, marks);
+    let mut journal = [0u32; JOURNAL_WORDS];
+    let mut work = [7u32; WORKSPACE_WORDS];
+    repair_whole(
+        letter,
+        first,
+        second,
+        third,
+        samples,
+        marks,
+        &mut journal,
+        &mut work,
+    );
     same(list, at + WORD * samples.len(), samples)
 }
 

@@ -43,7 +43,8 @@ returns : tie.Need-returns
 returns c =
     let at = c .before .before .before .before in
     let a = start at .args in
-    whole-refused _ (a .work .now) (recording at) _ (at .begin .ensures .0) dequantize (dequantized (a .bits) (a .strength)) _ (dequantize-is _ _ _ (recording at))
+    whole-refused _ (a .work .now) (recording at) _ (at .begin .ensures .0) dequantize (dequantized (a .bits) (a .strength)) _
+    (dequantize-is _ _ _ (recording at))
     _ _ (c .enum-told2 .given .1) (at .begin .ensures .1)
 
 draw-requires : tie.Need-draw-requires
@@ -85,7 +86,8 @@ returns-2 c =
     let laid = told .before .before .before in
     let at = laid .before in
     let a = start at .args in
-    whole-drawn _ (a .work .now) (recording at) _ (at .begin .ensures .0) dequantize (dequantized (a .bits) (a .strength)) _ (dequantize-is _ _ _ (recording at))
+    whole-drawn _ (a .work .now) (recording at) _ (at .begin .ensures .0) dequantize (dequantized (a .bits) (a .strength)) _
+    (dequantize-is _ _ _ (recording at))
     _ _ _ _ _ (after end) (told .enum-told .given .1) (at .begin .ensures .1) (laid .work .given)
     (drawn .before .draw .ensures) (drawn .work2 .given) (end .finish .ensures .0) (end .finish .ensures .1)
 
