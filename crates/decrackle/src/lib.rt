@@ -28,6 +28,14 @@ const DECRACKLE: u8 = 4;
 // A shorter recording has nothing named.
 const LEAST_SAMPLES: usize = 8;
 
+// The floor before the first sample, the least that a sample is held against, and how much of a sample's
+// magnitude the floor takes in.
+const OPENING_FLOOR: f32 = 1e-6;
+
+const LEAST_FLOOR: f32 = 1e-6;
+
+const ALPHA: f32 = 0.001;
+
 // How far above the floor a flagged sample stands: 11 at sensitivity 1, 2 at 10.
 fn factor_for(sensitivity: f32) -> f32
     ensures { λ r. ⌜ r ≡ factorFor sensitivity ⌝ }
@@ -55,14 +63,14 @@ fn detector_at(samples: &[u32], i: usize) -> f32
 fn raise_floor(floor: f32, a: f32) -> f32
     ensures { λ r. ⌜ r ≡ floorAfter floor a ⌝ }
 {
-    floor * (1.0 - 0.001) + a * 0.001
+    floor * (1.0 - ALPHA) + a * ALPHA
 }
 
 // 1 where a sample with the detector's magnitude a is flagged, and else 0.
 fn flag_word(factor: f32, floor: f32, a: f32) -> u32
     ensures { λ r. ⌜ r ≡ flagWord (flagged factor floor a) ⌝ }
 {
-    if factor * larger32(floor, 1e-6) < a {
+    if factor * larger32(floor, LEAST_FLOOR) < a {
         1
     } else {
         0
@@ -78,7 +86,7 @@ fn flag_samples(samples: &[u32], sensitivity: f32, work: &mut [u32])
 {
     let n = samples.len();
     let factor = factor_for(sensitivity);
-    let mut floor: f32 = 1e-6;
+    let mut floor = OPENING_FLOOR;
     let mut i: usize = 0;
     while i < n {
         let a = magnitude32(detector_at(samples, i));

@@ -24,6 +24,11 @@ use recording::Answer;
 use redraw::begin;
 use redraw::finish;
 
+// `dequantize_cosparse` needs so many samples, and leaves so many alone at either end.
+const LEAST_SAMPLES: usize = 5;
+
+const EDGE: usize = 2;
+
 // How many iterations run at most.
 const MOST_ITERATIONS: usize = 16;
 
@@ -101,7 +106,7 @@ fn draw(work: &mut [u32], n: usize, bits: u32, strength: f32, iterations: u32)
     ensures { λ _. ⌜ Holds n (cosparse bits strength iterations (wordsIn n (now (work .entry)))) (now (work .entry)) (now (work .exit)) ⌝ }
 {
     let held = strength_of(strength);
-    if !reaches(held, 5, n) {
+    if !reaches(held, LEAST_SAMPLES, n) {
         return;
     }
     if iterations == 0 {
@@ -115,7 +120,7 @@ fn draw(work: &mut [u32], n: usize, bits: u32, strength: f32, iterations: u32)
         held,
         least(iterations as usize, MOST_ITERATIONS),
     );
-    name_inner(work, n, 2);
+    name_inner(work, n, EDGE);
 }
 
 // Moves every sample but two at either end toward what its neighbours predict, up to 16 times, or refuses

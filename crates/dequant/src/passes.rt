@@ -20,6 +20,16 @@ use recording::Answer;
 use redraw::begin;
 use redraw::finish;
 
+// `dequantize` needs so many samples, and leaves so many alone at either end.
+const LEAST_SAMPLES: usize = 3;
+
+const EDGE: usize = 1;
+
+// The second pass needs so many samples, and a strength above this.
+const WIDE_SAMPLES: usize = 5;
+
+const WIDE_STRENGTH: f32 = 0.3;
+
 // The first pass's word at place i, from the words as they stand.
 fn first_word(work: &[u32], i: usize, step: f32, strength: f32) -> u32
     requires { ⌜ (1 ≤ i) × (i + 1 < length (now work)) ⌝ }
@@ -73,10 +83,10 @@ fn second_pass(work: &mut [u32], n: usize, step: f32, strength: f32)
 fn is_wide(strength: f32, n: usize) -> bool
     ensures { λ r. ⌜ r ≡ wide strength n ⌝ }
 {
-    if n < 5 {
+    if n < WIDE_SAMPLES {
         return false;
     }
-    0.3 < strength
+    WIDE_STRENGTH < strength
 }
 
 // Works out the words and the flags of all samples in the workspace.
@@ -85,7 +95,7 @@ fn draw(work: &mut [u32], n: usize, bits: u32, strength: f32)
     ensures { λ _. ⌜ Holds n (dequantized bits strength (wordsIn n (now (work .entry)))) (now (work .entry)) (now (work .exit)) ⌝ }
 {
     let held = strength_of(strength);
-    if !reaches(held, 3, n) {
+    if !reaches(held, LEAST_SAMPLES, n) {
         return;
     }
     let step = step_of(bits);
@@ -94,7 +104,7 @@ fn draw(work: &mut [u32], n: usize, bits: u32, strength: f32)
         snapshot(work, n);
         second_pass(work, n, step, held);
     }
-    name_inner(work, n, 1);
+    name_inner(work, n, EDGE);
 }
 
 // Moves every sample but the two ends toward what its neighbours predict, or refuses and changes nothing.
