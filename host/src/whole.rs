@@ -55,8 +55,8 @@ impl Repair {
         }
     }
 
-    /// All samples as the original leaves them.
-    fn original(self, samples: &[f32]) -> Vec<f32> {
+    /// All samples as the original leaves them, where all are in range and the settings are allowed.
+    pub fn original(self, samples: &[f32]) -> Vec<f32> {
         match self {
             Repair::Declip { threshold } => declip_with_method(samples, threshold, DeclipMethod::Cubic),
             Repair::Decrackle { sensitivity } => decrackle(samples, RATE, sensitivity),
