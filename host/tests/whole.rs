@@ -24,12 +24,16 @@ use whole::calls::{repair, repair_any, repair_with, words, Call, Calls, COMMON};
 use whole::limits::{self, Case, Faults};
 use whole::{clipped, crackled, levels, settings, short};
 
-/// How many recordings are tried with each repair: random short ones, of each shape, and of some thousand samples;
-/// and how many sequences of repairs and undos.
+/// How many recordings are tried with each repair: random short ones; of each shape, for every small number of
+/// samples, of up to 400 and of some thousand; and how many sequences of repairs and undos.
 const RANDOM: u64 = 12_000;
+const FEW: u64 = 10;
 const SHAPED: u64 = 1_200;
-const LONG: u64 = 60;
+const LONG: u64 = 7;
 const SEQUENCES: u64 = 2_000;
+
+/// How many recordings are declipped whose last result is rounded above 65,536 or just not.
+const LOUD: usize = 160;
 
 /// Any settings of one repair, for these samples.
 type Settings = fn(&mut Draw, &[u32]) -> Repair;
@@ -53,10 +57,14 @@ fn repair_usual(count: &mut Calls, draw: &mut Draw, settings: Settings) {
         let how = settings(draw, &samples);
         repair_any(count, draw, &samples, how);
     }
+    count.begin("each shape, every number of samples to 20");
+    for n in 0..21 {
+        repair_shapes(count, draw, settings, FEW, n..n + 1);
+    }
     count.begin("each shape, 6 to 400 samples");
     repair_shapes(count, draw, settings, SHAPED, 6..401);
     count.begin("each shape, 1,000 to 4,000 samples");
-    repair_shapes(count, draw, settings, LONG / Shape::ALL.len() as u64, 1_000..4_001);
+    repair_shapes(count, draw, settings, LONG, 1_000..4_001);
 }
 
 /// So many recordings of each shape.
@@ -82,12 +90,10 @@ fn repair_refused(count: &mut Calls, draw: &mut Draw, case: &Case) {
         }
     }
     count.begin("beside the most samples");
-    for how in [case.repair, case.wrong] {
-        limits::large(draw, how, &mut |mut model, work| {
-            let mut lent = Lent::new(&model);
-            repair(count, &mut model, &mut lent, how, work);
-        });
-    }
+    limits::large(draw, case, &mut |mut model, how, work| {
+        let mut lent = Lent::new(&model);
+        repair(count, &mut model, &mut lent, how, work);
+    });
 }
 
 #[test]
@@ -101,7 +107,7 @@ fn declips() {
         repair_any(&mut count, draw, samples, how);
     });
     count.begin("of 8,196 samples and more");
-    for more in 0..80 {
+    for more in 0..LOUD {
         let samples = clipped::loud(&mut draw, clipped::FEWEST_LOUD + more);
         let threshold = [1.0, 2.0][more % 2];
         repair_with(&mut count, &mut draw, &samples, Repair::Declip { threshold }, [Room::Exact; 2]);

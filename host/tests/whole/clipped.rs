@@ -114,5 +114,5 @@ pub const CLASSES: &[Class<Call>] = &[
     },
     Class { name: "fills with the same y0", least: 500, holds: |c| any_two(c, |one, two| one.start == two.start) },
     Class { name: "fills with the same y1", least: 500, holds: |c| any_two(c, |one, two| one.end == two.end) },
-    Class { name: "answered 8", least: 50, holds: |c| c.number() == 8 },
+    Class { name: "answered 8", least: 30, holds: |c| c.number() == 8 },
 ];

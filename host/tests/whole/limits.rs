@@ -115,29 +115,29 @@ fn saw(n: usize) -> Vec<u32> {
     (0..n).map(|place| ((place % 37) as f32 - 18.5).to_bits()).collect()
 }
 
-/// Hands on recordings of the most samples and of one more: with one mark more or less, with workspace and journal
-/// for all that this repair names, and with one word less of either. Those of one sample more come once more with
-/// nothing that would do: a sample that is not in range, no workspace and a journal shorter than used.
-pub fn large(draw: &mut Draw, repair: Repair, put: &mut dyn FnMut(Recording, Vec<u32>)) {
+/// Hands on calls on recordings of the most samples and of one more, with workspace and journal for all that is
+/// named: with one mark more or less; with the most samples and with one word less of either, and with settings that
+/// are not allowed; and with one sample more and with nothing that would do.
+pub fn large(draw: &mut Draw, case: &Case, put: &mut dyn FnMut(Recording, Repair, Vec<u32>)) {
     for n in [MOST_SAMPLES, MOST_SAMPLES + 1] {
         let samples = saw(n);
-        let free = entry_words(names(repair, &samples));
+        let free = entry_words(names(case.repair, &samples));
         let work = words(draw, needed(n));
-        let whole = room::recording(draw, samples, free);
+        let mut whole = room::recording(draw, samples, free);
         for marks in [n - 1, n, n + 1] {
             let mut recording = whole.clone();
             recording.marks.resize(marks, 9);
-            put(recording, work.clone());
+            put(recording, case.repair, work.clone());
         }
-        put(whole.clone(), work[1..].to_vec());
-        let mut short = whole.clone();
-        short.journal.pop();
-        put(short, work);
-        if n > MOST_SAMPLES {
-            let mut nothing = whole;
-            nothing.samples[0] = 0x7fc0_0000;
-            nothing.used = usize::MAX;
-            put(nothing, Vec::new());
+        if n == MOST_SAMPLES {
+            put(whole.clone(), case.wrong, work.clone());
+            put(whole.clone(), case.repair, work[1..].to_vec());
+            whole.journal.pop();
+            put(whole, case.repair, work);
+        } else {
+            whole.samples[0] = 0x7fc0_0000;
+            whole.used = usize::MAX;
+            put(whole, case.wrong, Vec::new());
         }
     }
 }
