@@ -139,7 +139,7 @@ pub fn flagged(samples: &[f32], sensitivity: f32) -> Vec<Range<usize>> {
     if n < 8 {
         return Vec::new();
     }
-    let factor = 12.0 - sensitivity.max(1.0).min(10.0);
+    let factor = 12.0 - sensitivity.clamp(1.0, 10.0);
     let mut floor = 1e-6f32;
     let mut flags = vec![false; n];
     for i in 0..n {

@@ -20,6 +20,8 @@ use cathar_host::shapes::Shape;
 use cathar_host::whole::{needed, repair as by_model, Repair};
 use shared::count::{Class, Count};
 use shared::room::{self, Room};
+use std::ops::Range;
+use std::panic::catch_unwind;
 use whole::calls::{repair, repair_any, repair_with, words, Call, Calls, COMMON};
 use whole::limits::{self, Case, Faults};
 use whole::{clipped, crackled, levels, settings, short};
@@ -68,7 +70,7 @@ fn repair_usual(count: &mut Calls, draw: &mut Draw, settings: Settings) {
 }
 
 /// So many recordings of each shape.
-fn repair_shapes(count: &mut Calls, draw: &mut Draw, settings: Settings, each: u64, sizes: std::ops::Range<u64>) {
+fn repair_shapes(count: &mut Calls, draw: &mut Draw, settings: Settings, each: u64, sizes: Range<u64>) {
     for shape in Shape::ALL {
         for _ in 0..each {
             let n = sizes.start + draw.below(sizes.end - sizes.start);
@@ -155,19 +157,6 @@ fn decrackles() {
     count.close(seed);
 }
 
-/// Every number of bits with every strength on which something turns, on samples at their levels: few of them, and
-/// some more.
-fn each_level(draw: &mut Draw, put: &mut dyn FnMut(&mut Draw, &[u32], u32, f32)) {
-    for bits in settings::each_bits() {
-        for strength in settings::STRENGTHS.into_iter().chain([f32::NAN]) {
-            for n in [0, 1, 2, 3, 4, 5, 6, 7, 40] {
-                let samples = levels::samples(draw, n, bits);
-                put(draw, &samples, bits, strength);
-            }
-        }
-    }
-}
-
 #[test]
 fn dequantizes() {
     let seed = draw::seed();
@@ -176,7 +165,7 @@ fn dequantizes() {
     let mut count = Count::new("cathar_dequantize against model and original", &classes);
     repair_usual(&mut count, &mut draw, settings::dequantize);
     count.begin("every number of bits and every strength");
-    each_level(&mut draw, &mut |draw, samples, bits, strength| {
+    levels::each(&mut draw, &mut |draw, samples, bits, strength| {
         repair_any(&mut count, draw, samples, Repair::Dequantize { bits, strength });
     });
     repair_refused(&mut count, &mut draw, &limits::dequantize());
@@ -191,7 +180,7 @@ fn cosparse() {
     let mut count = Count::new("cathar_dequantize_cosparse against model and original", &classes);
     repair_usual(&mut count, &mut draw, settings::cosparse);
     count.begin("every number of bits and every strength");
-    each_level(&mut draw, &mut |draw, samples, bits, strength| {
+    levels::each(&mut draw, &mut |draw, samples, bits, strength| {
         let iterations = settings::ITERATIONS[draw.below(settings::ITERATIONS.len() as u64) as usize];
         repair_any(&mut count, draw, samples, Repair::Cosparse { bits, strength, iterations });
     });
@@ -293,4 +282,38 @@ fn sums() {
     one[4] = 1.0;
     let (samples, named) = repaired(&one, Repair::Decrackle { sensitivity: 10.0 }, 3);
     assert_eq!((samples, named), (vec![0.0; 9], vec![3, 4, 5]));
+}
+
+/// Both sides repair these samples, with just enough room. The answer is the model's.
+fn answered(count: &mut Calls, samples: &[f32], how: Repair) -> Answer {
+    let words: Vec<u32> = samples.iter().map(|x| x.to_bits()).collect();
+    repair_with(count, &mut Draw::new(1), &words, how, [Room::Exact; 2])
+}
+
+/// The fewest samples of which the original makes something where the rules give 4 or 7: at a threshold of 0 it fills
+/// one run of all samples, for a strength that is a NaN it writes NaN, and for a sample that is one it panics.
+#[test]
+fn where_the_original_goes_on() {
+    let mut count: Calls = Count::new("where the original goes on", &[]);
+    count.begin("refused by the rules");
+    let (samples, how) = ([1.0, 0.0, 0.0, 0.0, 0.0, 0.0], Repair::Declip { threshold: 0.0 });
+    assert!((0..6).all(|n| how.original(&samples[..n]) == samples[..n]) && how.original(&samples) != samples);
+    assert_eq!(answered(&mut count, &samples, how), Answer::Refused(4));
+    let forms = |strength| {
+        let cosparse = Repair::Cosparse { bits: 4, strength, iterations: 1 };
+        [(3, Repair::Dequantize { bits: 4, strength }), (5, cosparse)]
+    };
+    for (n, how) in forms(f32::NAN) {
+        let samples = vec![0.0; n];
+        assert!(how.original(&samples)[n / 2].is_nan());
+        assert_eq!(answered(&mut count, &samples, how), Answer::Refused(4));
+    }
+    for (n, how) in forms(1.0) {
+        let mut samples = vec![0.0; n];
+        samples[n / 2] = f32::NAN;
+        println!("the original panics at {how:?} of {samples:?}, as this test expects:");
+        assert!(catch_unwind(|| how.original(&samples)).is_err());
+        assert_eq!(answered(&mut count, &samples, how), Answer::RefusedAt(7, n / 2));
+    }
+    count.close(1);
 }

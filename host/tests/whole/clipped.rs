@@ -8,24 +8,15 @@ use std::ops::Range;
 /// Of so many samples, every choice of those that are clipped is tried.
 pub const EVERY: Range<usize> = 6..14;
 
-/// A word next to another, of the same sign.
-fn next(word: u32, up: bool) -> u32 {
-    if up {
-        word + 1
-    } else {
-        word - 1
-    }
-}
-
 /// Samples of which the chosen ones, the digits of a number, are clipped: 1 and above, of any sign. The others are
-/// below 1, and at times just so.
+/// below 1, and at times one step below it.
 fn clipped(draw: &mut Draw, n: usize, chosen: usize) -> Vec<u32> {
     let one = 1.0f32.to_bits();
     let word = |place: usize| {
         let magnitude = match (chosen >> place & 1 == 1, draw.below(4)) {
             (true, 0) => one + draw.below(0x0100_0000) as u32,
             (true, _) => one,
-            (false, 0) => next(one, false),
+            (false, 0) => one - 1,
             (false, _) => draw.below(u64::from(one)) as u32,
         };
         magnitude | (draw.below(2) as u32) << 31
@@ -40,7 +31,7 @@ pub fn each(draw: &mut Draw, put: &mut dyn FnMut(&mut Draw, &[u32], Repair)) {
         for chosen in 0..1 << n {
             let samples = clipped(draw, n, chosen);
             let others = (0..n).filter(|place| chosen >> place & 1 == 0).map(|place| samples[place] & 0x7fff_ffff);
-            let tight = next(others.max().unwrap_or(0), true);
+            let tight = 1 + others.max().unwrap_or(0);
             let threshold = [1.0, f32::from_bits(tight)][draw.below(2) as usize];
             put(draw, &samples, Repair::Declip { threshold });
         }

@@ -1,6 +1,6 @@
 //! Recordings for both forms of dequantize: samples on levels and halfway between them.
 use super::calls::Call;
-use super::settings::{ABOVE_THREE_TENTHS, BELOW_THREE_TENTHS, THREE_TENTHS};
+use super::settings::{self, ABOVE_THREE_TENTHS, BELOW_THREE_TENTHS, THREE_TENTHS};
 use crate::shared::count::Class;
 use cathar_host::draw::Draw;
 use cathar_host::whole::{floats, Repair};
@@ -14,6 +14,22 @@ pub fn samples(draw: &mut Draw, n: usize, bits: u32) -> Vec<u32> {
         at as f32 / halves as f32
     };
     (0..n).map(|_| next().to_bits()).collect()
+}
+
+/// Takes samples, bits and a strength.
+type Put<'a> = &'a mut dyn FnMut(&mut Draw, &[u32], u32, f32);
+
+/// Hands on every number of bits with every strength on which something turns, and samples at their levels: few of
+/// them, and some more.
+pub fn each(draw: &mut Draw, put: Put) {
+    for bits in settings::each_bits() {
+        for strength in settings::STRENGTHS.into_iter().chain([f32::NAN]) {
+            for n in [0, 1, 2, 3, 4, 5, 6, 7, 40] {
+                let samples = samples(draw, n, bits);
+                put(draw, &samples, bits, strength);
+            }
+        }
+    }
 }
 
 fn bits(call: &Call) -> u32 {

@@ -44,7 +44,7 @@ pub fn decrackle() -> Case {
     }
 }
 
-/// No result is ever further from 0 than the samples, so that all are in range.
+/// No result is louder than the loudest sample, so that all are in range.
 pub fn dequantize() -> Case {
     Case {
         repair: Repair::Dequantize { bits: 4, strength: 1.0 },
