@@ -257,9 +257,10 @@ fn repaired(samples: &[f32], how: Repair, m: usize) -> (Vec<f32>, Vec<usize>) {
     let mut model = Recording { samples: words, marks: vec![0; n], journal: vec![0; entry_words(m)], used: 0 };
     let mut lent = Lent::new(&model);
     let mut work = vec![u32::MAX; needed(n)];
-    let number = lent.repair(how, &mut LentWords::new(&work));
+    let mut lent_work = LentWords::new(&work);
+    let number = lent.repair(how, &mut lent_work);
     assert_eq!(by_model(&mut model, how, &mut work), Answer::Accepted(m));
-    assert_eq!((number, lent.wrong(&model, m)), (0, vec![]));
+    assert_eq!((number, lent.wrong(&model, m), lent_work.holds(&work)), (0, vec![], true));
     let named: Vec<usize> = (0..n).filter(|place| model.marks[*place] == how.mark()).collect();
     assert_eq!(named.len(), m);
     (cathar_host::whole::floats(&model.samples), named)
