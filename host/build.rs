@@ -4,7 +4,7 @@ use std::fs;
 use std::path::{Path, PathBuf};
 
 /// The files of the original that are taken, each by its name without the ending.
-const TAKEN: [&str; 1] = ["inpaint"];
+const TAKEN: [&str; 4] = ["declip", "decrackle", "dequant", "inpaint"];
 
 fn main() {
     let host = PathBuf::from(env::var_os("CARGO_MANIFEST_DIR").expect("cargo sets CARGO_MANIFEST_DIR"));

@@ -55,6 +55,61 @@ mod exports {
             qualified: *mut usize,
             repaired: *mut usize,
         ) -> u32;
+        pub fn cathar_declip(
+            samples: *mut u32,
+            n: usize,
+            marks: *mut u8,
+            marks_n: usize,
+            journal: *mut u32,
+            journal_n: usize,
+            used: *mut usize,
+            threshold: f32,
+            work: *mut u32,
+            work_n: usize,
+            value: *mut usize,
+        ) -> u32;
+        pub fn cathar_decrackle(
+            samples: *mut u32,
+            n: usize,
+            marks: *mut u8,
+            marks_n: usize,
+            journal: *mut u32,
+            journal_n: usize,
+            used: *mut usize,
+            sensitivity: f32,
+            work: *mut u32,
+            work_n: usize,
+            value: *mut usize,
+        ) -> u32;
+        pub fn cathar_dequantize(
+            samples: *mut u32,
+            n: usize,
+            marks: *mut u8,
+            marks_n: usize,
+            journal: *mut u32,
+            journal_n: usize,
+            used: *mut usize,
+            bits: u32,
+            strength: f32,
+            work: *mut u32,
+            work_n: usize,
+            value: *mut usize,
+        ) -> u32;
+        pub fn cathar_dequantize_cosparse(
+            samples: *mut u32,
+            n: usize,
+            marks: *mut u8,
+            marks_n: usize,
+            journal: *mut u32,
+            journal_n: usize,
+            used: *mut usize,
+            bits: u32,
+            strength: f32,
+            iterations: u32,
+            work: *mut u32,
+            work_n: usize,
+            value: *mut usize,
+        ) -> u32;
     }
 }
 
@@ -177,6 +232,131 @@ pub fn inpaint_auto(
             work.len(),
             qualified,
             repaired,
+        )
+    }
+}
+
+/// Bridges clipped runs by a cubic. Answers 0, with how many samples it named in `value`, or the number of the
+/// refusal, with the place there for 7 and 8 and 0 for the others.
+pub fn declip(
+    samples: &mut [u32],
+    marks: &mut [u8],
+    journal: &mut [u32],
+    used: &mut usize,
+    threshold: f32,
+    work: &mut [u32],
+    value: &mut usize,
+) -> u32 {
+    // As above.
+    unsafe {
+        exports::cathar_declip(
+            samples.as_mut_ptr(),
+            samples.len(),
+            marks.as_mut_ptr(),
+            marks.len(),
+            journal.as_mut_ptr(),
+            journal.len(),
+            used,
+            threshold,
+            work.as_mut_ptr(),
+            work.len(),
+            value,
+        )
+    }
+}
+
+/// Rewrites samples that stand out from their neighbours by more than a running floor. Answers as `declip`
+/// does.
+pub fn decrackle(
+    samples: &mut [u32],
+    marks: &mut [u8],
+    journal: &mut [u32],
+    used: &mut usize,
+    sensitivity: f32,
+    work: &mut [u32],
+    value: &mut usize,
+) -> u32 {
+    // As above.
+    unsafe {
+        exports::cathar_decrackle(
+            samples.as_mut_ptr(),
+            samples.len(),
+            marks.as_mut_ptr(),
+            marks.len(),
+            journal.as_mut_ptr(),
+            journal.len(),
+            used,
+            sensitivity,
+            work.as_mut_ptr(),
+            work.len(),
+            value,
+        )
+    }
+}
+
+/// Moves samples that were recorded with so many bits toward what their neighbours predict. Answers as `declip`
+/// does.
+// The arguments are those of the C function.
+#[allow(clippy::too_many_arguments)]
+pub fn dequantize(
+    samples: &mut [u32],
+    marks: &mut [u8],
+    journal: &mut [u32],
+    used: &mut usize,
+    bits: u32,
+    strength: f32,
+    work: &mut [u32],
+    value: &mut usize,
+) -> u32 {
+    // As above.
+    unsafe {
+        exports::cathar_dequantize(
+            samples.as_mut_ptr(),
+            samples.len(),
+            marks.as_mut_ptr(),
+            marks.len(),
+            journal.as_mut_ptr(),
+            journal.len(),
+            used,
+            bits,
+            strength,
+            work.as_mut_ptr(),
+            work.len(),
+            value,
+        )
+    }
+}
+
+/// The same from two neighbours on either side, in so many iterations. Answers as `declip` does.
+// The arguments are those of the C function.
+#[allow(clippy::too_many_arguments)]
+pub fn dequantize_cosparse(
+    samples: &mut [u32],
+    marks: &mut [u8],
+    journal: &mut [u32],
+    used: &mut usize,
+    bits: u32,
+    strength: f32,
+    iterations: u32,
+    work: &mut [u32],
+    value: &mut usize,
+) -> u32 {
+    // As above.
+    unsafe {
+        exports::cathar_dequantize_cosparse(
+            samples.as_mut_ptr(),
+            samples.len(),
+            marks.as_mut_ptr(),
+            marks.len(),
+            journal.as_mut_ptr(),
+            journal.len(),
+            used,
+            bits,
+            strength,
+            iterations,
+            work.as_mut_ptr(),
+            work.len(),
+            value,
         )
     }
 }

@@ -3,6 +3,7 @@
 use crate::cathar;
 use crate::inpaint::Gap;
 use crate::recording::Recording;
+use crate::whole::Repair;
 
 /// How many words stand before a part, and how many after it.
 const GUARDS: usize = 3;
@@ -93,6 +94,21 @@ impl LentWork {
     }
 }
 
+/// A workspace of 32-bit words.
+pub struct LentWords(Part<u32>);
+
+impl LentWords {
+    /// These words. Around them stands -0, which a part that is cleared does not have.
+    pub fn new(words: &[u32]) -> LentWords {
+        LentWords(Part::new(words, 0x8000_0000))
+    }
+
+    /// Whether it has these words, and the guards around it stand.
+    pub fn holds(&self, words: &[u32]) -> bool {
+        self.0.holds(patterns(words))
+    }
+}
+
 /// A recording, and two numbers that a call hands back, of which most calls have one or none.
 pub struct Lent {
     samples: Part<u32>,
@@ -167,6 +183,25 @@ impl Lent {
             &mut qualified.lend()[0],
             &mut repaired.lend()[0],
         )
+    }
+
+    /// The library makes a repair over the whole recording.
+    pub fn repair(&mut self, repair: Repair, work: &mut LentWords) -> u32 {
+        self.forget_numbers();
+        let (samples, marks, journal) = (self.samples.lend(), self.marks.lend(), self.journal.lend());
+        let (used, work, value) = (&mut self.used.lend()[0], work.0.lend(), &mut self.numbers[0].lend()[0]);
+        match repair {
+            Repair::Declip { threshold } => cathar::declip(samples, marks, journal, used, threshold, work, value),
+            Repair::Decrackle { sensitivity } => {
+                cathar::decrackle(samples, marks, journal, used, sensitivity, work, value)
+            }
+            Repair::Dequantize { bits, strength } => {
+                cathar::dequantize(samples, marks, journal, used, bits, strength, work, value)
+            }
+            Repair::Cosparse { bits, strength, iterations } => {
+                cathar::dequantize_cosparse(samples, marks, journal, used, bits, strength, iterations, work, value)
+            }
+        }
     }
 
     /// The parts that are not what the recording and the value are, or whose guards do not stand.

@@ -1,5 +1,5 @@
 //! The functions of the static library, and what the tests hold them to: Rust's own operations for the
-//! float leaves, a model for the recording, and for a gap's samples the original Rust.
+//! float leaves, a model for the recording, and for the samples that a repair writes the original Rust.
 pub mod cathar;
 pub mod draw;
 pub mod float;
@@ -9,3 +9,5 @@ pub mod original;
 pub mod recording;
 pub mod shapes;
 pub mod tally;
+mod util;
+pub mod whole;

@@ -1,3 +1,4 @@
 //! The original Rust, unchanged and from where it stands: `build.rs` finds it and writes the lines that name
-//! its files. None of it is copied into this package.
+//! its files. None of it is copied into this package. What declip.rs names beside itself has stand-ins: `util.rs`
+//! and the packages in `standin`.
 include!(concat!(env!("OUT_DIR"), "/original.rs"));

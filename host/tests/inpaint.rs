@@ -3,14 +3,13 @@
 //!
 //! `CATHAR_SEED` sets the seed.
 mod inpaint {
-    pub mod count;
     pub mod gaps;
     pub mod lengths;
     pub mod limits;
-    pub mod room;
     pub mod scans;
     pub mod short;
 }
+mod shared;
 
 use cathar_host::draw::{self, Draw};
 use cathar_host::inpaint::{Gap, Scan, MOST_RATE};
@@ -18,12 +17,12 @@ use cathar_host::lent::{Lent, LentWork};
 use cathar_host::original;
 use cathar_host::recording::{Answer, Recording};
 use cathar_host::shapes::Shape;
-use inpaint::count::Count;
 use inpaint::gaps::{self, repair, repair_with, Gaps};
 use inpaint::limits::{self, Faults, LOUD, LOUD_GAP};
-use inpaint::room::{self, Room};
 use inpaint::scans::{self, dropped, near, scan, scan_any, Scans, Settings};
 use inpaint::{lengths, short};
+use shared::count::Count;
+use shared::room::{self, Room};
 
 /// How many gaps are tried: in random short recordings over the alphabet, in short ones of each shape, by
 /// model and longer than 500, and by line; and how many sequences of repairs and undos.
@@ -145,7 +144,7 @@ fn undo(model: &mut Recording, lent: &mut Lent) -> Answer {
 fn repairs() {
     let seed = draw::seed();
     let mut draw = Draw::new(seed);
-    let mut count = Count::new("cathar_inpaint_gap against model and original", gaps::CLASSES);
+    let mut count = Count::new("cathar_inpaint_gap against model and original", &[gaps::CLASSES]);
     count.begin("all recordings of up to 5 samples");
     repair_short(&mut count, &mut draw);
     repair_random(&mut count, &mut draw);
@@ -256,7 +255,7 @@ fn scan_long(count: &mut Scans, draw: &mut Draw) {
 fn scanned() {
     let seed = draw::seed();
     let mut draw = Draw::new(seed);
-    let mut count = Count::new("cathar_inpaint_auto against model and original", scans::CLASSES);
+    let mut count = Count::new("cathar_inpaint_auto against model and original", &[scans::CLASSES]);
     count.begin("all recordings of up to 5 samples");
     short::each(&mut |samples| {
         scan_any(&mut count, &mut draw, samples, scans::USUAL);

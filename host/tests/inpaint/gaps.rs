@@ -1,6 +1,6 @@
 //! One repair of a gap by both sides, and what is counted of it.
-use super::count::{Class, Count};
-use super::room::{self, Room};
+use crate::shared::count::{Class, Count};
+use crate::shared::room::{self, Room};
 use cathar_host::draw::Draw;
 use cathar_host::inpaint::{inpaint_gap, Gap};
 use cathar_host::lent::{Lent, LentWork};

@@ -1,6 +1,6 @@
 //! Gaps of chosen lengths in samples of several shapes, at both ends and in the middle.
 use super::gaps::{repair_with, Gaps};
-use super::room::Room;
+use crate::shared::room::Room;
 use cathar_host::draw::Draw;
 use cathar_host::inpaint::Gap;
 use cathar_host::recording::Answer;

@@ -1,6 +1,6 @@
 //! Calls to which several refusals apply, gaps that are not within the recording, and recordings of the most
 //! samples and of one more.
-use super::room;
+use crate::shared::room;
 use cathar_host::draw::Draw;
 use cathar_host::inpaint::Gap;
 use cathar_host::recording::{entry_words, Recording, MOST_SAMPLES};

@@ -1,6 +1,6 @@
 //! One scan by both sides, and by the original where nothing is refused, and what is counted of it.
-use super::count::{Class, Count};
-use super::room::{self, Room};
+use crate::shared::count::{Class, Count};
+use crate::shared::room::{self, Room};
 use cathar_host::draw::Draw;
 use cathar_host::inpaint::{inpaint_auto, limit, Gap, Scan};
 use cathar_host::lent::{Lent, LentWork};

@@ -1,4 +1,4 @@
-//! A list of the original Rust's answers, which the program `gaplist` runs. The file in the repository is held to
+//! A list of the original Rust's answers, which the program `repairlist` runs. The file in the repository is held to
 //! that. With `CATHAR_WRITE=1` it is written anew.
 //!
 //! Each line is one case. It ends in a newline, and its parts are separated by one space. The first is a
@@ -17,11 +17,23 @@
 //!
 //! with n samples, and then all n samples as the original's `inpaint_auto` leaves them. Every run that
 //! qualifies is repaired. A sample that is not in range is a NaN within the first such run.
+//!
+//! All other lines are repairs over the whole recording, with three words of settings, 0 where there are fewer:
+//!
+//!     d threshold 0 0 n samples.. after..
+//!     c sensitivity 0 0 n samples.. after..
+//!     q bits strength 0 n samples.. after..
+//!     p bits strength iterations n samples.. after..
+//!
+//! with n samples, and then all n samples as the original leaves them: its cubic `declip_with_method`, its
+//! `decrackle`, its `dequantize`, and its `dequantize_cosparse`. Threshold, sensitivity and strength are words of
+//! f32. Each repair is accepted and names a sample.
 use cathar_host::draw::{Draw, SEED};
 use cathar_host::inpaint::{inpaint_auto, inpaint_gap, Gap};
 use cathar_host::original::inpaint as original;
 use cathar_host::recording::{in_range, Answer, Recording};
 use cathar_host::shapes::Shape;
+use cathar_host::whole::{self, floats, needed, Repair};
 use std::env;
 use std::fs;
 use std::path::Path;
@@ -49,9 +61,17 @@ const SCANS: [(Shape, usize, &[usize]); 8] = [
     (Shape::Tone, 120, &[48, 49]),
 ];
 
-fn floats(samples: &[u32]) -> Vec<f32> {
-    samples.iter().map(|word| f32::from_bits(*word)).collect()
-}
+/// How many lines each of the four repairs over the whole recording has.
+const EACH: usize = 10;
+
+/// The shapes of their samples.
+const WHOLE_SHAPES: [Shape; 5] = [Shape::Tone, Shape::Noise, Shape::Steps, Shape::Quiet, Shape::Loud];
+
+/// Their settings, line by line: at the ends of what they are held to, past them and between.
+const SENSITIVITIES: [f32; EACH] = [5.0, 1.0, 10.0, 0.0, 11.0, 2.5, 7.75, f32::INFINITY, 9.5, 3.0];
+const BITS: [u32; EACH] = [8, 4, 0, 12, 16, 24, 32, 6, 10, 5];
+const STRENGTHS: [f32; EACH] = [0.5, 1.0, 0.3, 0.30000004, 0.75, 2.0, 0.1, 0.9, f32::INFINITY, 0.29999998];
+const ITERATIONS: [u32; EACH] = [1, 2, 3, 16, 17, 4, 6, 15, u32::MAX, 5];
 
 fn recording(samples: &[u32]) -> Recording {
     Recording { samples: samples.to_vec(), marks: vec![0; samples.len()], journal: vec![0; 1000], used: 0 }
@@ -118,23 +138,110 @@ fn scan_line(samples: &[u32]) -> String {
     line('s', [samples.len() as u32].into_iter().chain(samples.iter().copied()).chain(after))
 }
 
+/// The letter of a repair, and the words of its settings.
+fn settings(repair: Repair) -> (char, [u32; 3]) {
+    match repair {
+        Repair::Declip { threshold } => ('d', [threshold.to_bits(), 0, 0]),
+        Repair::Decrackle { sensitivity } => ('c', [sensitivity.to_bits(), 0, 0]),
+        Repair::Dequantize { bits, strength } => ('q', [bits, strength.to_bits(), 0]),
+        Repair::Cosparse { bits, strength, iterations } => ('p', [bits, strength.to_bits(), iterations]),
+    }
+}
+
+/// The line of a repair over the whole recording, or nothing where it is refused or names no sample.
+fn whole_line(samples: &[u32], repair: Repair) -> Option<String> {
+    let mut model = recording(samples);
+    let answer = whole::repair(&mut model, repair, &mut vec![0; needed(samples.len())]);
+    if answer.number() != 0 || answer.value() == 0 {
+        return None;
+    }
+    let after: Vec<u32> = repair.original(&floats(samples)).iter().map(|x| x.to_bits()).collect();
+    assert!(model.samples == after, "the original and the model");
+    let (letter, words) = settings(repair);
+    let numbers = words.into_iter().chain([samples.len() as u32]);
+    Some(line(letter, numbers.chain(samples.iter().copied()).chain(after)))
+}
+
+/// One of the four loudest magnitudes of these samples, or one step below it.
+fn threshold(draw: &mut Draw, samples: &[u32]) -> f32 {
+    let mut magnitudes: Vec<u32> = samples.iter().map(|word| word & 0x7fff_ffff).collect();
+    magnitudes.sort_unstable();
+    let loud = magnitudes[samples.len() - 1 - draw.below(4) as usize];
+    f32::from_bits(loud.saturating_sub(draw.below(2) as u32))
+}
+
+/// A repair over the whole recording for one of its lines.
+type Chosen = fn(&mut Draw, &[u32], usize) -> Repair;
+
+/// Each of the four. The last two go through their settings at different paces.
+const WHOLE: [Chosen; 4] = [
+    |draw, samples, _| Repair::Declip { threshold: threshold(draw, samples) },
+    |_, _, line| Repair::Decrackle { sensitivity: SENSITIVITIES[line] },
+    |_, _, line| Repair::Dequantize { bits: BITS[line], strength: STRENGTHS[line] },
+    |_, _, line| Repair::Cosparse {
+        bits: BITS[line],
+        strength: STRENGTHS[3 * line % EACH],
+        iterations: ITERATIONS[line],
+    },
+];
+
+/// The lines of one of the four: samples of 5 to 40 and of every shape.
+fn whole_lines(draw: &mut Draw, chosen: Chosen) -> String {
+    let mut text = String::new();
+    let mut lines = 0;
+    while lines < EACH {
+        let n = 5 + draw.below(36) as usize;
+        let samples = WHOLE_SHAPES[lines % WHOLE_SHAPES.len()].samples(draw, n);
+        let repair = chosen(draw, &samples, lines);
+        if let Some(line) = whole_line(&samples, repair) {
+            text += &line;
+            lines += 1;
+        }
+    }
+    text
+}
+
 fn list() -> String {
     let mut draw = Draw::new(SEED);
     let mut text = gaps(&mut draw);
     for (shape, n, dropouts) in SCANS {
         text += &scan_line(&dropped(&mut draw, shape, n, dropouts));
     }
+    for chosen in WHOLE {
+        text += &whole_lines(&mut draw, chosen);
+    }
     text
+}
+
+/// Whether a line's repair over the whole recording changed a sample.
+fn changes(line: &str) -> bool {
+    let words: Vec<&str> = line.split(' ').skip(5).collect();
+    let (before, after) = words.split_at(words.len() / 2);
+    before != after
+}
+
+/// Holds the lines of each letter to their number, and most repairs over the whole recording to a change.
+fn check_lines(stored: &str) {
+    for (letter, number) in [('g', GAPS), ('s', SCANS.len()), ('d', EACH), ('c', EACH), ('q', EACH), ('p', EACH)] {
+        let lines: Vec<&str> = stored.lines().filter(|line| line.starts_with(letter)).collect();
+        assert_eq!(lines.len(), number, "lines of {letter}");
+        if !['g', 's'].contains(&letter) {
+            let changing = lines.iter().filter(|line| changes(line)).count();
+            println!("{letter}: {changing} of {number} repairs change a sample");
+            assert!(changing > EACH / 2, "most of {letter} change a sample");
+        }
+    }
 }
 
 #[test]
 fn the_list_of_repairs() {
-    let file = Path::new(env!("CARGO_MANIFEST_DIR")).join("../crates/gaplist/stdin");
+    let file = Path::new(env!("CARGO_MANIFEST_DIR")).join("../crates/repairlist/stdin");
     if env::var_os("CATHAR_WRITE").is_some() {
         fs::write(&file, list()).expect("the list is written");
     }
     let stored = fs::read_to_string(&file).expect("the list is in the repository");
     assert!(stored == list(), "{} is not the list that this test makes", file.display());
     assert!(stored.len() < MOST_BYTES, "{} bytes are too many", stored.len());
+    check_lines(&stored);
     println!("the list of repairs: {} lines, each as the original gives it", stored.lines().count());
 }

@@ -22,9 +22,9 @@ pub struct Count<C: 'static> {
 }
 
 impl<C: std::fmt::Debug> Count<C> {
-    /// Nothing counted yet.
-    pub fn new(title: &'static str, classes: &'static [Class<C>]) -> Count<C> {
-        let classes = classes.iter().map(|class| (class, 0)).collect();
+    /// Nothing counted yet. The classes come in several lists.
+    pub fn new(title: &'static str, classes: &[&'static [Class<C>]]) -> Count<C> {
+        let classes = classes.iter().flat_map(|list| list.iter()).map(|class| (class, 0)).collect();
         Count { title, sources: Vec::new(), classes, differences: 0, shown: Vec::new() }
     }
 

@@ -1,0 +1,173 @@
+//! The four repairs over the whole recording as document 01 has them, over the model of the recording. What they
+//! turn away, which samples they name and what they leave is written from the document's text. The new samples
+//! are those that the original Rust computes, from its own files.
+use crate::original::declip::{declip_with_method, DeclipMethod};
+use crate::original::decrackle::decrackle;
+use crate::original::dequant::{dequantize, dequantize_cosparse};
+use crate::recording::{in_range, Answer, Recording};
+use std::ops::Range;
+
+/// The original takes a rate, and none of the four looks at it.
+const RATE: u32 = 48_000;
+
+/// Which of the four, and its settings.
+#[derive(Clone, Copy, Debug, PartialEq)]
+pub enum Repair {
+    Declip { threshold: f32 },
+    Decrackle { sensitivity: f32 },
+    Dequantize { bits: u32, strength: f32 },
+    Cosparse { bits: u32, strength: f32, iterations: u32 },
+}
+
+impl Repair {
+    /// "3 cubic declip, 4 decrackle, 5 dequantize (either form)."
+    pub fn mark(self) -> u8 {
+        match self {
+            Repair::Declip { .. } => 3,
+            Repair::Decrackle { .. } => 4,
+            Repair::Dequantize { .. } | Repair::Cosparse { .. } => 5,
+        }
+    }
+
+    /// Refusal 4 is given where this does not hold: "threshold finite and above 0", "sensitivity not NaN",
+    /// "strength not NaN".
+    pub fn is_allowed(self) -> bool {
+        match self {
+            Repair::Declip { threshold } => threshold.is_finite() && threshold > 0.0,
+            Repair::Decrackle { sensitivity } => !sensitivity.is_nan(),
+            Repair::Dequantize { strength, .. } | Repair::Cosparse { strength, .. } => !strength.is_nan(),
+        }
+    }
+
+    /// The places that it names, ascending.
+    pub fn named(self, samples: &[f32]) -> Vec<usize> {
+        let n = samples.len();
+        match self {
+            Repair::Declip { threshold } => union(&fills(samples, threshold)),
+            Repair::Decrackle { sensitivity } => union(&flagged(samples, sensitivity)),
+            // "Names places 1..n−2 (n at least 3, strength above 0)."
+            Repair::Dequantize { strength, .. } if n >= 3 && strength > 0.0 => (1..n - 1).collect(),
+            // "Names 2..n−3 (n at least 5, strength above 0, iterations above 0)."
+            Repair::Cosparse { strength, iterations, .. } if n >= 5 && strength > 0.0 && iterations > 0 => {
+                (2..n - 2).collect()
+            }
+            Repair::Dequantize { .. } | Repair::Cosparse { .. } => Vec::new(),
+        }
+    }
+
+    /// All samples as the original leaves them, where all are in range and the settings are allowed.
+    pub fn original(self, samples: &[f32]) -> Vec<f32> {
+        match self {
+            Repair::Declip { threshold } => declip_with_method(samples, threshold, DeclipMethod::Cubic),
+            Repair::Decrackle { sensitivity } => decrackle(samples, RATE, sensitivity),
+            Repair::Dequantize { bits, strength } => dequantize(samples, RATE, bits, strength),
+            Repair::Cosparse { bits, strength, iterations } => {
+                dequantize_cosparse(samples, RATE, bits, strength, iterations)
+            }
+        }
+    }
+
+    /// The named places with the words that the original writes there. It writes nowhere else, so that none of
+    /// the samples that change is missing among those named.
+    fn rewritten(self, words: &[u32]) -> Vec<(usize, u32)> {
+        let samples = floats(words);
+        let after = self.original(&samples);
+        assert_eq!(after.len(), words.len(), "the original hands back as many samples");
+        let named: Vec<(usize, u32)> =
+            self.named(&samples).into_iter().map(|place| (place, after[place].to_bits())).collect();
+        let mut only_named = words.to_vec();
+        for (place, word) in &named {
+            only_named[*place] = *word;
+        }
+        let same = after.iter().map(|x| x.to_bits()).eq(only_named);
+        assert!(same, "{self:?} of {samples:?}: the original leaves {after:?}, and named are {named:?}");
+        named
+    }
+}
+
+/// The samples of these words.
+pub fn floats(words: &[u32]) -> Vec<f32> {
+    words.iter().map(|word| f32::from_bits(*word)).collect()
+}
+
+/// How many words of the workspace a repair of n samples needs: each "reads every sample, whatever the settings",
+/// and needs "a workspace of their own of 2n 32-bit words".
+pub fn needed(n: usize) -> usize {
+    2 * n
+}
+
+/// A repair over the whole recording. "The needed part of the workspace is all +0 after an acceptance or after 8
+/// or 9; after any other refusal it keeps its contents."
+pub fn repair(recording: &mut Recording, repair: Repair, work: &mut [u32]) -> Answer {
+    if let Some(number) = recording.refused_by_any_call() {
+        return Answer::Refused(number);
+    }
+    if !repair.is_allowed() {
+        return Answer::Refused(4);
+    }
+    let needed = needed(recording.samples.len());
+    if work.len() < needed {
+        return Answer::Refused(6);
+    }
+    if let Some(place) = recording.samples.iter().position(|word| !in_range(*word)) {
+        return Answer::RefusedAt(7, place);
+    }
+    let named = repair.rewritten(&recording.samples);
+    work[..needed].fill(0);
+    recording.commit(repair.mark(), &named)
+}
+
+/// The places that declip rewrites, for each run that it fills, in their order. Two may overlap. With s and e "a
+/// run is a longest stretch of samples, as they stood when the call began, with magnitude at or above threshold,
+/// from s to before e. a=max(0,s−4), z=min(min(e,n−1)+4, n−1). If z>a+4, places a+1..z−1".
+pub fn fills(samples: &[f32], threshold: f32) -> Vec<Range<usize>> {
+    let clipped: Vec<bool> = samples.iter().map(|x| x.abs() >= threshold).collect();
+    let between = |run: Range<usize>| {
+        let last = samples.len() - 1;
+        let a = run.start.saturating_sub(4);
+        let z = (run.end.min(last) + 4).min(last);
+        (z > a + 4).then(|| a + 1..z)
+    };
+    stretches(&clipped).into_iter().filter_map(between).collect()
+}
+
+/// The runs of places that decrackle flags, in their order. "Sensitivity not NaN, held to 1..10; factor
+/// 12−sensitivity. Under 8 samples: nothing named. Detector 0 at both ends, elsewhere s[i]−0.5*(s[i−1]+s[i+1]).
+/// Floor starts at 1e-6; floor=floor*(1−0.001)+a*0.001, then flag if a>factor*max(floor,1e-6)."
+pub fn flagged(samples: &[f32], sensitivity: f32) -> Vec<Range<usize>> {
+    let n = samples.len();
+    if n < 8 {
+        return Vec::new();
+    }
+    let factor = 12.0 - sensitivity.clamp(1.0, 10.0);
+    let mut floor = 1e-6f32;
+    let mut flags = vec![false; n];
+    for i in 0..n {
+        let at_end = i == 0 || i == n - 1;
+        let detector: f32 = if at_end { 0.0 } else { samples[i] - 0.5 * (samples[i - 1] + samples[i + 1]) };
+        let a = detector.abs();
+        floor = floor * (1.0 - 0.001) + a * 0.001;
+        flags[i] = a > factor * floor.max(1e-6);
+    }
+    stretches(&flags)
+}
+
+/// The longest stretches of places at which it is so, in their order.
+fn stretches(so: &[bool]) -> Vec<Range<usize>> {
+    let mut found: Vec<Range<usize>> = Vec::new();
+    for place in (0..so.len()).filter(|place| so[*place]) {
+        match found.last_mut() {
+            Some(last) if last.end == place => last.end += 1,
+            _ => found.push(place..place + 1),
+        }
+    }
+    found
+}
+
+/// All places of these stretches, each once, ascending.
+fn union(stretches: &[Range<usize>]) -> Vec<usize> {
+    let mut places: Vec<usize> = stretches.iter().cloned().flatten().collect();
+    places.sort_unstable();
+    places.dedup();
+    places
+}

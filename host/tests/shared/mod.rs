@@ -1,0 +1,3 @@
+//! What the tests of the repairs share.
+pub mod count;
+pub mod room;

@@ -1,0 +1,320 @@
+//! The four repairs over the whole recording against the model of the recording and the original Rust: every answer
+//! and value, and every byte of the lent memory, with what stands around each part of it.
+//!
+//! `CATHAR_SEED` sets the seed.
+mod shared;
+mod whole {
+    pub mod calls;
+    pub mod clipped;
+    pub mod crackled;
+    pub mod levels;
+    pub mod limits;
+    pub mod settings;
+    pub mod short;
+}
+
+use cathar_host::draw::{self, Draw};
+use cathar_host::lent::{Lent, LentWords};
+use cathar_host::recording::{entry_words, Answer, Recording};
+use cathar_host::shapes::Shape;
+use cathar_host::whole::{needed, repair as by_model, Repair};
+use shared::count::{Class, Count};
+use shared::room::{self, Room};
+use std::ops::Range;
+use std::panic::catch_unwind;
+use whole::calls::{repair, repair_any, repair_with, words, Call, Calls, COMMON};
+use whole::limits::{self, Case, Faults};
+use whole::{clipped, crackled, levels, settings, short};
+
+/// How many recordings are tried with each repair: random short ones; of each shape, for every small number of
+/// samples, of up to 400 and of some thousand; and how many sequences of repairs and undos.
+const RANDOM: u64 = 12_000;
+const FEW: u64 = 10;
+const SHAPED: u64 = 1_200;
+const LONG: u64 = 7;
+const SEQUENCES: u64 = 2_000;
+
+/// How many recordings are declipped whose last result is rounded above 65,536 or just not.
+const LOUD: usize = 160;
+
+/// Any settings of one repair, for these samples.
+type Settings = fn(&mut Draw, &[u32]) -> Repair;
+
+/// All short recordings, random ones, ones of each shape and long ones, each with any settings.
+fn repair_usual(count: &mut Calls, draw: &mut Draw, settings: Settings) {
+    for (source, which) in [
+        ("all recordings of up to 5 samples, 8 words", short::ALL_WORDS),
+        ("all of 6 samples, 5 words", short::FIVE_WORDS),
+        ("all of 7 to 9 samples, 3 words", short::THREE_WORDS),
+    ] {
+        count.begin(source);
+        short::each(which, &mut |samples| {
+            let how = settings(draw, samples);
+            repair_any(count, draw, samples, how);
+        });
+    }
+    count.begin("random ones of 7 to 60 samples");
+    for _ in 0..RANDOM {
+        let samples = short::random(draw);
+        let how = settings(draw, &samples);
+        repair_any(count, draw, &samples, how);
+    }
+    count.begin("each shape, every number of samples to 20");
+    for n in 0..21 {
+        repair_shapes(count, draw, settings, FEW, n..n + 1);
+    }
+    count.begin("each shape, 6 to 400 samples");
+    repair_shapes(count, draw, settings, SHAPED, 6..401);
+    count.begin("each shape, 1,000 to 4,000 samples");
+    repair_shapes(count, draw, settings, LONG, 1_000..4_001);
+}
+
+/// So many recordings of each shape.
+fn repair_shapes(count: &mut Calls, draw: &mut Draw, settings: Settings, each: u64, sizes: Range<u64>) {
+    for shape in Shape::ALL {
+        for _ in 0..each {
+            let n = sizes.start + draw.below(sizes.end - sizes.start);
+            let samples = shape.samples(draw, n as usize);
+            let how = settings(draw, &samples);
+            repair_any(count, draw, &samples, how);
+        }
+    }
+}
+
+/// Calls to which several refusals apply, every choice of them, and recordings of the most samples.
+fn repair_refused(count: &mut Calls, draw: &mut Draw, case: &Case) {
+    count.begin("several refusals apply");
+    for faults in Faults::each() {
+        if let Some((mut model, how, work)) = faults.made(draw, case) {
+            let mut lent = Lent::new(&model);
+            let answer = repair(count, &mut model, &mut lent, how, work);
+            assert_eq!(answer.number(), faults.answer(), "the lowest of those that apply to {how:?}");
+        }
+    }
+    count.begin("beside the most samples");
+    limits::large(draw, case, &mut |mut model, how, work| {
+        let mut lent = Lent::new(&model);
+        repair(count, &mut model, &mut lent, how, work);
+    });
+}
+
+#[test]
+fn declips() {
+    let seed = draw::seed();
+    let mut draw = Draw::new(seed);
+    let mut count = Count::new("cathar_declip against model and original", &[COMMON, clipped::CLASSES]);
+    repair_usual(&mut count, &mut draw, settings::declip);
+    count.begin("every choice of clipped samples, of 6 to 13");
+    clipped::each(&mut draw, &mut |draw, samples, how| {
+        repair_any(&mut count, draw, samples, how);
+    });
+    count.begin("of 8,196 samples and more");
+    for more in 0..LOUD {
+        let samples = clipped::loud(&mut draw, clipped::FEWEST_LOUD + more);
+        let threshold = [1.0, 2.0][more % 2];
+        repair_with(&mut count, &mut draw, &samples, Repair::Declip { threshold }, [Room::Exact; 2]);
+    }
+    count.begin("thresholds that are not allowed");
+    for threshold in settings::NO_THRESHOLDS {
+        for n in 0..20 {
+            let samples = Shape::Words.samples(&mut draw, n);
+            let answer = repair_any(&mut count, &mut draw, &samples, Repair::Declip { threshold });
+            assert_eq!(answer, Answer::Refused(4), "a threshold of {threshold}");
+        }
+    }
+    let case = limits::declip(&mut draw);
+    repair_refused(&mut count, &mut draw, &case);
+    count.close(seed);
+}
+
+/// Every sensitivity on which something turns, on samples with clicks of every magnitude.
+fn decrackle_clicked(count: &mut Calls, draw: &mut Draw) {
+    for shape in Shape::ALL {
+        for sensitivity in settings::SENSITIVITIES.into_iter().chain([f32::NAN]) {
+            for n in [7, 8, 9, 30, 100, 300, 1_000] {
+                let samples = shape.samples(draw, n);
+                let samples = crackled::clicked(draw, samples);
+                repair_any(count, draw, &samples, Repair::Decrackle { sensitivity });
+            }
+        }
+    }
+}
+
+#[test]
+fn decrackles() {
+    let seed = draw::seed();
+    let mut draw = Draw::new(seed);
+    let mut count = Count::new("cathar_decrackle against model and original", &[COMMON, crackled::CLASSES]);
+    repair_usual(&mut count, &mut draw, settings::decrackle);
+    count.begin("every choice of flagged samples, of 7 to 14");
+    crackled::each(&mut draw, &mut |draw, samples| {
+        let how = settings::decrackle(draw, samples);
+        repair_any(&mut count, draw, samples, how);
+    });
+    count.begin("every sensitivity, on samples with clicks");
+    decrackle_clicked(&mut count, &mut draw);
+    repair_refused(&mut count, &mut draw, &limits::decrackle());
+    count.close(seed);
+}
+
+#[test]
+fn dequantizes() {
+    let seed = draw::seed();
+    let mut draw = Draw::new(seed);
+    let classes = [COMMON, levels::BOTH, levels::CLASSES];
+    let mut count = Count::new("cathar_dequantize against model and original", &classes);
+    repair_usual(&mut count, &mut draw, settings::dequantize);
+    count.begin("every number of bits and every strength");
+    levels::each(&mut draw, &mut |draw, samples, bits, strength| {
+        repair_any(&mut count, draw, samples, Repair::Dequantize { bits, strength });
+    });
+    repair_refused(&mut count, &mut draw, &limits::dequantize());
+    count.close(seed);
+}
+
+#[test]
+fn cosparse() {
+    let seed = draw::seed();
+    let mut draw = Draw::new(seed);
+    let classes = [COMMON, levels::BOTH, levels::COSPARSE];
+    let mut count = Count::new("cathar_dequantize_cosparse against model and original", &classes);
+    repair_usual(&mut count, &mut draw, settings::cosparse);
+    count.begin("every number of bits and every strength");
+    levels::each(&mut draw, &mut |draw, samples, bits, strength| {
+        let iterations = settings::ITERATIONS[draw.below(settings::ITERATIONS.len() as u64) as usize];
+        repair_any(&mut count, draw, samples, Repair::Cosparse { bits, strength, iterations });
+    });
+    repair_refused(&mut count, &mut draw, &limits::cosparse());
+    count.close(seed);
+}
+
+/// What the repairs among undos have to be.
+const AMONG_UNDOS: &[Class<Call>] = &[
+    Class { name: "declip", least: 500, holds: |c| c.names() && c.repair.mark() == 3 },
+    Class { name: "decrackle", least: 500, holds: |c| c.names() && c.repair.mark() == 4 },
+    Class { name: "dequantize, either form", least: 1_000, holds: |c| c.names() && c.repair.mark() == 5 },
+    Class { name: "answered 4", least: 100, holds: |c| c.number() == 4 },
+    Class { name: "answered 6", least: 100, holds: |c| c.number() == 6 },
+    Class { name: "answered 8", least: 10, holds: |c| c.number() == 8 },
+    Class { name: "answered 9", least: 100, holds: |c| c.number() == 9 },
+];
+
+/// Repairs and undos of one recording, and at the end undos until there is nothing to take back: how many. Once the
+/// two sides have gone apart, there is no more to compare.
+fn repair_and_undo(count: &mut Calls, draw: &mut Draw) -> u64 {
+    let n = 6 + draw.below(150) as usize;
+    let samples = Shape::ALL[draw.below(9) as usize].samples(draw, n);
+    let free = entry_words(n) * (1 + draw.below(6) as usize);
+    let mut model = room::recording(draw, samples, free);
+    assert_eq!(model.open(), Answer::Accepted(0));
+    let opened = model.clone();
+    let mut lent = Lent::new(&model);
+    for _ in 0..2 + draw.below(10) {
+        if count.differs() {
+            return 0;
+        }
+        if draw.below(5) == 0 {
+            undo(&mut model, &mut lent);
+        } else {
+            let all = [settings::declip, settings::decrackle, settings::dequantize, settings::cosparse];
+            let how = all[draw.below(4) as usize](draw, &model.samples);
+            let length = Room::any(draw).of(draw, needed(n));
+            let work = words(draw, length);
+            repair(count, &mut model, &mut lent, how, work);
+        }
+    }
+    let mut undone = 0;
+    while !count.differs() && undo(&mut model, &mut lent).number() == 0 {
+        undone += 1;
+    }
+    assert!(count.differs() || model == opened, "undone to the raw recording");
+    undone
+}
+
+fn undo(model: &mut Recording, lent: &mut Lent) -> Answer {
+    let answer = model.undo();
+    assert_eq!((lent.undo(), lent.wrong(model, answer.value())), (answer.number(), vec![]), "undo among repairs");
+    answer
+}
+
+#[test]
+fn undone() {
+    let seed = draw::seed();
+    let mut draw = Draw::new(seed);
+    let mut count = Count::new("the four among undos, against model and original", &[AMONG_UNDOS]);
+    count.begin("repairs");
+    let undone: u64 = (0..SEQUENCES).map(|_| repair_and_undo(&mut count, &mut draw)).sum();
+    count.close(seed);
+    println!("  undone to the raw recordings: {undone} repairs of {SEQUENCES} sequences");
+    assert!(undone >= SEQUENCES, "fewer undone than there are sequences");
+}
+
+/// The library repairs an opened recording of these samples with just enough room. What it leaves: the samples, and
+/// the places that it names, each of which has the repair's mark.
+fn repaired(samples: &[f32], how: Repair, m: usize) -> (Vec<f32>, Vec<usize>) {
+    let n = samples.len();
+    let words = samples.iter().map(|x| x.to_bits()).collect();
+    let mut model = Recording { samples: words, marks: vec![0; n], journal: vec![0; entry_words(m)], used: 0 };
+    let mut lent = Lent::new(&model);
+    let mut work = vec![u32::MAX; needed(n)];
+    let mut lent_work = LentWords::new(&work);
+    let number = lent.repair(how, &mut lent_work);
+    assert_eq!(by_model(&mut model, how, &mut work), Answer::Accepted(m));
+    assert_eq!((number, lent.wrong(&model, m), lent_work.holds(&work)), (0, vec![], true));
+    let named: Vec<usize> = (0..n).filter(|place| model.marks[*place] == how.mark()).collect();
+    assert_eq!(named.len(), m);
+    (cathar_host::whole::floats(&model.samples), named)
+}
+
+/// The document's sums.
+#[test]
+fn sums() {
+    let how = Repair::Dequantize { bits: 4, strength: 1.0 };
+    let (samples, _) = repaired(&[0.0, 0.0, 0.125, 0.0, 0.0], how, 3);
+    assert_eq!(samples, [0.0, 0.0625, 0.0625, 0.03125, 0.0]);
+    let (samples, named) =
+        repaired(&[0.0, 0.0, 0.0, 0.0, 1.0, 0.0, 0.0, 0.0, 0.5], Repair::Declip { threshold: 1.0 }, 7);
+    let of_1024: Vec<f32> = samples.iter().map(|x| x * 1024.0).collect();
+    assert_eq!(of_1024, [0.0, 22.0, 80.0, 162.0, 256.0, 350.0, 432.0, 490.0, 512.0]);
+    assert_eq!(named, [1, 2, 3, 4, 5, 6, 7]);
+    let (samples, _) = repaired(&[0.0, 1.0, 0.0, 0.0], Repair::Declip { threshold: 1.0 }, 0);
+    assert_eq!(samples, [0.0, 1.0, 0.0, 0.0]);
+    let mut one = [0.0; 9];
+    one[4] = 1.0;
+    let (samples, named) = repaired(&one, Repair::Decrackle { sensitivity: 10.0 }, 3);
+    assert_eq!((samples, named), (vec![0.0; 9], vec![3, 4, 5]));
+}
+
+/// Both sides repair these samples, with just enough room. The answer is the model's.
+fn answered(count: &mut Calls, samples: &[f32], how: Repair) -> Answer {
+    let words: Vec<u32> = samples.iter().map(|x| x.to_bits()).collect();
+    repair_with(count, &mut Draw::new(1), &words, how, [Room::Exact; 2])
+}
+
+/// The fewest samples of which the original makes something where the rules give 4 or 7: at a threshold of 0 it fills
+/// one run of all samples, for a strength that is a NaN it writes NaN, and for a sample that is one it panics.
+#[test]
+fn where_the_original_goes_on() {
+    let mut count: Calls = Count::new("where the original goes on", &[]);
+    count.begin("refused by the rules");
+    let (samples, how) = ([1.0, 0.0, 0.0, 0.0, 0.0, 0.0], Repair::Declip { threshold: 0.0 });
+    assert!((0..6).all(|n| how.original(&samples[..n]) == samples[..n]) && how.original(&samples) != samples);
+    assert_eq!(answered(&mut count, &samples, how), Answer::Refused(4));
+    let forms = |strength| {
+        let cosparse = Repair::Cosparse { bits: 4, strength, iterations: 1 };
+        [(3, Repair::Dequantize { bits: 4, strength }), (5, cosparse)]
+    };
+    for (n, how) in forms(f32::NAN) {
+        let samples = vec![0.0; n];
+        assert!(how.original(&samples)[n / 2].is_nan());
+        assert_eq!(answered(&mut count, &samples, how), Answer::Refused(4));
+    }
+    for (n, how) in forms(1.0) {
+        let mut samples = vec![0.0; n];
+        samples[n / 2] = f32::NAN;
+        println!("the original panics at {how:?} of {samples:?}, as this test expects:");
+        assert!(catch_unwind(|| how.original(&samples)).is_err());
+        assert_eq!(answered(&mut count, &samples, how), Answer::RefusedAt(7, n / 2));
+    }
+    count.close(1);
+}

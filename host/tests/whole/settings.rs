@@ -1,0 +1,145 @@
+//! The settings of each repair: those on which something turns, and any.
+use cathar_host::draw::Draw;
+use cathar_host::whole::Repair;
+
+/// Thresholds that are not allowed.
+pub const NO_THRESHOLDS: [f32; 8] = [0.0, -0.0, -1.0, -1e-45, f32::MIN, f32::INFINITY, f32::NEG_INFINITY, f32::NAN];
+
+/// Thresholds that are next to nothing, and those that only the loudest samples reach, or none.
+const TINY: [f32; 3] = [1e-45, f32::MIN_POSITIVE, 1e-30];
+const HUGE: [f32; 4] = [65536.0, 65536.01, 1e30, f32::MAX];
+
+/// Sensitivities at the ends 1 and 10, next to them, and past them.
+pub const SENSITIVITIES: [f32; 16] = [
+    1.0,
+    10.0,
+    0.99999994,
+    1.0000001,
+    9.999999,
+    10.000001,
+    0.0,
+    -0.0,
+    0.5,
+    -5.0,
+    11.0,
+    12.0,
+    13.0,
+    1e30,
+    f32::INFINITY,
+    f32::NEG_INFINITY,
+];
+
+/// The strength above which there is a second pass, and the next ones below and above it.
+pub const THREE_TENTHS: f32 = 0.3;
+pub const BELOW_THREE_TENTHS: f32 = 0.29999998;
+pub const ABOVE_THREE_TENTHS: f32 = 0.30000004;
+
+/// Strengths at the ends 0 and 1, next to them and past them, and at 0.3.
+pub const STRENGTHS: [f32; 20] = [
+    0.0,
+    -0.0,
+    1e-45,
+    -1e-45,
+    f32::MIN_POSITIVE,
+    -0.5,
+    -2.0,
+    f32::NEG_INFINITY,
+    BELOW_THREE_TENTHS,
+    THREE_TENTHS,
+    ABOVE_THREE_TENTHS,
+    0.25,
+    0.5,
+    0.75,
+    0.99999994,
+    1.0,
+    1.0000001,
+    2.0,
+    f32::MAX,
+    f32::INFINITY,
+];
+
+/// Every number of bits from 0 to 32, and the largest.
+pub fn each_bits() -> impl Iterator<Item = u32> {
+    (0..=32).chain([u32::MAX])
+}
+
+/// Iterations: few, and those around the most that are run.
+pub const ITERATIONS: [u32; 9] = [0, 1, 2, 3, 6, 15, 16, 17, u32::MAX];
+const FEW: u64 = 5;
+
+/// How often a setting is not allowed, or is one of those on which something turns: once in so many times.
+const RARELY: u64 = 32;
+const OFTEN: u64 = 3;
+
+fn one_of(draw: &mut Draw, of: &[f32]) -> f32 {
+    of[draw.below(of.len() as u64) as usize]
+}
+
+/// A number above 0 and up to 1.
+fn part(draw: &mut Draw) -> f32 {
+    (1 + draw.digits(24)) as f32 / 16_777_216.0
+}
+
+/// The magnitude of any of these samples that is in range and no zero, and at times the largest of several; or 0.5.
+fn magnitude(draw: &mut Draw, samples: &[u32]) -> f32 {
+    let mut found: f32 = 0.0;
+    for _ in 0..1 + draw.below(6) {
+        if !samples.is_empty() {
+            let x = f32::from_bits(samples[draw.below(samples.len() as u64) as usize]).abs();
+            found = if x <= 65536.0 { found.max(x) } else { found };
+        }
+    }
+    if found > 0.0 {
+        found
+    } else {
+        0.5
+    }
+}
+
+/// The threshold is mostly a sample's magnitude, or one step above or below it.
+pub fn declip(draw: &mut Draw, samples: &[u32]) -> Repair {
+    let threshold = match draw.below(RARELY) {
+        0 => one_of(draw, &NO_THRESHOLDS),
+        1 => one_of(draw, &TINY),
+        2 => one_of(draw, &HUGE),
+        _ => f32::from_bits(magnitude(draw, samples).to_bits() + draw.below(3) as u32 - 1),
+    };
+    Repair::Declip { threshold }
+}
+
+pub fn decrackle(draw: &mut Draw, _samples: &[u32]) -> Repair {
+    let sensitivity = match (draw.below(RARELY), draw.below(OFTEN)) {
+        (0, _) => f32::NAN,
+        (_, 0) => one_of(draw, &SENSITIVITIES),
+        _ => 1.0 + 9.0 * part(draw),
+    };
+    Repair::Decrackle { sensitivity }
+}
+
+fn strength(draw: &mut Draw) -> f32 {
+    match (draw.below(RARELY), draw.below(OFTEN)) {
+        (0, _) => f32::NAN,
+        (_, 0) => one_of(draw, &STRENGTHS),
+        _ => part(draw),
+    }
+}
+
+/// Any number of bits, low ones likelier: with many bits most samples stay.
+fn bits(draw: &mut Draw) -> u32 {
+    match draw.below(3) {
+        0 => draw.below(33) as u32,
+        _ => 2 + draw.below(10) as u32,
+    }
+}
+
+pub fn dequantize(draw: &mut Draw, _samples: &[u32]) -> Repair {
+    Repair::Dequantize { bits: bits(draw), strength: strength(draw) }
+}
+
+/// The iterations are mostly few where there are many samples.
+pub fn cosparse(draw: &mut Draw, samples: &[u32]) -> Repair {
+    let few = samples.len() > 60 && draw.below(8) != 0;
+    let choices = if few { FEW } else { ITERATIONS.len() as u64 };
+    let iterations = ITERATIONS[draw.below(choices) as usize];
+    Repair::Cosparse { bits: bits(draw), strength: strength(draw), iterations }
+}
