@@ -8,11 +8,11 @@ use native.Mathlib.Omega.{arith}
 use native.Mathlib.Nat.{sub-zero}
 use borrow.Author.Tests.{lt-ltb, le-ltb}
 use lib.ListN.{length, getD, set}
-use lib.Ieee.{Float, nan, inf, fin, binary32, ofBits, toBits, lt, le, div}
+use lib.Ieee.{Float, nan, inf, fin, binary32, ofBits, toBits, lt, le}
 use lib.Ieee.Scale.{finite}
 use Rattle.leaves.specs.Arithmetic.{_+₃₂_, _-₃₂_, _*₃₂_, _/₃₂_, nought, float, count}
 use Rattle.leaves.specs.Floats.{magnitude}
-use Rattle.leaves.proofs.Literals.{nought-word, one-word, two-word, three-word}
+use Rattle.leaves.proofs.Literals.{nought-word, one-word, two-word, three-word, unbounded, plus-infinity}
 use Rattle.recording.specs.Recording.{State, cubicDeclip}
 use Rattle.recording.specs.Inner.{flags}
 use Rattle.redraw.specs.Whole.{Drawn, drawn, sample, untouched, wholeRepair}
@@ -23,13 +23,6 @@ use Rattle.redraw.proofs.Runs.{over-one, over-none, over-all}
 use Rattle.declip.specs.Declip.{allowed, clipped, clippedAt, to, cubicAt, cubicFrom, cubicFill, bridged, declipped, declipRepair}
 
 -- ---- The threshold
-
-abbrev unbounded : Float
-unbounded = div binary32 (ofBits binary32 1065353216) (ofBits binary32 0)
-
-plus-infinity : unbounded ≡ inf false
-unfolding div ofBits
-plus-infinity = refl
 
 -- above 0, all but plus infinity is finite
 above-nought : (x : Float) → lt nought x ≡ true → lt x (inf false) ≡ allowed x

@@ -1,3 +1,2 @@
--- The repair of each form of dequantize is lawful.
-pub mod Lawful
-pub mod LawfulCosparse
+-- What follows from the rules of dequantize.
+pub mod Consequences

@@ -1,6 +1,7 @@
--- The f32 that a literal of the code is, by its word, as the rules have it. Assumes nothing.
+-- The f32 that a literal of the code is, by its word, as the rules have it, and plus infinity. Assumes nothing.
 use mathlib.Core.Path.{_≡_, refl}
-use lib.Ieee.{binary32, ofBits, ofInt}
+use mathlib.Core.Bool.{false}
+use lib.Ieee.{Float, inf, binary32, ofBits, ofInt, div}
 use Rattle.leaves.specs.Arithmetic.{nought, one, half, count}
 
 pub nought-word : ofBits binary32 0 ≡ nought
@@ -22,3 +23,11 @@ two-word = refl
 pub three-word : ofBits binary32 1077936128 ≡ count 3
 unfolding ofBits count ofInt
 three-word = refl
+
+-- 1.0 / 0.0, as the code has it
+abbrev pub unbounded : Float
+unbounded = div binary32 (ofBits binary32 1065353216) (ofBits binary32 0)
+
+pub plus-infinity : unbounded ≡ inf false
+unfolding div ofBits
+plus-infinity = refl

@@ -7,13 +7,12 @@ use mathlib.Core.Logic.{inl, inr}
 use Prim.Native.Nat.{ℕ, _+_, _-_, _≤_}
 use native.Mathlib.Omega.{arith}
 use lib.Dec.{ltb, eqb}
-use lib.ListN.{length, take, drop, replicate, length-take, length-replicate}
+use lib.ListN.{length, drop, replicate, length-replicate}
 use lib.Seq.{sets-eq}
 use Rattle.recording.specs.Recording.{State, Ended, ended, differ, tooMany, overUsed, fitting, cleared, clears}
 use Rattle.recording.specs.Recording.{workAfter, unlessRead}
 use Rattle.recording.specs.Recording.{Placed, entrySize, entered, ranged, Plan, change, span, picked, carried, performed}
 use Rattle.recording.specs.History.{Ascending, Keeps}
-use Rattle.recording.specs.Inner.{flags, pickedBy}
 use Rattle.recording.specs.declared.Reason.{Reason}
 use Rattle.recording.specs.declared.Answer.{Answer}
 use Rattle.recording.specs.declared.Answer.the-variants.{Done, Refused}
@@ -123,11 +122,6 @@ picked-ascends n least i (b ∷ bs) [] h k = tt
 picked-ascends n least i (b ∷ bs) (w ∷ ws) h k =
     one-or-none n least b _ _ (h, omega arith, picked-ascends n (i + 1) (i + 1) bs ws (omega arith) (omega arith))
     (picked-ascends n least (i + 1) bs ws (omega arith) (omega arith))
-
-pub pickedBy-ascends : (work : List ℕ) (n : ℕ) → Ascending n 0 (pickedBy work n)
-unfolding pickedBy
-pickedBy-ascends work n =
-    picked-ascends n 0 0 (flags (take n (drop n work))) (take n work) (omega arith) (simp length-take (omega arith))
 
 -- a refusal decides between plans that keep to the law
 pub unless-kept : (n : ℕ) (a : Answer) (p : Plan) → Keeps n p → Keeps n (unlessRead a p)

@@ -6,7 +6,7 @@ use Prim.Native.Nat.{ℕ, zero, suc, _+_, _≤_, _<_}
 use native.Mathlib.Omega.{arith}
 use lib.Dec.{eqb}
 use lib.ListN.{length, getD, set, take, drop, replicate, length-replicate, List·getD-map}
-use lib.Seq.{sets, length-sets, take-set-le, take-set-lt, drop-set-lt, drop-set-add, getD-take, getD-drop, drop-drop}
+use lib.Seq.{sets, take-set-le, take-set-lt, drop-set-lt, drop-set-add, getD-take, getD-drop, drop-drop}
 use lib.Seq.{length-take-le}
 use Rattle.leaves.proofs.Parts.{take-sets, drop-sets, part-of-sets, part-length}
 use Rattle.recording.specs.Inner.{flags}
@@ -124,7 +124,3 @@ laid-out samples w v u room ev count eu = record { holds = held; keeps = kept }
         let many : length zeros ≡ n = length-replicate n 0 in
         ap (λ (l : List ℕ). restOf n l) eu ∙ drop-sets v zeros n (n + n) (omega arith)
         ∙ ap (λ (l : List ℕ). restOf n l) ev ∙ drop-sets w samples 0 (n + n) (omega arith)
-
--- a run of stores leaves as many words
-pub sets-count : (w v u xs : List ℕ) (a : ℕ) → u ≡ sets v a xs → length v ≡ length w → length u ≡ length w
-sets-count w v u xs a e count = ap length e ∙ length-sets v a xs ∙ count

@@ -15,6 +15,7 @@ use lib.Ieee.{Float, nan, inf, fin, binary32, up, down, neg, div, mul, lt, eq, n
 use lib.Ieee.Fits.{down-pos}
 use lib.Ieee.Scale.{finite}
 use borrow.Author.Tests.{lt-ltb, le-ltb, le-leb, lt-leb, eq-eqb, ne-eqb, ltb-true, ltb-false, leb-true}
+use Rattle.leaves.proofs.Literals.{unbounded, plus-infinity}
 use Rattle.leaves.specs.Arithmetic.{nought, one, float, count}
 use Rattle.leaves.specs.Floats.{larger}
 use Rattle.leaves.proofs.words.Laws.{nan-test, one-nan}
@@ -98,14 +99,6 @@ module _ (n most start len : ℕ) where
 
 pub rate-past : (rate : ℕ) (ms : Float) → 16777216 < rate → false ≡ allowed rate ms
 rate-past rate ms h = rw (lt-leb rate 16777216 h) refl
-
--- 1.0 / 0.0 as the code has it
-abbrev pub unbounded : Float
-unbounded = div binary32 (ofBits binary32 1065353216) (ofBits binary32 0)
-
-plus-infinity : unbounded ≡ inf false
-unfolding div ofBits
-plus-infinity = refl
 
 -- between the infinities lies all but the infinities and the NaN
 between : (x : Float) → lt x (inf false) ≡ true → lt (inf true) x ≡ finite x

@@ -8,7 +8,7 @@ use native.Mathlib.Nat.{pow-suc, mul-pos, zero-lt-suc}
 use lib.Dec.{T, eqb→eq}
 use lib.Pow.{pow-pos}
 use lib.IntN.{ℤ, pos, negsuc}
-use lib.Ieee.{Float, nan, inf, fin, Format, binary32, binary64, up, down, neg, lt, eq, ne, isNan, fits, ofBits}
+use lib.Ieee.{Float, nan, inf, fin, Format, binary32, binary64, up, down, neg, lt, eq, ne, fits, ofBits}
 use lib.Ieee.Fits.{up-pos}
 use borrow.Author.Tests.{lt-ltb, le-ltb, eq-eqb, ne-eqb}
 use Rattle.leaves.specs.Floats.{magnitude, larger, smaller, held}
@@ -119,13 +119,3 @@ smaller-tests a b p q = rw (nan-test, p, q)
 pub held-tests : {p q : Bool} (lo hi x : Float) → lt x lo ≡ p → lt hi x ≡ q → cond p lo (cond q hi x) ≡ held lo hi x
 unfolding held
 held-tests lo hi x p q = rw (p, q)
-
--- The larger of two is no NaN where the second is none.
-pub larger-number : (a b : Float) → isNan b ≡ false → isNan (larger a b) ≡ false
-unfolding larger
-larger-number a b h = go (isNan a) (lt a b) refl
-  where
-    go : (n l : Bool) → isNan a ≡ n → isNan (cond n b (cond l b a)) ≡ false
-    go true l e = h
-    go false true e = h
-    go false false e = e

@@ -1,14 +1,14 @@
 -- Words and floats: which words are a NaN's, what `x != x` tells, the two comparisons of a sample in range, and a
--- word's way to its float and back. A law over a format serves both widths. Assumes nothing.
+-- count. A law over a format serves both widths. Assumes nothing.
 use mathlib.Core.Path.{_≡_, refl, sym, ap, _∙_}
 use mathlib.Core.Bool.{Bool, true, false, not, _&&_, and-true, false≢true}
-use Prim.Native.Nat.{ℕ, _+_, _*_, _%_, _^_, _<_, _≤_}
+use Prim.Native.Nat.{ℕ, _+_, _*_, _%_, _<_, _≤_}
 use native.Mathlib.Omega.{arith}
 use lib.Dec.{T, eqb}
 use lib.Ieee.{Float, nan, inf, fin, Format, binary32, binary64, up, down, level, ones, hid, top, neg, div, le, eq, ne}
-use lib.Ieee.{isNan, fits, nanBits, ofBits, toBits, ofInt}
+use lib.Ieee.{isNan, nanBits, ofBits, toBits, ofInt}
 use lib.IntN.{pos}
-use lib.Ieee.Bits.{nanBits-is, nanBits-above, toBits-ofBits, toBits-lt}
+use lib.Ieee.Bits.{nanBits-is, nanBits-above}
 use lib.Ieee.Fits.{down-pos}
 use lib.Ieee.Scale.{finite}
 use borrow.Author.Tests.{lt-ltb, le-ltb, eqb-true, eqb-false, eq-eqb, ne-eqb}
@@ -98,28 +98,6 @@ pub sample-tests : {p q : Bool} (w : ℕ) (x : Float) → x ≡ ofBits binary32 
     le (neg (ofBits binary32 0x4780_0000)) x ≡ p → le x (ofBits binary32 0x4780_0000) ≡ q → p && q ≡ inRange w
 unfolding inRange
 sample-tests w x e p q = rw (← p, ← q, e) (two-tests (ofBits binary32 w))
-
--- A finite float is no NaN.
-finite-number : (x : Float) (t : Bool) → finite x && t ≡ true → isNan x ≡ false
-unfolding isNan
-finite-number nan t e = absurd (false≢true e)
-finite-number (inf s) t e = refl
-finite-number (fin s m d) t e = refl
-
--- A sample in range is no NaN.
-pub in-range-number : (w : ℕ) → inRange w ≡ true → isNan (ofBits binary32 w) ≡ false
-unfolding inRange
-in-range-number w h = finite-number (ofBits binary32 w) _ h
-
--- ---- a word's way to its float and back
-
--- A word that is no NaN's comes back from its float.
-pub word-back : (w : ℕ) → w < 2 ^ 32 → isNan (ofBits binary32 w) ≡ false → toBits binary32 (ofBits binary32 w) ≡ w
-word-back w h e = toBits-ofBits binary32 w h (rw e tt)
-
--- The word of an f32 fits 32 bits.
-pub word-fits : (x : Float) → T (fits binary32 x) → toBits binary32 x < 2 ^ 32
-word-fits x h = toBits-lt binary32 x h
 
 -- a count, as the library rounds it
 pub count-is : (n : ℕ) (x : Float) → x ≡ ofInt binary32 (pos n) → x ≡ count n

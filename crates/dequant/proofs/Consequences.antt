@@ -1,4 +1,5 @@
--- The repair of `dequantize` is lawful: each pass has a word for each sample. Assumes nothing.
+-- What follows from the rules of dequantize: the repair of each form is lawful, since each has a word for each sample. Assumes
+-- nothing.
 use mathlib.Core.Path.{_≡_, refl, _∙_}
 use mathlib.Core.List.{List}
 use Prim.Native.Nat.{ℕ, zero, suc, _+_, _-_}
@@ -9,8 +10,9 @@ use Rattle.recording.proofs.Picks.{picks}
 use Rattle.redraw.specs.Whole.{Drawn, sample, store}
 use Rattle.redraw.proofs.Ending.{whole-lawful}
 use Rattle.dequant.specs.Dequant.{allowed, strengthOf, stepOf, firstAt, firstPass, secondAt, secondPass, wide, widened}
-use Rattle.dequant.specs.Dequant.{acts, dequantized, dequantizePlan}
-use Rattle.dequant.specs.Consequences.{DequantizeIsLawful}
+use Rattle.dequant.specs.Dequant.{acts, dequantized, dequantizePlan, cosparse, cosparsePlan}
+use Rattle.dequant.specs.Consequences.{DequantizeIsLawful, CosparseIsLawful}
+use Rattle.dequant.proofs.cosparse.Laws.{length-cosparse}
 
 module _ (step strength : Float) where
   first-count : (i left : ℕ) (out : List ℕ) → length (firstPass step strength i left out) ≡ length out
@@ -41,3 +43,8 @@ pub dequantize-lawful : DequantizeIsLawful
 unfolding dequantizePlan
 dequantize-lawful bits strength room =
     whole-lawful (allowed strength) room recording.dequantize (dequantized bits strength) refl (dequantized-count bits strength)
+
+pub cosparse-lawful : CosparseIsLawful
+unfolding cosparsePlan
+cosparse-lawful bits strength iterations room =
+    whole-lawful (allowed strength) room recording.dequantize (cosparse bits strength iterations) refl (length-cosparse bits strength iterations)
