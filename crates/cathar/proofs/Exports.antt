@@ -1,25 +1,25 @@
--- An exported function, from what the call under it ensures: `ended a s` is the rule's end of the call, and the result is the
--- number of the answer a. Assumes nothing.
+-- An exported function, from what the call under it ensures: `ended a s` is the rule's end of the call, `left` the workspace after
+-- it, and the result and what `value` points to are number and value of the answer a. Assumes nothing.
 use Prim.Native.Nat.{ℕ}
-use mathlib.Core.Path.{_≡_, ap, _∙_}
-use mathlib.Core.List.{List}
+use mathlib.Core.Path.{_≡_, refl}
+use mathlib.Core.List.{List, [], _∷_}
 use Rattle.recording.specs.Answers.{number, value}
 use Rattle.recording.specs.Recording.{State, Ended, ended, workAfter}
 use Rattle.recording.specs.declared.Answer.{Answer}
-use Rattle.cathar.specs.Exports.{Tells, Gives}
+use Rattle.cathar.specs.Calls.{Work, none, outcome, told}
 
-pub tells : (call : Ended) (a : Answer) (s : State) (result : ℕ) → ended a s ≡ call → result ≡ number a → Tells call result s
-tells call a s result e r =
-    record {
-      number = r ∙ ap (λ (c : Ended). number (c .answer)) e;
-      state = ap (λ (c : Ended). c .after) e;
-    }
+-- an opening
+pub tells : (call : Ended) (a : Answer) (s : State) (result : ℕ) → ended a s ≡ call → result ≡ number a
+    → outcome result [] s none ≡ outcome (number (call .answer)) [] (call .after) none
+tells call a s result e r = rw (r, ← e) refl
 
+-- a call without workspace
 pub gives : (call : Ended) (a : Answer) (s : State) (result given : ℕ) → ended a s ≡ call → result ≡ number a → given ≡ value a
-    → Gives call result given s
-gives call a s result given e r v = record { tells = tells call a s result e r; value = v ∙ ap (λ (c : Ended). value (c .answer)) e }
+    → outcome result (given ∷ []) s none ≡ told call none
+gives call a s result given e r v = rw (r, v, ← e) refl
 
--- the workspace, said of the rule's answer
-pub works : {A : Type 0} (call : Ended) (a : Answer) (s : State) (nought : A) (n : ℕ) (work left : List A) → ended a s ≡ call
-    → left ≡ workAfter nought n a work → left ≡ workAfter nought n (call .answer) work
-works call a s nought n work left e w = w ∙ ap (λ (c : Ended). workAfter nought n (c .answer) work) e
+-- a call with a workspace of any kind
+pub works : {A : Type 0} (kind : List A → Work) (call : Ended) (a : Answer) (s : State) (result given : ℕ) (nought : A) (n : ℕ)
+    (work left : List A) → (ended a s ≡ call) × (left ≡ workAfter nought n a work) → result ≡ number a → given ≡ value a
+    → outcome result (given ∷ []) s (kind left) ≡ told call (kind (workAfter nought n (call .answer) work))
+works kind call a s result given nought n work left e r v = rw (r, v, e .1, ← e .0) refl

@@ -1,1 +1,3 @@
-pub mod Exports
+-- The calls, and the demands of them.
+pub mod Calls
+pub mod Demands

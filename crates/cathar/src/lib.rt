@@ -2,18 +2,12 @@
 // of a crate below. None asks anything of its argument. Names begin with the crate's, since a name
 // is the whole program's, as in C.
 ghost use mathlib.Core.Path.{_≡_};
-ghost use lib.ListN.{length};
-ghost use Rattle.leaves.specs.Arithmetic.{nought};
+ghost use mathlib.Core.List.{[], _∷_};
 ghost use Rattle.leaves.specs.Floats.{narrowed, rounded};
 ghost use Rattle.leaves.specs.Root.{Rooted};
-ghost use Rattle.recording.specs.Recording.{state, opened, undone, workAfter};
-ghost use Rattle.inpaint.specs.Gap.{needed, gapRepair};
-ghost use Rattle.inpaint.specs.Auto.{scan, automatic};
-ghost use Rattle.redraw.specs.Whole as whole;
-ghost use Rattle.declip.specs.Declip.{declipRepair};
-ghost use Rattle.decrackle.specs.Decrackle.{decrackleRepair};
-ghost use Rattle.dequant.specs.Dequant.{dequantizeRepair, cosparseRepair};
-ghost use Rattle.cathar.specs.Exports.{Tells, Gives};
+ghost use Rattle.recording.specs.Recording.{state};
+ghost use Rattle.cathar.specs.Calls.{gap, scan, declip, decrackle, dequantize, cosparse, undo};
+ghost use Rattle.cathar.specs.Calls.{none, doubles, words, outcome, ran, opening};
 use recording::numbers::number_of;
 use recording::numbers::value_of;
 
@@ -26,8 +20,8 @@ pub extern "C" fn cathar_open(
     journal: &mut [u32],
     used: &mut usize,
 ) -> u32
-    ensures { λ r. ⌜ Tells (opened (state (now (samples .entry)) (now (marks .entry)) (now (journal .entry)) (now (used .entry)))) r
-        (state (now (samples .entry)) (now (marks .exit)) (now (journal .exit)) (now (used .exit))) ⌝ }
+    ensures { λ r. ⌜ outcome r [] (state (now (samples .entry)) (now (marks .exit)) (now (journal .exit)) (now (used .exit))) none
+        ≡ opening (state (now (samples .entry)) (now (marks .entry)) (now (journal .entry)) (now (used .entry))) ⌝ }
 {
     let answer = recording::open::open(samples, marks, journal, used);
     number_of(answer)
@@ -48,12 +42,8 @@ pub extern "C" fn cathar_inpaint_gap(
     work: &mut [f64],
     value: &mut usize,
 ) -> u32
-    ensures { λ r. ⌜ Gives (gapRepair start len passes (length (now (work .entry)))
-        (state (now (samples .entry)) (now (marks .entry)) (now (journal .entry)) (now (used .entry)))) r (now (value .exit))
-        (state (now (samples .exit)) (now (marks .exit)) (now (journal .exit)) (now (used .exit))) ⌝ }
-    ensures { λ r. ⌜ now (work .exit) ≡ workAfter nought (needed (length (now (samples .entry))) start len)
-        (gapRepair start len passes (length (now (work .entry)))
-        (state (now (samples .entry)) (now (marks .entry)) (now (journal .entry)) (now (used .entry))) .answer) (now (work .entry)) ⌝ }
+    ensures { λ r. ⌜ outcome r (now (value .exit) ∷ []) (state (now (samples .exit)) (now (marks .exit)) (now (journal .exit)) (now (used .exit))) (doubles (now (work .exit)))
+        ≡ ran (gap start len passes (now (work .entry))) (state (now (samples .entry)) (now (marks .entry)) (now (journal .entry)) (now (used .entry))) ⌝ }
 {
     let answer = inpaint::gap::inpaint_gap(samples, marks, journal, used, start, len, passes, work);
     *value = value_of(answer);
@@ -75,10 +65,8 @@ pub extern "C" fn cathar_inpaint_auto(
     qualified: &mut usize,
     repaired: &mut usize,
 ) -> u32
-    ensures { λ r. ⌜ scan (now (qualified .exit)) (now (repaired .exit)) r
-        (state (now (samples .exit)) (now (marks .exit)) (now (journal .exit)) (now (used .exit))) (now (work .exit))
-        ≡ automatic rate millis (now (work .entry))
-        (state (now (samples .entry)) (now (marks .entry)) (now (journal .entry)) (now (used .entry))) ⌝ }
+    ensures { λ r. ⌜ outcome r (now (qualified .exit) ∷ now (repaired .exit) ∷ []) (state (now (samples .exit)) (now (marks .exit)) (now (journal .exit)) (now (used .exit))) (doubles (now (work .exit)))
+        ≡ ran (scan rate millis (now (work .entry))) (state (now (samples .entry)) (now (marks .entry)) (now (journal .entry)) (now (used .entry))) ⌝ }
 {
     let scanned = inpaint::auto::inpaint_auto(samples, marks, journal, used, rate, millis, work);
     *qualified = scanned.qualified;
@@ -99,12 +87,8 @@ pub extern "C" fn cathar_declip(
     work: &mut [u32],
     value: &mut usize,
 ) -> u32
-    ensures { λ r. ⌜ Gives (declipRepair threshold (length (now (work .entry)))
-        (state (now (samples .entry)) (now (marks .entry)) (now (journal .entry)) (now (used .entry)))) r (now (value .exit))
-        (state (now (samples .exit)) (now (marks .exit)) (now (journal .exit)) (now (used .exit))) ⌝ }
-    ensures { λ r. ⌜ now (work .exit) ≡ workAfter 0 (whole.needed (length (now (samples .entry))))
-        (declipRepair threshold (length (now (work .entry)))
-        (state (now (samples .entry)) (now (marks .entry)) (now (journal .entry)) (now (used .entry))) .answer) (now (work .entry)) ⌝ }
+    ensures { λ r. ⌜ outcome r (now (value .exit) ∷ []) (state (now (samples .exit)) (now (marks .exit)) (now (journal .exit)) (now (used .exit))) (words (now (work .exit)))
+        ≡ ran (declip threshold (now (work .entry))) (state (now (samples .entry)) (now (marks .entry)) (now (journal .entry)) (now (used .entry))) ⌝ }
 {
     let answer = declip::declip(samples, marks, journal, used, threshold, work);
     *value = value_of(answer);
@@ -122,12 +106,8 @@ pub extern "C" fn cathar_decrackle(
     work: &mut [u32],
     value: &mut usize,
 ) -> u32
-    ensures { λ r. ⌜ Gives (decrackleRepair sensitivity (length (now (work .entry)))
-        (state (now (samples .entry)) (now (marks .entry)) (now (journal .entry)) (now (used .entry)))) r (now (value .exit))
-        (state (now (samples .exit)) (now (marks .exit)) (now (journal .exit)) (now (used .exit))) ⌝ }
-    ensures { λ r. ⌜ now (work .exit) ≡ workAfter 0 (whole.needed (length (now (samples .entry))))
-        (decrackleRepair sensitivity (length (now (work .entry)))
-        (state (now (samples .entry)) (now (marks .entry)) (now (journal .entry)) (now (used .entry))) .answer) (now (work .entry)) ⌝ }
+    ensures { λ r. ⌜ outcome r (now (value .exit) ∷ []) (state (now (samples .exit)) (now (marks .exit)) (now (journal .exit)) (now (used .exit))) (words (now (work .exit)))
+        ≡ ran (decrackle sensitivity (now (work .entry))) (state (now (samples .entry)) (now (marks .entry)) (now (journal .entry)) (now (used .entry))) ⌝ }
 {
     let answer = decrackle::decrackle(samples, marks, journal, used, sensitivity, work);
     *value = value_of(answer);
@@ -147,12 +127,8 @@ pub extern "C" fn cathar_dequantize(
     work: &mut [u32],
     value: &mut usize,
 ) -> u32
-    ensures { λ r. ⌜ Gives (dequantizeRepair bits strength (length (now (work .entry)))
-        (state (now (samples .entry)) (now (marks .entry)) (now (journal .entry)) (now (used .entry)))) r (now (value .exit))
-        (state (now (samples .exit)) (now (marks .exit)) (now (journal .exit)) (now (used .exit))) ⌝ }
-    ensures { λ r. ⌜ now (work .exit) ≡ workAfter 0 (whole.needed (length (now (samples .entry))))
-        (dequantizeRepair bits strength (length (now (work .entry)))
-        (state (now (samples .entry)) (now (marks .entry)) (now (journal .entry)) (now (used .entry))) .answer) (now (work .entry)) ⌝ }
+    ensures { λ r. ⌜ outcome r (now (value .exit) ∷ []) (state (now (samples .exit)) (now (marks .exit)) (now (journal .exit)) (now (used .exit))) (words (now (work .exit)))
+        ≡ ran (dequantize bits strength (now (work .entry))) (state (now (samples .entry)) (now (marks .entry)) (now (journal .entry)) (now (used .entry))) ⌝ }
 {
     let answer = dequant::passes::dequantize(samples, marks, journal, used, bits, strength, work);
     *value = value_of(answer);
@@ -173,12 +149,8 @@ pub extern "C" fn cathar_dequantize_cosparse(
     work: &mut [u32],
     value: &mut usize,
 ) -> u32
-    ensures { λ r. ⌜ Gives (cosparseRepair bits strength iterations (length (now (work .entry)))
-        (state (now (samples .entry)) (now (marks .entry)) (now (journal .entry)) (now (used .entry)))) r (now (value .exit))
-        (state (now (samples .exit)) (now (marks .exit)) (now (journal .exit)) (now (used .exit))) ⌝ }
-    ensures { λ r. ⌜ now (work .exit) ≡ workAfter 0 (whole.needed (length (now (samples .entry))))
-        (cosparseRepair bits strength iterations (length (now (work .entry)))
-        (state (now (samples .entry)) (now (marks .entry)) (now (journal .entry)) (now (used .entry))) .answer) (now (work .entry)) ⌝ }
+    ensures { λ r. ⌜ outcome r (now (value .exit) ∷ []) (state (now (samples .exit)) (now (marks .exit)) (now (journal .exit)) (now (used .exit))) (words (now (work .exit)))
+        ≡ ran (cosparse bits strength iterations (now (work .entry))) (state (now (samples .entry)) (now (marks .entry)) (now (journal .entry)) (now (used .entry))) ⌝ }
 {
     let answer = dequant::cosparse::dequantize_cosparse(
         samples,
@@ -204,8 +176,8 @@ pub extern "C" fn cathar_undo(
     used: &mut usize,
     value: &mut usize,
 ) -> u32
-    ensures { λ r. ⌜ Gives (undone (state (now (samples .entry)) (now (marks .entry)) (now (journal .entry)) (now (used .entry)))) r
-        (now (value .exit)) (state (now (samples .exit)) (now (marks .exit)) (now (journal .exit)) (now (used .exit))) ⌝ }
+    ensures { λ r. ⌜ outcome r (now (value .exit) ∷ []) (state (now (samples .exit)) (now (marks .exit)) (now (journal .exit)) (now (used .exit))) none
+        ≡ ran undo (state (now (samples .entry)) (now (marks .entry)) (now (journal .entry)) (now (used .entry))) ⌝ }
 {
     let answer = recording::undo::undo(samples, marks, journal, used);
     *value = value_of(answer);

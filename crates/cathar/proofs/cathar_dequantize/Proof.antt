@@ -3,7 +3,8 @@
 use borrow.Author.Needs.{needs}
 use lib.ListN.{length}
 use Rattle.redraw.specs.Whole.{needed}
-use Rattle.cathar.proofs.Exports.{gives, works}
+use Rattle.cathar.specs.Calls.{words}
+use Rattle.cathar.proofs.Exports.{works}
 use Rattle.cathar.proofs.cathar_dequantize.Statement.{statement}
 use Rattle.cathar.proofs.cathar_dequantize.Tie as tie
 
@@ -32,10 +33,8 @@ returns : tie.Need-returns
 returns c =
     let call = c .before .before .before .before .before .before .before .before .before .before in
     let args = call .before .before .before .before .before .before .before .before .before .before .args in
-    let end = call .dequantize .ensures in (
-      gives _ _ _ _ _ (end .0) (c .number-of .ensures) (c .before .value-of .ensures),
-      works _ _ _ 0 (needed (length (args .samples .now))) (args .work .now) _ (end .0) (end .1),
-    )
+    let n = needed (length (args .samples .now)) in
+    works words _ _ _ _ _ 0 n (args .work .now) _ (call .dequantize .ensures) (c .number-of .ensures) (c .before .value-of .ensures)
 
 pub cathar-dequantize-spec : {M : Type 1} → statement M
 cathar-dequantize-spec =

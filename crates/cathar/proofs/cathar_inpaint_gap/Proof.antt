@@ -4,7 +4,8 @@ use borrow.Author.Needs.{needs}
 use lib.ListN.{length}
 use Rattle.leaves.specs.Arithmetic.{nought}
 use Rattle.inpaint.specs.Gap.{needed}
-use Rattle.cathar.proofs.Exports.{gives, works}
+use Rattle.cathar.specs.Calls.{doubles}
+use Rattle.cathar.proofs.Exports.{works}
 use Rattle.cathar.proofs.cathar_inpaint_gap.Statement.{statement}
 use Rattle.cathar.proofs.cathar_inpaint_gap.Tie as tie
 
@@ -33,11 +34,8 @@ returns : tie.Need-returns
 returns c =
     let call = c .before .before .before .before .before .before .before .before .before .before in
     let args = call .before .before .before .before .before .before .before .before .before .before .args in
-    let end = call .inpaint-gap .ensures in
-    let doubles = needed (length (args .samples .now)) (args .start) (args .len) in (
-      gives _ _ _ _ _ (end .0) (c .number-of .ensures) (c .before .value-of .ensures),
-      works _ _ _ nought doubles (args .work .now) _ (end .0) (end .1),
-    )
+    let n = needed (length (args .samples .now)) (args .start) (args .len) in
+    works doubles _ _ _ _ _ nought n (args .work .now) _ (call .inpaint-gap .ensures) (c .number-of .ensures) (c .before .value-of .ensures)
 
 pub cathar-inpaint-gap-spec : {M : Type 1} → statement M
 cathar-inpaint-gap-spec =

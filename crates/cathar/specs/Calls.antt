@@ -1,0 +1,68 @@
+-- Every call of the library on a recording, under one type, and what it ends in. What an exported function promises is the
+-- equation between what it leaves and `ran` of its call, or `opening`. Definitions only.
+use Prim.Native.Nat.{ℕ}
+use mathlib.Core.List.{List, [], _∷_}
+use lib.ListN.{length}
+use lib.Ieee.{Float}
+use Rattle.leaves.specs.Arithmetic.{nought}
+use Rattle.recording.specs.Answers.{number, value}
+use Rattle.recording.specs.Recording.{State, Ended, opened, undone, workAfter}
+use Rattle.inpaint.specs.Gap.{needed, gapRepair}
+use Rattle.inpaint.specs.Auto.{automatic}
+use Rattle.redraw.specs.Whole as whole
+use Rattle.declip.specs.Declip.{declipRepair}
+use Rattle.decrackle.specs.Decrackle.{decrackleRepair}
+use Rattle.dequant.specs.Dequant.{dequantizeRepair, cosparseRepair}
+
+-- a call with its settings and the workspace that it is lent: doubles for a gap and for the automatic scan, 32-bit words for the
+-- repairs over the whole recording
+pub data Call : Type 0 where
+  gap : (start len passes : ℕ) → List Float → Call
+  scan : (rate : ℕ) (millis : Float) → List Float → Call
+  declip : (threshold : Float) → List ℕ → Call
+  decrackle : (sensitivity : Float) → List ℕ → Call
+  dequantize : (bits : ℕ) (strength : Float) → List ℕ → Call
+  cosparse : (bits : ℕ) (strength : Float) (iterations : ℕ) → List ℕ → Call
+  undo : Call
+
+-- the workspace after a call
+pub data Work : Type 0 where
+  none : Work
+  doubles : List Float → Work
+  words : List ℕ → Work
+
+-- what a call leaves: its number, which is 0 where it was accepted and else that of the refusal; what it gives beside it; the
+-- recording; the workspace
+pub record Outcome : Type 0 where
+  pub number : ℕ
+  pub figures : List ℕ
+  pub after : State
+  pub work : Work
+
+abbrev pub outcome : ℕ → List ℕ → State → Work → Outcome
+outcome k figures s w = record { number = k; figures = figures; after = s; work = w }
+
+-- most calls give one figure: m, or the place for 7 and 8
+abbrev pub told : Ended → Work → Outcome
+told e w = outcome (number (e .answer)) (value (e .answer) ∷ []) (e .after) w
+
+-- a repair over the whole recording s, which needs 2n words
+abbrev pub redrawn : State → List ℕ → Ended → Outcome
+redrawn s work e = told e (words (workAfter 0 (whole.needed (length (s .samples))) (e .answer) work))
+
+abbrev pub ran : Call → State → Outcome
+ran (gap start len passes work) s =
+    let e = gapRepair start len passes (length work) s in
+    told e (doubles (workAfter nought (needed (length (s .samples)) start len) (e .answer) work))
+ran (scan rate millis work) s =
+    let c = automatic rate millis work s in
+    outcome (c .refused) (c .qualified ∷ c .repaired ∷ []) (c .after) (doubles (c .work))
+ran (declip threshold work) s = redrawn s work (declipRepair threshold (length work) s)
+ran (decrackle sensitivity work) s = redrawn s work (decrackleRepair sensitivity (length work) s)
+ran (dequantize bits strength work) s = redrawn s work (dequantizeRepair bits strength (length work) s)
+ran (cosparse bits strength iterations work) s = redrawn s work (cosparseRepair bits strength iterations (length work) s)
+ran undo s = told (undone s) none
+
+-- opening, with which every recording starts, gives no figure
+abbrev pub opening : State → Outcome
+opening s = let e = opened s in outcome (number (e .answer)) [] (e .after) none
