@@ -2,24 +2,19 @@
 -- `recording` shows of any sequence of rules holds of any sequence of calls. Assumes nothing.
 use mathlib.Core.Path.{_≡_, refl, sym, ap, _∙_}
 use mathlib.Core.List.{List, [], _∷_, _++_, reverse}
-use mathlib.Core.Logic.{_⊎_, inl, inr}
-use Prim.Native.Nat.{ℕ, zero, suc, _-_, _≤_, _<_}
-use native.Mathlib.Omega.{arith}
+use mathlib.Core.Logic.{inl, inr}
+use Prim.Native.Nat.{ℕ, zero, suc, _≤_, _<_}
 use lib.ListN.{length, getD, replicate}
-use lib.Dec.{eqb, ltb}
 use lib.Ieee.{Float}
-use Rattle.recording.specs.Answers.{number, reasonNumber}
-use Rattle.recording.specs.Recording.{State, Ended, Placed, Plan, refuse, change, measured, refused, unlessRefused, ended, performed, carried, entered}
-use Rattle.recording.specs.Recording.{fitting, ranged, entrySize, malformed, undone}
+use Rattle.recording.specs.Answers.{number}
+use Rattle.recording.specs.Recording.{State, Ended, measured, fitting, undone}
 use Rattle.recording.specs.History as single
 use Rattle.recording.specs.Consequences.{AllName, closings, returned}
-use Rattle.recording.specs.declared.Reason.{Reason}
-use Rattle.recording.specs.declared.Reason.the-variants.{Counts, TooMany, Used, Setting, Gap, Workspace, Read}
-use Rattle.recording.specs.declared.Reason.the-variants.{Result, Room, Nothing, Malformed}
+use Rattle.recording.specs.declared.Reason.the-variants.{Setting}
 use Rattle.recording.specs.declared.Answer.{Answer}
 use Rattle.recording.specs.declared.Answer.the-variants.{Done, Refused}
 use Rattle.recording.proofs.History as history
-use Rattle.recording.proofs.Picks.{picks}
+use Rattle.recording.proofs.Single.{did-keeps}
 use Rattle.recording.proofs.open.Laws.{EitherWay, truth}
 use Rattle.inpaint.specs.Gap.{gapPlan, gapRepair}
 use Rattle.inpaint.specs.Auto.{limit, scannable, automatic, allowed}
@@ -33,67 +28,13 @@ use Rattle.dequant.specs.Dequant.{dequantizeRepair, dequantizePlan, cosparseRep
 use Rattle.declip.proofs.Consequences.{declip-lawful}
 use Rattle.decrackle.proofs.Consequences.{decrackle-lawful}
 use Rattle.dequant.proofs.Consequences.{dequantize-lawful, cosparse-lawful}
-use Rattle.cathar.specs.Calls.{Call, gap, scan, declip, decrackle, dequantize, cosparse, undo, Outcome, ran}
-use Rattle.cathar.specs.Demands.{OneOutcome, RefusalChangesNothing, SingleRefusalChangesNothing, after, Opened, AfterAny}
-use Rattle.cathar.specs.Demands.{scanned, rules, CallIsItsRules, allRules, survivors, Demand3, SurvivorsStand}
+use Rattle.cathar.specs.Calls.{Call, gap, scan, declip, decrackle, dequantize, cosparse, undo, ran}
+use Rattle.cathar.specs.Demands.{OneOutcome, RefusalChangesNothing, RulesAreLawful, after, AfterAny}
+use Rattle.cathar.specs.Demands.{scanned, rules, CallIsItsRules, allRules, Demand3, SurvivorsStand}
 use Rattle.cathar.specs.Demands.{UndoingAll, MeasuredIsRaw, EntriesAreSurvivors}
 
 pub one-outcome : OneOutcome
 one-outcome c s one other e f = e ∙ sym f
-
--- ---- A refusal changes nothing
-
--- a call ends accepted, or with the recording that it began with
-record Keeps (s : State) (e : Ended) : Type 0 where
-  keeps : 0 < number (e .answer) → e .after ≡ s
-
-refused-keeps : (s : State) (why : Reason) → Keeps s (refused s why)
-refused-keeps s why = record { keeps = λ h. refl }
-
-done-keeps : (m : ℕ) (s t : State) → Keeps s (ended (Done m) t)
-done-keeps m s t = record { keeps = λ h. absurd (omega arith) }
-
-unless-keeps : (a : Answer) (s : State) (rest : Ended) → Keeps s rest → Keeps s (unlessRefused a s rest)
-unless-keeps (Done m) s rest h = h
-unless-keeps (Refused why) s rest h = refused-keeps s why
-
-entered-keeps : (s : State) (mark : ℕ) (cs : List Placed) → Keeps s (entered s mark cs)
-unfolding entered
-entered-keeps s mark cs =
-    picks (Keeps s) (eqb (length cs) 0) _ _ (done-keeps 0 s s)
-    (picks (Keeps s) (ltb (length (s .journal) - s .used) (entrySize (length cs))) _ _ (refused-keeps s _) (done-keeps _ s _))
-
-carried-keeps : (s : State) (p : Plan) → Keeps s (carried s p)
-unfolding carried
-carried-keeps s (refuse why) = refused-keeps s why
-carried-keeps s (change mark cs) = unless-keeps (ranged cs) s (entered s mark cs) (entered-keeps s mark cs)
-
-did-keeps : (c : single.Call) (s : State) → Keeps s (single.did c s)
-unfolding single.did performed undone
-did-keeps (single.repair r) s = unless-keeps (fitting s) s _ (carried-keeps s (r (s .samples)))
-did-keeps single.undo s =
-    unless-keeps (fitting s) s _
-    (picks (Keeps s) (eqb (s .used) 0) _ _ (refused-keeps s _)
-    (picks (Keeps s) (malformed (length (s .samples)) (s .journal) (s .used)) _ _ (refused-keeps s _) (done-keeps _ s _)))
-
--- a reason's number is not 0
-above-zero : (why : Reason) → 0 < reasonNumber why
-above-zero why = elim why [
-  | Counts ↦ omega arith
-  | TooMany ↦ omega arith
-  | Used ↦ omega arith
-  | Setting ↦ omega arith
-  | Gap ↦ omega arith
-  | Workspace ↦ omega arith
-  | Read place ↦ omega arith
-  | Result place ↦ omega arith
-  | Room ↦ omega arith
-  | Nothing ↦ omega arith
-  | Malformed ↦ omega arith
-]
-
-pub single-refusal-changes-nothing : SingleRefusalChangesNothing
-single-refusal-changes-nothing c s why h = did-keeps c s .keeps (rw h (above-zero why))
 
 -- ---- A call is its rules
 
@@ -174,17 +115,12 @@ refusal-changes-nothing undo s h = inl (alone-keeps _ s _ (undo-did s) h)
 
 -- ---- Sequences
 
-run-append : (cs ds : List single.Call) (s : State) → single.run (cs ++ ds) s ≡ single.run ds (single.run cs s)
-unfolding single.run
-run-append [] ds s = refl
-run-append (c ∷ cs) ds s = run-append cs ds (single.did c s .after)
-
 after-is-run : (cs : List Call) (s : State) → after cs s ≡ single.run (allRules cs s) s
 after-is-run [] s = unfold single.run in refl
 after-is-run (c ∷ cs) s =
     after-is-run cs (ran c s .after)
     ∙ ap (single.run (allRules cs (ran c s .after))) (call-is-its-rules c s)
-    ∙ sym (run-append (rules c s) (allRules cs (ran c s .after)) s)
+    ∙ sym (history.run-append (rules c s) (allRules cs (ran c s .after)) s)
 
 lawful-append : (cs ds : List single.Call) → single.Lawful cs → single.Lawful ds → single.Lawful (cs ++ ds)
 lawful-append [] ds l m = m
@@ -196,18 +132,18 @@ scanned-lawful : (room : ℕ) (rs : List Stretch) (a : Answer)
 scanned-lawful room rs (Done m) = scan-lawful room rs
 scanned-lawful room rs (Refused why) = tt
 
-rules-lawful : (c : Call) (s : State) → single.Lawful (rules c s)
-rules-lawful (gap start len passes work) s = (gap-lawful start len passes (length work), tt)
-rules-lawful (scan rate millis work) s = scanned-lawful (length work) (runsOf (s .samples) (limit millis rate)) (scannable rate millis s)
-rules-lawful (declip threshold work) s = (declip-lawful threshold (length work), tt)
-rules-lawful (decrackle sensitivity work) s = (decrackle-lawful sensitivity (length work), tt)
-rules-lawful (dequantize bits strength work) s = (dequantize-lawful bits strength (length work), tt)
-rules-lawful (cosparse bits strength iterations work) s = (cosparse-lawful bits strength iterations (length work), tt)
-rules-lawful undo s = tt
+pub rules-are-lawful : RulesAreLawful
+rules-are-lawful (gap start len passes work) s = (gap-lawful start len passes (length work), tt)
+rules-are-lawful (scan rate millis work) s = scanned-lawful (length work) (runsOf (s .samples) (limit millis rate)) (scannable rate millis s)
+rules-are-lawful (declip threshold work) s = (declip-lawful threshold (length work), tt)
+rules-are-lawful (decrackle sensitivity work) s = (decrackle-lawful sensitivity (length work), tt)
+rules-are-lawful (dequantize bits strength work) s = (dequantize-lawful bits strength (length work), tt)
+rules-are-lawful (cosparse bits strength iterations work) s = (cosparse-lawful bits strength iterations (length work), tt)
+rules-are-lawful undo s = tt
 
 all-lawful : (cs : List Call) (s : State) → single.Lawful (allRules cs s)
 all-lawful [] s = tt
-all-lawful (c ∷ cs) s = lawful-append (rules c s) _ (rules-lawful c s) (all-lawful cs (ran c s .after))
+all-lawful (c ∷ cs) s = lawful-append (rules c s) _ (rules-are-lawful c s) (all-lawful cs (ran c s .after))
 
 -- ---- On a freshly opened recording
 

@@ -1,5 +1,5 @@
--- The demands, of the calls of this library (Calls.antt), each in the words of document 01 and then as a statement. The
--- statements are proved as theorems of the same names, written small, in proofs/Demands.antt, which nobody has to read.
+-- The three demands, of the calls of this library (Calls.antt): each in its words, and then as statements. They are proved as
+-- theorems of the same names, written small, in proofs/Demands.antt, which nobody has to read.
 use Prim.Native.Nat.{ℕ, _≤_, _<_}
 use mathlib.Core.Path.{_≡_}
 use mathlib.Core.List.{List, [], _∷_, _++_, reverse}
@@ -9,7 +9,6 @@ use lib.Ieee.{Float}
 use Rattle.recording.specs.Recording.{State, opened, measured}
 use Rattle.recording.specs.History as single
 use Rattle.recording.specs.Consequences.{AllName, closings, returned}
-use Rattle.recording.specs.declared.Reason.{Reason}
 use Rattle.recording.specs.declared.Answer.the-variants.{Done, Refused}
 use Rattle.inpaint.specs.Gap.{gapPlan}
 use Rattle.inpaint.specs.Auto.{limit, scannable}
@@ -22,43 +21,25 @@ use Rattle.cathar.specs.Calls.{Call, gap, scan, declip, decrackle, dequa
 -- ---- 1. "Any samples and settings end in a repair or in a numbered refusal, given exactly when its rule says. A refusal changes
 -- nothing."
 
--- The first sentence is what the exported functions promise: none has a condition, and each leaves `ran` of its call and nothing
--- else. Two outcomes that are both so are the same.
+-- No exported function has a condition, and each promises that what it leaves is `ran` of its call. That allows no second outcome:
 abbrev pub OneOutcome : Type 0
 OneOutcome = (c : Call) (s : State) (one other : Outcome) → one ≡ ran c s → other ≡ ran c s → one ≡ other
 
--- a call with a number that is not 0 changes nothing; but the number that the automatic scan gives may be that of one of its single
--- repairs
+-- A call with a number that is not 0 changes nothing. The number of an automatic scan may be that of one of its single repairs, each of
+-- which changes nothing where it is refused (`RefusalChangesNothing` of the crate `recording`).
 abbrev pub RefusalChangesNothing : Type 0
 RefusalChangesNothing =
     (c : Call) (s : State) → 0 < ran c s .number
     → (ran c s .after ≡ s) ⊎ ((rate : ℕ) × (millis : Float) × (work : List Float) × (c ≡ scan rate millis work))
 
--- and of these each that is refused changes nothing
-abbrev pub SingleRefusalChangesNothing : Type 0
-SingleRefusalChangesNothing = (c : single.Call) (s : State) (why : Reason) → single.did c s .answer ≡ Refused why → single.did c s .after ≡ s
+-- ---- 2. "An accepted repair gives, bit for bit, the samples of document 01's rules over IEEE 754, and marks exactly the samples it
+-- names."
 
--- ---- 3. "After any sequence of repairs, refusals and undos on a freshly opened recording, samples, marks and journal equal those
--- got by applying the rules to the raw recording, in order, for the accepted repairs that named a sample and were not undone."
-
--- the recording after a sequence of calls
-abbrev pub after : List Call → State → State
-after [] s = s
-after (c ∷ cs) s = after cs (ran c s .after)
-
--- "a freshly opened recording"
-pub record Opened (raw : State) : Type 0 where
-  pub lent : State
-  pub accepted : opened lent .answer ≡ Done 0
-  pub leaves : opened lent .after ≡ raw
-
-abbrev pub AfterAny : (State → List Call → Type 0) → Type 0
-AfterAny P = (raw : State) (cs : List Call) → Opened raw → P raw cs
-
--- "applying the rules": the single repairs and undos that a call counts as, by their rules. An automatic scan counts as one repair for
--- each run that qualifies, and as none where it is itself refused.
+-- The rules of a call: the single repairs and undos that it counts as. The rule of a repair makes of the samples a plan, which is the mark
+-- and the named samples with their new words, or a refusal. An automatic scan counts as one repair for each run that qualifies, and as
+-- none where it is itself refused, with 1 to 4.
 abbrev pub scanned : ℕ → Float → List Float → State → List single.Call
-scanned rate millis work s = 
+scanned rate millis work s =
     let runs = gapCalls (length work) (runsOf (s .samples) (limit millis rate)) in
     elim (scannable rate millis s) [ Done m ↦ runs | Refused why ↦ [] ]
 
@@ -71,15 +52,39 @@ rules (dequantize bits strength work) s = single.repair (dequantizePlan bits str
 rules (cosparse bits strength iterations work) s = single.repair (cosparsePlan bits strength iterations (length work)) ∷ []
 rules undo s = single.undo ∷ []
 
+-- the recording after a call is that after its rules, one after the other
+abbrev pub CallIsItsRules : Type 0
+CallIsItsRules = (c : Call) (s : State) → ran c s .after ≡ single.run (rules c s) s
+
+-- and each of them is lawful: of every such repair the crate `recording` shows that it gives the words and marks exactly the samples that
+-- its plan names (`AcceptedAsRuled`)
+abbrev pub RulesAreLawful : Type 0
+RulesAreLawful = (c : Call) (s : State) → single.Lawful (rules c s)
+
+-- ---- 3. "After any sequence of repairs, refusals and undos on a freshly opened recording, samples, marks and journal equal those
+-- got by applying the rules to the raw recording, in order, for the accepted repairs that named a sample and were not undone."
+
+-- the recording after a sequence of calls
+abbrev pub after : List Call → State → State
+after [] s = s
+after (c ∷ cs) s = after cs (ran c s .after)
+
+-- "a freshly opened recording": an accepted opening left it
+pub record Opened (raw : State) : Type 0 where
+  pub lent : State
+  pub accepted : opened lent .answer ≡ Done 0
+  pub leaves : opened lent .after ≡ raw
+
+-- something holds "After any sequence of repairs, refusals and undos" on every such recording
+abbrev pub AfterAny : (State → List Call → Type 0) → Type 0
+AfterAny P = (raw : State) (cs : List Call) → Opened raw → P raw cs
+
+-- "the rules", call after call
 abbrev pub allRules : List Call → State → List single.Call
 allRules [] s = []
 allRules (c ∷ cs) s = rules c s ++ allRules cs (ran c s .after)
 
--- the recording after a call is that after these, one after the other
-abbrev pub CallIsItsRules : Type 0
-CallIsItsRules = (c : Call) (s : State) → ran c s .after ≡ single.run (rules c s) s
-
--- "the accepted repairs that named a sample and were not undone", in order
+-- "the accepted repairs that named a sample and were not undone", "in order"
 abbrev pub survivors : List Call → State → List single.Repair
 survivors cs raw = single.survivors (allRules cs raw) raw
 
@@ -87,13 +92,13 @@ survivors cs raw = single.survivors (allRules cs raw) raw
 abbrev pub Demand3 : Type 0
 Demand3 = AfterAny (λ raw cs. after cs raw ≡ single.replay (survivors cs raw) raw)
 
--- ---- What follows
+-- ---- What follows from it
 
 -- replayed, each survivor is accepted again and names a sample
 abbrev pub SurvivorsStand : Type 0
 SurvivorsStand = AfterAny (λ raw cs. AllName (survivors cs raw) raw)
 
--- undoing all returns every raw bit, with marks and journal as they were opened; and so does undoing on after that
+-- undoing all returns every raw bit, with marks and journal as they were opened; and undoing on changes nothing
 abbrev pub UndoingAll : Type 0
 UndoingAll = AfterAny (λ raw cs. (k : ℕ) → length (survivors cs raw) ≤ k → after (replicate k undo) (after cs raw) ≡ raw)
 
@@ -103,7 +108,7 @@ MeasuredIsRaw =
     AfterAny
     (λ raw cs. (i : ℕ) → getD (after cs raw .marks) i 0 ≡ measured → getD (after cs raw .samples) i 0 ≡ getD (raw .samples) i 0)
 
--- the journal's m and mark, entry by entry, are those that the survivors returned and set
+-- the journal's m and mark, entry by entry, the last first, are those that the survivors returned and set
 abbrev pub EntriesAreSurvivors : Type 0
 EntriesAreSurvivors =
     AfterAny

@@ -1,3 +1,4 @@
 -- The calls, and the demands of them.
 pub mod Calls
 pub mod Demands
+pub mod Table

@@ -1,3 +1,2 @@
 pub mod Declip
 pub mod Consequences
-pub mod Rows

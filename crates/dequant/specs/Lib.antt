@@ -1,3 +1,2 @@
 pub mod Dequant
 pub mod Consequences
-pub mod Rows

@@ -22,7 +22,8 @@ use Rattle.recording.specs.declared.Reason.{Reason}
 use Rattle.recording.specs.declared.Answer.{Answer}
 use Rattle.recording.specs.declared.Answer.the-variants.{Done, Refused}
 use Rattle.recording.proofs.open.Laws.{EitherWay, truth}
-use Rattle.recording.proofs.Put.{Among, length-put, put-elsewhere}
+use Rattle.recording.specs.Consequences.{Among}
+use Rattle.recording.proofs.Put.{length-put, put-elsewhere}
 use Rattle.model.specs.Model.{filled}
 use Rattle.inpaint.specs.Gap.{gapWrong, byLine, needed, allReadable, line}
 use Rattle.inpaint.specs.Gap.{model, repaired, gapPlan, gapRepair}

@@ -3,4 +3,3 @@ pub mod Auto
 pub mod Runs
 pub mod Consequences
 pub mod Inner
-pub mod Rows

@@ -2,4 +2,3 @@ pub mod Arithmetic
 pub mod Floats
 pub mod Root
 pub mod Steps
-pub mod Rows

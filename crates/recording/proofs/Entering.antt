@@ -1,6 +1,6 @@
 -- A repair whose plan keeps to its rule: it leaves all as it is, or it enters what it names; and what is then kept.
 -- Assumes nothing.
-use mathlib.Core.Path.{_≡_, refl, sym, _∙_}
+use mathlib.Core.Path.{_≡_, refl, sym, ap, _∙_}
 use mathlib.Core.Bool.{Bool, true, false, _&&_}
 use mathlib.Core.List.{List, [], _∷_}
 use mathlib.Core.Logic.{_⊎_, inl, inr, _≢_}
@@ -9,17 +9,18 @@ use native.Mathlib.Omega.{arith}
 use lib.ListN.{length, getD}
 use lib.Seq.{length-sets}
 use lib.Dec.{leb, ltb, eqb}
-use borrow.Author.Tests.{ne-eqb, le-ltb, leb-true, eqb-false, ltb-false}
+use borrow.Author.Tests.{ne-eqb, le-ltb, leb-true, eqb-true, eqb-false, ltb-false}
 use Rattle.leaves.proofs.Lists.{read-before, read-after}
 use Rattle.leaves.specs.Floats.{inRange}
 use Rattle.recording.specs.Recording.{State, ended, Placed, places, each, made, entrySize, entry, committed}
 use Rattle.recording.specs.Recording.{entered, ranged, Plan, refuse, change, carried, performed}
 use Rattle.recording.specs.History.{Ascending, Bytes, Keeps}
+use Rattle.recording.specs.Consequences.{Among}
 use Rattle.recording.specs.Inner.{Fits}
 use Rattle.recording.specs.declared.Reason.{Reason}
 use Rattle.recording.specs.declared.Reason.the-variants.{Result, Room}
 use Rattle.recording.specs.declared.Answer.the-variants.{Done, Refused}
-use Rattle.recording.proofs.Put.{Among, among-or-not, among-below, put-elsewhere, put-each, places-each}
+use Rattle.recording.proofs.Put.{among-or-not, among-below, put-elsewhere, put-each, places-each}
 use Rattle.recording.proofs.Put.{length-places}
 use Rattle.recording.proofs.Journal.{length-entry}
 use Rattle.recording.proofs.open.Laws.{EitherWay, truth, fits-done, fits-or-not}
@@ -62,9 +63,14 @@ ranged-ends [] = inl refl
 ranged-ends (c ∷ cs) =
     elim (truth (inRange (c .value))) [ inl t ↦ rw t (ranged-ends cs) | inr f ↦ inr (c .place, rw f) ]
 
+-- a list of no elements
+empty : (cs : List Placed) → eqb (length cs) 0 ≡ true → cs ≡ []
+empty [] h = refl
+empty (c ∷ cs) h = absurd (omega (arith, eqb-true (length (c ∷ cs)) 0 h))
+
 -- the three ways in which a repair ends
 pub data Ending (s : State) (p : Plan) : Type 0 where
-  unnamed : performed s p ≡ ended (Done 0) s → Ending s p
+  unnamed : (mark : ℕ) → p ≡ change mark [] → performed s p ≡ ended (Done 0) s → Ending s p
   turned-away : (why : Reason) → performed s p ≡ ended (Refused why) s → Ending s p
   enters : (mark : ℕ) (cs : List Placed) → p ≡ change mark cs → Enters s mark cs → Ending s p
 
@@ -85,7 +91,7 @@ ending s p k = elim (fits-or-not s) [ inl f ↦ planned f p k | inr n ↦ turned
 
         sized : ranged cs ≡ Done 0 → EitherWay (eqb (length cs) 0) → EitherWay (ltb free (entrySize (length cs)))
             → Ending s (change mark cs)
-        sized g (inl z) r = unnamed (rw (fits-done f, g, z))
+        sized g (inl z) r = let none : cs ≡ [] = empty cs z in unnamed mark (ap (change mark) none) (rw (fits-done f, g, z))
         sized g (inr z) (inl r) = turned-away Room (rw (fits-done f, g, z, r))
         sized g (inr z) (inr r) =
             enters mark cs refl
@@ -116,14 +122,14 @@ module _ (s : State) (mark : ℕ) (cs : List Placed) where
   after-earlier i h = read-before (s .journal) (entry s mark (places cs)) (s .used) i 0 h
 
   -- a sample that is not named is as it was
-  after-elsewhere : (i : ℕ) → (Among i (places cs) → ⊥) → SameAt i (committed s mark cs) s
+  pub after-elsewhere : (i : ℕ) → (Among i (places cs) → ⊥) → SameAt i (committed s mark cs) s
   unfolding committed
   after-elsewhere i f =
       (put-elsewhere i cs (s .samples) f, put-elsewhere i (each mark (places cs)) (s .marks) (rw places-each f))
 
 module _ {s : State} {mark : ℕ} {cs : List Placed} (e : Enters s mark cs) where
   -- a named one has the mark
-  after-named : (i : ℕ) → Among i (places cs) → getD (committed s mark cs .marks) i 0 ≡ mark
+  pub after-named : (i : ℕ) → Among i (places cs) → getD (committed s mark cs .marks) i 0 ≡ mark
   unfolding committed
   after-named i a =
       let below : i < length (s .samples) = among-below (length (s .samples)) 0 i cs (e .ascending) a in

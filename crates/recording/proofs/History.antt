@@ -45,7 +45,7 @@ reached-sound (more before p e) = after-sound e (reached-sound before)
 -- ---- One call
 
 -- a call, by the rules
-did-repair : (r : Repair) (s : State) → did (repair r) s ≡ performed s (r (s .samples))
+pub did-repair : (r : Repair) (s : State) → did (repair r) s ≡ performed s (r (s .samples))
 unfolding did
 did-repair r s = refl
 
@@ -79,7 +79,7 @@ step-repair r {raw} {kept} {s} k at = go (ending s (r (s .samples)) k)
   where
     go : Ending s (r (s .samples))
         → Reached raw (surviving (repair r) (did (repair r) s .answer) kept) (did (repair r) s .after)
-    go (unnamed e) = rw (did-repair, e) at
+    go (unnamed mark p e) = rw (did-repair, e) at
     go (turned-away why e) = rw (did-repair, e) at
     go (enters mark [] p e) = absurd (omega (arith, e .some))
     go (enters mark (c ∷ cs) p e) = rw (did-enter r p e) (more at p e)
@@ -96,7 +96,7 @@ run-call : (c : Call) (cs : List Call) (s : State) → run (c ∷ cs) s ≡ run 
 unfolding run
 run-call c cs s = refl
 
-run-append : (cs ds : List Call) (s : State) → run (cs ++ ds) s ≡ run ds (run cs s)
+pub run-append : (cs ds : List Call) (s : State) → run (cs ++ ds) s ≡ run ds (run cs s)
 unfolding run
 run-append [] ds s = refl
 run-append (c ∷ cs) ds s = run-append cs ds (did c s .after)

@@ -7,3 +7,4 @@ pub mod Entering
 pub mod UndoCommit
 pub mod Performing
 pub mod History
+pub mod Single

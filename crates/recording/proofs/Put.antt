@@ -10,13 +10,9 @@ use lib.ListN.{length, getD, set, length-set}
 use lib.Seq.{getD-set-same, getD-set-other, ext-getD}
 use Rattle.recording.specs.Recording.{Placed, places, put, each, saved, oldWords, oldMarks}
 use Rattle.recording.specs.History.{Ascending}
+use Rattle.recording.specs.Consequences.{Among}
 
--- a place is one of these
-abbrev pub Among : ℕ → List ℕ → Type 0
-Among i [] = ⊥
-Among i (j ∷ js) = (i ≡ j) ⊎ Among i js
-
--- it is, or it is not
+-- a place is one of these, or it is not
 pub among-or-not : (i : ℕ) (js : List ℕ) → Among i js ⊎ (Among i js → ⊥)
 among-or-not i [] = inr (λ (e : ⊥). e)
 among-or-not i (j ∷ js) = elim (ℕ-discrete i j) [ yes e ↦ inl (inl e) | no f ↦ later f (among-or-not i js) ]

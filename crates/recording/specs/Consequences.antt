@@ -1,14 +1,44 @@
--- What follows from demand 3, each of every freshly opened recording with every sequence of calls. Proved in
--- proofs/History.antt under the same names, written small.
+-- What follows from the rules of a call and from demand 3. Proved in proofs/Single.antt and proofs/History.antt under the same names,
+-- written small.
 use Prim.Native.Nat.{ℕ, zero, suc, _≤_}
+use mathlib.Core.Logic.{_⊎_}
 use mathlib.Core.Path.{_≡_}
 use mathlib.Core.Bool.{false}
 use mathlib.Core.List.{List, [], _∷_, reverse}
 use lib.ListN.{length, getD, replicate}
 use Rattle.recording.specs.Answers.{value}
-use Rattle.recording.specs.Recording.{State, Plan, refuse, change, measured, made, lastCount, lastMark, lastBegin}
-use Rattle.recording.specs.History.{Repair, repair, undo, did, run, survivors, AfterAny}
-use Rattle.recording.specs.declared.Answer.the-variants.{Done}
+use Rattle.recording.specs.Recording.{State, Placed, places, put, Plan, refuse, change}
+use Rattle.recording.specs.Recording.{measured, made, lastCount, lastMark, lastBegin}
+use Rattle.recording.specs.History.{Repair, Call, repair, undo, did, run, survivors, LawfulRepair, AfterAny}
+use Rattle.recording.specs.declared.Reason.{Reason}
+use Rattle.recording.specs.declared.Answer.the-variants.{Done, Refused}
+
+-- ---- Of every call, on any recording
+
+-- demand 1: "A refusal changes nothing."
+abbrev pub RefusalChangesNothing : Type 0
+RefusalChangesNothing = (c : Call) (s : State) (why : Reason) → did c s .answer ≡ Refused why → did c s .after ≡ s
+
+-- a place is one of these
+abbrev pub Among : ℕ → List ℕ → Type 0
+Among i [] = ⊥
+Among i (j ∷ js) = (i ≡ j) ⊎ Among i js
+
+-- the named samples get their words, "exactly the samples it names" get the mark, and no other sample's word changes
+pub record MadeOf (mark : ℕ) (cs : List Placed) (before after : State) : Type 0 where
+  pub words : after .samples ≡ put cs (before .samples)
+  pub named : (i : ℕ) → Among i (places cs) → getD (after .marks) i 0 ≡ mark
+  pub others : (i : ℕ) → (Among i (places cs) → ⊥)
+      → (getD (after .samples) i 0 ≡ getD (before .samples) i 0) × (getD (after .marks) i 0 ≡ getD (before .marks) i 0)
+
+-- demand 2: "An accepted repair gives, bit for bit, the samples of document 01's rules .. and marks exactly the samples it names", and
+-- answers how many these are
+abbrev pub AcceptedAsRuled : Type 0
+AcceptedAsRuled =
+    (r : Repair) (s : State) (mark : ℕ) (cs : List Placed) (m : ℕ) → LawfulRepair r → r (s .samples) ≡ change mark cs
+    → did (repair r) s .answer ≡ Done m → MadeOf mark cs s (did (repair r) s .after) × (m ≡ length cs)
+
+-- ---- Of every freshly opened recording with every sequence of calls
 
 -- every repair of a replay is accepted, as it was, and names a sample
 abbrev pub AllName : List Repair → State → Type 0

@@ -3,4 +3,4 @@ pub mod Recording
 pub mod History
 pub mod Consequences
 pub mod Inner
-pub mod Rows
+pub mod Examples
