@@ -15,8 +15,9 @@ use Rattle.leaves.specs.Floats.{magnitude}
 use Rattle.leaves.proofs.Literals.{nought-word, one-word, two-word, three-word, unbounded, plus-infinity}
 use Rattle.recording.specs.Recording.{State, cubicDeclip}
 use Rattle.recording.specs.Inner.{flags}
+use Rattle.recording.specs.Runs.{begins, runLength}
 use Rattle.redraw.specs.Whole.{Drawn, drawn, sample, untouched, wholeRepair}
-use Rattle.redraw.specs.Runs.{begins, runLength, overRuns}
+use Rattle.redraw.specs.Runs.{overRuns}
 use Rattle.redraw.specs.Inner.{wordsIn, flagsIn, restOf, drawnIn, Holds}
 use Rattle.redraw.proofs.Workspace.{store-words, store-behind, word-there, flag-words, name-flag, flags-behind, store-rest}
 use Rattle.redraw.proofs.Runs.{over-one, over-none, over-all}

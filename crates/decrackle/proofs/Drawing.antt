@@ -14,11 +14,13 @@ use Rattle.leaves.proofs.words.Laws.{number-test}
 use Rattle.recording.specs.Recording.{State}
 use Rattle.recording.specs.Recording as recording
 use Rattle.recording.specs.Inner.{flags}
+use Rattle.recording.specs.Runs.{begins, runLength}
+use Rattle.recording.proofs.Runs.{begins-there, run-short}
 use Rattle.redraw.specs.Whole.{Drawn, drawn, untouched, wholeRepair}
-use Rattle.redraw.specs.Runs.{begins, runLength, overRuns}
+use Rattle.redraw.specs.Runs.{overRuns}
 use Rattle.redraw.specs.Inner.{wordsIn, flagsIn, drawnIn, flaggedAt, Holds, Room}
 use Rattle.redraw.proofs.Workspace.{rest-behind, flags-behind, flags-count, room-stays}
-use Rattle.redraw.proofs.Runs.{begins-there, run-short, over-one, over-none, over-all}
+use Rattle.redraw.proofs.Runs.{over-one, over-none, over-all}
 use Rattle.decrackle.specs.Decrackle.{flagsOf, rewritten, smoothed, decrackled, decrackleRepair}
 use Rattle.decrackle.proofs.Ends.{ends-never-flagged}
 

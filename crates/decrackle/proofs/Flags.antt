@@ -13,12 +13,12 @@ use lib.Ieee.{Float, binary32, ofBits, ofInt, round, lt}
 use Rattle.leaves.specs.Arithmetic.{_+₃₂_, _-₃₂_, _*₃₂_, near, float, count}
 use Rattle.leaves.specs.Floats.{magnitude, larger, held}
 use Rattle.leaves.proofs.Literals.{nought-word, half-word, one-word}
+use Rattle.recording.specs.Runs.{begins}
+use Rattle.recording.proofs.Runs.{begins-after}
 use Rattle.redraw.specs.Whole.{drawn}
-use Rattle.redraw.specs.Runs.{begins}
 use Rattle.redraw.specs.Inner.{wordsIn, flagWord, flaggedAt, Holds, Room}
 use Rattle.redraw.proofs.Workspace.{flagged-there}
 use Rattle.redraw.proofs.Flags as stored
-use Rattle.redraw.proofs.Runs.{begins-after}
 use Rattle.decrackle.specs.Decrackle.{factorFor, detector, openingFloor, leastFloor, alpha, floorAfter, flagged, flagsFrom, flagsOf}
 
 -- ---- The code's literals

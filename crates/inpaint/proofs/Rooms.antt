@@ -22,7 +22,7 @@ use Rattle.recording.specs.declared.Answer.{Answer}
 use Rattle.recording.specs.declared.Answer.the-variants.{Done, Refused}
 use Rattle.inpaint.specs.Gap.{gapWrong, byLine, needed, allReadable, knownBefore, knownBehind, orElse}
 use Rattle.inpaint.specs.Gap.{from, line, model, repaired, gapPlan, gapRepair}
-use Rattle.inpaint.specs.Auto.{limit, allowed, dropout, begins, runAt, qualifies, nextRun, Scan, scan, repairAt}
+use Rattle.inpaint.specs.Auto.{limit, allowed, dropout, dropoutAt, runBegins, runAt, qualifies, nextRun, Scan, scan, repairAt}
 use Rattle.inpaint.specs.Auto.{scanFrom, scannable, automatic}
 use Rattle.inpaint.specs.declared.Run.{Run}
 use Rattle.inpaint.specs.declared.Run.the-variants.{At, Nowhere}
@@ -32,8 +32,9 @@ use Rattle.inpaint.proofs.auto.Laws.{Found, qualifies-all, found-run, s
 use Rattle.inpaint.proofs.auto.Laws.{automatic-scanned}
 use Rattle.model.proofs.Passes.{both-hold}
 use Rattle.recording.proofs.Picks.{picks, picks-by}
-use Rattle.inpaint.proofs.Scans.{Behind, repair-leaves, work-count, found-behind, begins-not-there}
-use Rattle.inpaint.proofs.Scans.{model-within, whole}
+use Rattle.recording.proofs.Runs.{begins-not}
+use Rattle.inpaint.proofs.Scans.{Behind, repair-leaves, work-count, found-behind}
+use Rattle.inpaint.proofs.Scans.{model-within}
 
 -- ---- A repair that is spared refusal k, which is 6 or 9
 
@@ -164,8 +165,8 @@ module _ (k : ℕ) (which : (k ≡ 6) ⊎ (k ≡ 9)) where
 
 -- a run that is found is within the limit, and does not begin at the start
 module _ (samples : List ℕ) (most i start len : ℕ) (f : Found samples most i start len) where
-  tests : (begins samples start ≡ true) × (qualifies (length samples) most start (runAt samples start) ≡ true)
-  tests = both-hold (begins samples start) (qualifies (length samples) most start (runAt samples start)) (f .here)
+  tests : (runBegins samples start ≡ true) × (qualifies (length samples) most start (runAt samples start) ≡ true)
+  tests = both-hold (runBegins samples start) (qualifies (length samples) most start (runAt samples start)) (f .here)
 
   bounds : (2 ≤ runAt samples start) × (runAt samples start ≤ most) × (0 < start) × (start + runAt samples start < length samples)
   bounds = qualifies-all (length samples) most start (runAt samples start) (tests .1)
@@ -180,7 +181,7 @@ module _ (samples : List ℕ) (most i start len : ℕ) (f : Found samples most i
     where
       apart : i ≡ start → ⊥
       apart e =
-          true≢false (sym (tests .0) ∙ begins-not-there samples start (ap (λ (j : ℕ). dropout (getD samples j 0)) (sym e) ∙ none))
+          true≢false (sym (tests .0) ∙ sym (begins-not (dropoutAt samples) start (ap (dropoutAt samples) (sym e) ∙ none)))
 
 record Roomy (i : ℕ) (c : Scan) : Type 0 where
   spared : c .refused ≡ 9 → ⊥

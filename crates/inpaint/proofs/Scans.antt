@@ -1,7 +1,7 @@
 -- The scan is a sequence of gap repairs, one for each run that qualified as the call began: a repair changes nothing
 -- behind its run, and there stands a sample that is no dropout. Assumes nothing.
 use mathlib.Core.Path.{_≡_, refl, sym, ap, _∙_}
-use mathlib.Core.Bool.{true, false, and-false}
+use mathlib.Core.Bool.{true, false}
 use mathlib.Core.List.{List, [], _∷_}
 use mathlib.Core.Logic.{inl, inr}
 use Prim.Native.Nat.{ℕ, zero, suc, _+_, _-_, _≤_, _<_}
@@ -12,7 +12,6 @@ use lib.ListN.{length, getD, length-map, length-take, replicate}
 use lib.Seq.{length-sets}
 use lib.Dec.{ltb, eqb}
 use lib.Ieee.{Float}
-use borrow.Author.Tests.{ne-eqb}
 use Rattle.leaves.specs.Arithmetic.{nought}
 use Rattle.recording.specs.Recording.{State, Ended, places, put, span, Plan, refuse, change, unlessRead}
 use Rattle.recording.specs.Recording.{fitting, ranged, entered, committed, carried, performed, unlessRefused}
@@ -24,15 +23,16 @@ use Rattle.recording.specs.declared.Answer.the-variants.{Done, Refused}
 use Rattle.recording.proofs.open.Laws.{EitherWay, truth}
 use Rattle.recording.specs.Consequences.{Among}
 use Rattle.recording.proofs.Put.{length-put, put-elsewhere}
+use Rattle.recording.proofs.Runs.{begins-not, begins-same, begins-not-behind, length-same, run-met, run-behind}
 use Rattle.model.specs.Model.{filled}
 use Rattle.inpaint.specs.Gap.{gapWrong, byLine, needed, allReadable, line}
 use Rattle.inpaint.specs.Gap.{model, repaired, gapPlan, gapRepair}
-use Rattle.inpaint.specs.Auto.{limit, dropout, begins, runLength, runAt, nextAmong, nextRun}
+use Rattle.inpaint.specs.Auto.{limit, dropout, dropoutAt, runBegins, runAt, starts, nextAmong, nextRun}
 use Rattle.inpaint.specs.Auto.{Scan, scan, repairAt, scanFrom, scannable, automatic}
 use Rattle.inpaint.specs.Runs.{Stretch, runsAmong, gapCalls, ScanIsItsRuns, ScanCountsItsRuns}
 use Rattle.inpaint.specs.declared.Run.{Run}
 use Rattle.inpaint.specs.declared.Run.the-variants.{At, Nowhere}
-use Rattle.inpaint.proofs.auto.Laws.{starts, Found, found-run, scan-stops, scan-takes}
+use Rattle.inpaint.proofs.auto.Laws.{Found, found-run, scan-stops, scan-takes}
 use Rattle.inpaint.proofs.auto.Laws.{automatic-refused, automatic-scanned}
 use Rattle.inpaint.proofs.line.Laws.{length-line}
 use Rattle.recording.proofs.Picks.{picks}
@@ -131,54 +131,6 @@ pub work-count : (n : ℕ) (a : Answer) (w : List Float) → length (workAfter n
 work-count n a w =
     picks (λ (v : List Float). length v ≡ length w) (clears a) _ _ (length-sets w 0 (replicate n nought)) refl
 
--- ---- What a run is made of
-
--- dropouts, as many as it is long
-run-dropouts : (samples : List ℕ) (i n j : ℕ) → j < runLength samples i n → dropout (getD samples (i + j) 0) ≡ true
-unfolding runLength
-run-dropouts samples i zero j h = absurd (omega arith)
-run-dropouts samples i (suc n) j h = go (truth (dropout (getD samples i 0))) j h (run-dropouts samples (i + 1) n)
-  where
-    go : EitherWay (dropout (getD samples i 0)) → (j : ℕ) → j < runLength samples i (suc n)
-        → ((k : ℕ) → k < runLength samples (i + 1) n → dropout (getD samples (i + 1 + k) 0) ≡ true)
-        → dropout (getD samples (i + j) 0) ≡ true
-    go (inl d) zero h later = ap (λ (k : ℕ). dropout (getD samples k 0)) (omega arith) ∙ d
-    go (inl d) (suc j) h later =
-        let long : runLength samples i (suc n) ≡ suc (runLength samples (i + 1) n) = rw d refl in
-        ap (λ (k : ℕ). dropout (getD samples k 0)) (omega arith) ∙ later j (omega (arith, long))
-    go (inr d) j h later =
-        let none : runLength samples i (suc n) ≡ 0 = rw d refl in
-        absurd (omega (arith, none))
-
--- and a sample that is none behind them, if it does not touch the end
-run-behind : (samples : List ℕ) (i n : ℕ) → runLength samples i n < n
-    → dropout (getD samples (i + runLength samples i n) 0) ≡ false
-unfolding runLength
-run-behind samples i zero h = absurd (omega arith)
-run-behind samples i (suc n) h = go (truth (dropout (getD samples i 0))) (run-behind samples (i + 1) n)
-  where
-    go : EitherWay (dropout (getD samples i 0))
-        → (runLength samples (i + 1) n < n → dropout (getD samples (i + 1 + runLength samples (i + 1) n) 0) ≡ false)
-        → dropout (getD samples (i + runLength samples i (suc n)) 0) ≡ false
-    go (inl d) later =
-        let long : runLength samples i (suc n) ≡ suc (runLength samples (i + 1) n) = rw d refl in
-        ap (λ (k : ℕ). dropout (getD samples k 0)) (omega (arith, long)) ∙ later (omega (arith, long))
-    go (inr d) later =
-        let none : runLength samples i (suc n) ≡ 0 = rw d refl in
-        ap (λ (k : ℕ). dropout (getD samples k 0)) (omega (arith, none)) ∙ d
-
--- no run begins behind a dropout, nor where there is none
-begins-not-behind : (samples : List ℕ) (i : ℕ) → dropout (getD samples i 0) ≡ true → begins samples (i + 1) ≡ false
-unfolding begins
-begins-not-behind samples i h =
-    let back : i + 1 - 1 ≡ i = omega arith in
-    let no : eqb (i + 1) 0 ≡ false = ne-eqb (i + 1) 0 (λ e. absurd (omega arith)) in
-    rw (back, no, h, and-false) refl
-
-pub begins-not-there : (samples : List ℕ) (i : ℕ) → dropout (getD samples i 0) ≡ false → begins samples i ≡ false
-unfolding begins
-begins-not-there samples i h = rw h refl
-
 -- ---- The first of the runs is what the search answers
 
 -- place i is passed over
@@ -258,8 +210,8 @@ runs-behind samples most i start len h =
     none j a b =
         let k = j - start - 1 in
         let back : j ≡ start + k + 1 = omega arith in
-        let dropped = run-dropouts samples start (n - start) k (omega (arith, f .long, f .two)) in
-        rw (ap (begins samples) back ∙ begins-not-behind samples (start + k) dropped) refl
+        let dropped = run-met (dropoutAt samples) start (n - start) k (omega (arith, f .long, f .two)) in
+        rw (ap (runBegins samples) back ∙ begins-not-behind (dropoutAt samples) (start + k) dropped) refl
 
     to-end : runsAmong samples most (start + 1) (n - (start + 1))
         ≡ runsAmong samples most (start + len) (n - (start + len))
@@ -276,33 +228,19 @@ found-behind samples most i start len h =
     let f = found-run samples most i start len h in
     let inside : runAt samples start < length samples - start = omega (arith, f .long, f .inside) in
     ap (λ (m : ℕ). dropout (getD samples (start + m) 0)) (sym (f .long))
-    ∙ run-behind samples start (length samples - start) inside
+    ∙ run-behind (dropoutAt samples) start (length samples - start) inside
 
 -- ---- The runs from a place on are the same in a recording that is the same from there on
 
-length-same : (samples t : List ℕ) (i n : ℕ) → ((j : ℕ) → i ≤ j → getD t j 0 ≡ getD samples j 0)
-    → runLength t i n ≡ runLength samples i n
-unfolding runLength
-length-same samples t i zero same = refl
-length-same samples t i (suc n) same =
-    let here : getD t i 0 ≡ getD samples i 0 = same i (omega arith) in
-    let later = length-same samples t (i + 1) n (λ j h. same j (omega arith)) in
-    rw (here, later) refl
-
-begins-same : (samples t : List ℕ) (i : ℕ) → getD t i 0 ≡ getD samples i 0 → getD t (i - 1) 0 ≡ getD samples (i - 1) 0
-    → begins t i ≡ begins samples i
-unfolding begins
-begins-same samples t i here before = rw (here, before) refl
-
 runs-same : (samples t : List ℕ) (most i n : ℕ) → length t ≡ length samples
     → ((j : ℕ) → i ≤ j → getD t j 0 ≡ getD samples j 0)
-    → ((j : ℕ) → i ≤ j → begins t j ≡ begins samples j)
+    → ((j : ℕ) → i ≤ j → runBegins t j ≡ runBegins samples j)
     → runsAmong t most i n ≡ runsAmong samples most i n
 unfolding runsAmong
 runs-same samples t most i zero count same begin = refl
 runs-same samples t most i (suc n) count same begin =
     let later = runs-same samples t most (i + 1) n count (λ j h. same j (omega arith)) (λ j h. begin j (omega arith)) in
-    rw (count, begin i (omega arith), length-same samples t i (length samples - i) same, later) refl
+    rw (count, begin i (omega arith), length-same (dropoutAt samples) (dropoutAt t) i (length samples - i) (λ j h. ap dropout (same j h)), later) refl
 
 -- behind a gap, where there is no dropout, a repair leaves them
 behind-same : (samples t : List ℕ) (most end n : ℕ) → Behind end samples t → dropout (getD samples end 0) ≡ false
@@ -312,11 +250,11 @@ behind-same samples t most end n b none = runs-same samples t most end n (b .cou
     none' : dropout (getD t end 0) ≡ false
     none' = ap dropout (b .same end (omega arith)) ∙ none
 
-    begin : (j : ℕ) → end ≤ j → begins t j ≡ begins samples j
+    begin : (j : ℕ) → end ≤ j → runBegins t j ≡ runBegins samples j
     begin j h =
         elim (ℕ-discrete j end) [
-          | yes e ↦ rw e (begins-not-there t end none' ∙ sym (begins-not-there samples end none))
-          | no f ↦ begins-same samples t j (b .same j h) (b .same (j - 1) (omega arith))
+          | yes e ↦ rw e (sym (begins-not (dropoutAt t) end none') ∙ begins-not (dropoutAt samples) end none)
+          | no f ↦ begins-same (dropoutAt samples) (dropoutAt t) j (ap dropout (b .same j h)) (ap dropout (b .same (j - 1) (omega arith)))
         ]
 
 -- ---- The scan

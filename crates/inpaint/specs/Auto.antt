@@ -1,6 +1,6 @@
 -- The automatic scan: document 01's `inpaint_auto` paragraph, whose sentences the comments quote. Definitions only.
 use Prim.Native.Nat.{ℕ, zero, suc, _+_, _-_}
-use mathlib.Core.Bool.{Bool, not, _&&_, _||_, cond}
+use mathlib.Core.Bool.{Bool, _&&_, _||_, cond}
 use mathlib.Core.List.{List}
 use lib.ListN.{length, getD}
 use lib.Dec.{leb, ltb, eqb}
@@ -10,6 +10,7 @@ use Rattle.leaves.specs.Arithmetic.{_*₃₂_, _/₃₂_, nought, one, float, c
 use Rattle.leaves.specs.Floats.{larger}
 use Rattle.recording.specs.Answers.{number}
 use Rattle.recording.specs.Recording.{State, fitting, workAfter, if_then_else_}
+use Rattle.recording.specs.Runs.{begins, runLength}
 use Rattle.recording.specs.declared.Reason.the-variants.{Setting}
 use Rattle.recording.specs.declared.Answer.{Answer}
 use Rattle.recording.specs.declared.Answer.the-variants.{Done, Refused}
@@ -36,34 +37,36 @@ unfoldable pub dropout : ℕ → Bool
 unfolding float eq isNan
 dropout w = eq (float w) nought || isNan (float w)
 
--- "a longest run" begins at i: there is a dropout there, and none before it
-unfoldable pub begins : List ℕ → ℕ → Bool
-unfolding dropout
-begins samples i = dropout (getD samples i 0) && (eqb i 0 || not (dropout (getD samples (i - 1) 0)))
+-- "a longest run" of these: this is its test of a place
+abbrev pub dropoutAt : List ℕ → ℕ → Bool
+dropoutAt samples i = dropout (getD samples i 0)
 
--- how many dropouts stand from i on, one behind the other, among n places
-unfoldable pub runLength : List ℕ → ℕ → ℕ → ℕ
-unfolding dropout
-runLength samples i zero = 0
-runLength samples i (suc n) = let more = runLength samples (i + 1) n in cond (dropout (getD samples i 0)) (suc more) 0
+-- one begins at place i
+abbrev pub runBegins : List ℕ → ℕ → Bool
+runBegins samples i = begins (dropoutAt samples) i
 
+-- how long it is
 abbrev pub runAt : List ℕ → ℕ → ℕ
-runAt samples i = runLength samples i (length samples - i)
+runAt samples i = runLength (dropoutAt samples) i (length samples - i)
 
 -- "It qualifies if its length is at least 2 and within the limit, and it touches neither end."
 abbrev pub qualifies : ℕ → ℕ → ℕ → ℕ → Bool
 qualifies n most start len = leb 2 len && leb len most && ltb 0 start && ltb (start + len) n
+
+-- a run that qualifies begins at place i
+abbrev pub starts : List ℕ → ℕ → ℕ → Bool
+starts samples most i = runBegins samples i && qualifies (length samples) most i (runAt samples i)
 
 -- ---- The search
 
 -- "The search answers with the first run from a place on that meets every condition, or with nothing if none exists": among the n
 -- places from i on
 unfoldable pub nextAmong : List ℕ → ℕ → ℕ → ℕ → Run
-unfolding begins runLength
+unfolding begins runLength dropout
 nextAmong samples most i zero = Nowhere
 nextAmong samples most i (suc n) =
     let on = nextAmong samples most (i + 1) n in
-    if begins samples i && qualifies (length samples) most i (runAt samples i) then At i (runAt samples i) else on
+    if starts samples most i then At i (runAt samples i) else on
 
 abbrev pub nextRun : List ℕ → ℕ → ℕ → Run
 nextRun samples most i = nextAmong samples most i (length samples - i)

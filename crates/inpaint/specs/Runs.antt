@@ -4,15 +4,15 @@
 -- proofs/Scans.antt, which nobody has to read.
 use Prim.Native.Nat.{ℕ, zero, suc, _+_}
 use mathlib.Core.Path.{_≡_}
-use mathlib.Core.Bool.{_&&_}
 use mathlib.Core.List.{List, [], _∷_}
 use lib.ListN.{length}
 use lib.Ieee.{Float}
 use Rattle.recording.specs.Recording.{State, if_then_else_}
+use Rattle.recording.specs.Runs.{begins, runLength}
 use Rattle.recording.specs.History.{Call, repair, run}
 use Rattle.recording.specs.declared.Answer.the-variants.{Done}
 use Rattle.inpaint.specs.Gap.{gapPlan}
-use Rattle.inpaint.specs.Auto.{limit, begins, runLength, runAt, qualifies, scannable, automatic}
+use Rattle.inpaint.specs.Auto.{limit, dropout, runAt, starts, scannable, automatic}
 
 -- a dropout run, by its start and its length
 pub record Stretch : Type 0 where
@@ -21,12 +21,11 @@ pub record Stretch : Type 0 where
 
 -- the runs that qualify, ascending: those that begin at one of the n places from i on
 unfoldable pub runsAmong : List ℕ → ℕ → ℕ → ℕ → List Stretch
-unfolding begins runLength
+unfolding begins runLength dropout
 runsAmong samples most i zero = []
 runsAmong samples most i (suc n) =
     let later = runsAmong samples most (i + 1) n in
-    let len = runAt samples i in
-    if begins samples i && qualifies (length samples) most i len then record { start = i; len = len } ∷ later else later
+    if starts samples most i then record { start = i; len = runAt samples i } ∷ later else later
 
 abbrev pub runsOf : List ℕ → ℕ → List Stretch
 runsOf samples most = runsAmong samples most 0 (length samples)

@@ -1,12 +1,12 @@
 // The automatic scan for dropouts.
 ghost use mathlib.Core.Path.{_≡_};
 ghost use mathlib.Core.Bool.{cond};
-ghost use Prim.Native.Nat.{ℕ, _+_, _≤_, _<_};
+ghost use Prim.Native.Nat.{_+_, _≤_, _<_};
 ghost use lib.ListN.{length};
 ghost use lib.Dec.{eqb};
 ghost use lib.Ieee.{toUnsigned};
 ghost use Rattle.recording.specs.Recording.{state};
-ghost use Rattle.inpaint.specs.Auto.{allowed, limit, dropout, begins, qualifies, nextRun, scan, scannable, automatic};
+ghost use Rattle.inpaint.specs.Auto.{allowed, limit, dropout, runBegins, qualifies, nextRun, scan, scannable, automatic};
 use super::Run;
 use super::Scanned;
 use super::gap::inpaint_gap;
@@ -79,7 +79,7 @@ fn is_dropout(word: u32) -> bool
 // Whether a longest run begins at place i.
 fn run_begins(samples: &[u32], i: usize) -> bool
     requires { ⌜ i < length (now samples) ⌝ }
-    ensures { λ r. ⌜ r ≡ begins (now (samples .entry)) i ⌝ }
+    ensures { λ r. ⌜ r ≡ runBegins (now (samples .entry)) i ⌝ }
 {
     if !is_dropout(samples[i]) {
         return false;

@@ -1,5 +1,6 @@
 pub mod Answers
 pub mod Recording
+pub mod Runs
 pub mod History
 pub mod Consequences
 pub mod Inner

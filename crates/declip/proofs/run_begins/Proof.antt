@@ -4,7 +4,7 @@ use borrow.Author.Tests.{not-true, not-false}
 use mathlib.Core.Path.{sym, _∙_}
 use mathlib.Core.Bool.{Bool}
 use Prim.Native.Nat.{ℕ}
-use Rattle.redraw.proofs.Runs.{begins-not, begins-first, begins-after}
+use Rattle.recording.proofs.Runs.{begins-not, begins-first, begins-after}
 use Rattle.declip.specs.Declip.{clippedAt}
 use Rattle.declip.proofs.run_begins.Statement.{statement}
 use Rattle.declip.proofs.run_begins.Tie as tie

@@ -6,8 +6,8 @@ use mathlib.Core.Bool.{Bool}
 use Prim.Native.Nat.{ℕ, _+_, _-_, _≤_}
 use native.Mathlib.Omega.{arith}
 use lib.ListN.{length}
-use Rattle.redraw.specs.Runs.{runLength}
-use Rattle.redraw.proofs.Runs.{run-more, run-stops, run-ends}
+use Rattle.recording.specs.Runs.{runLength}
+use Rattle.recording.proofs.Runs.{run-more, run-stops, run-ends}
 use Rattle.declip.specs.Declip.{clippedAt}
 use Rattle.declip.proofs.run_end.Statement.{statement}
 use Rattle.declip.proofs.run_end.Tie as tie

@@ -1,6 +1,6 @@
 -- `decrackle::run_begins` meets its contract: each way out is a line of the rule. Assumes nothing.
 use borrow.Author.Needs.{needs}
-use Rattle.redraw.proofs.Runs.{begins-not, begins-first}
+use Rattle.recording.proofs.Runs.{begins-not, begins-first}
 use Rattle.decrackle.proofs.Flags.{flag-clear, flag-stands, begins-behind}
 use Rattle.decrackle.proofs.run_begins.Statement.{statement}
 use Rattle.decrackle.proofs.run_begins.Tie as tie

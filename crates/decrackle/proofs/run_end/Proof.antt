@@ -3,9 +3,9 @@
 use Prim.Native.Nat.{_+_, _-_, _≤_}
 use mathlib.Core.Path.{_≡_, refl}
 use native.Mathlib.Omega.{arith}
-use Rattle.redraw.specs.Runs.{runLength}
+use Rattle.recording.specs.Runs.{runLength}
 use Rattle.redraw.specs.Inner.{flaggedAt}
-use Rattle.redraw.proofs.Runs.{run-more, run-stops, run-ends}
+use Rattle.recording.proofs.Runs.{run-more, run-stops, run-ends}
 use Rattle.decrackle.proofs.Flags.{flag-clear, flag-stands}
 use Rattle.decrackle.proofs.run_end.Statement.{statement}
 use Rattle.decrackle.proofs.run_end.Tie as tie

@@ -10,7 +10,7 @@ use native.Mathlib.Omega.{arith}
 use native.Mathlib.Nat.{le-div-iff-mul-le}
 use lib.Dec.{T, leb, ltb, eqb}
 use lib.IntN.{pos}
-use lib.ListN.{length, getD}
+use lib.ListN.{length}
 use lib.Ieee.{Float, nan, inf, fin, binary32, up, down, neg, div, mul, lt, eq, ne, toUnsigned, ofBits, ofInt}
 use lib.Ieee.Fits.{down-pos}
 use lib.Ieee.Scale.{finite}
@@ -28,7 +28,7 @@ use Rattle.recording.specs.declared.Answer.the-variants.{Done, Refused}
 use Rattle.recording.proofs.open.Laws.{EitherWay, truth}
 use Rattle.model.proofs.Passes.{both-hold}
 use Rattle.inpaint.specs.Gap.{needed, gapRepair}
-use Rattle.inpaint.specs.Auto.{allowed, limit, dropout, begins, qualifies, runLength, runAt, nextAmong, nextRun}
+use Rattle.inpaint.specs.Auto.{allowed, limit, dropout, runBegins, qualifies, runAt, starts, nextAmong, nextRun}
 use Rattle.inpaint.specs.Auto.{Scan, scan, repairAt, scanFrom, scannable, automatic}
 use Rattle.inpaint.specs.declared.Run.{Run}
 use Rattle.inpaint.specs.declared.Run.the-variants.{At, Nowhere}
@@ -62,23 +62,6 @@ dropout-zero w x e h = rw (← e, h) refl
 pub dropout-other : (w : ℕ) (x : Float) → x ≡ ofBits binary32 w → eq x (ofBits binary32 0) ≡ false → ne x x ≡ dropout w
 unfolding dropout float ofBits
 dropout-other w x e h = rw (← e, h, ← nan-test x) refl
-
--- ---- where a run begins
-
-pub begins-no-dropout : (samples : List ℕ) (i : ℕ) (r : Bool) → r ≡ dropout (getD samples i 0) → r ≡ false
-    → false ≡ begins samples i
-unfolding begins
-begins-no-dropout samples i r e h = rw (← e, h) refl
-
-pub begins-first : (samples : List ℕ) (i : ℕ) (r : Bool) → r ≡ dropout (getD samples i 0) → r ≡ true → i ≡ 0
-    → true ≡ begins samples i
-unfolding begins
-begins-first samples i r e h z = rw (← e, h, eq-eqb i 0 z) refl
-
-pub begins-later : (samples : List ℕ) (i : ℕ) (r before : Bool) → r ≡ dropout (getD samples i 0) → r ≡ true
-    → (i ≡ 0 → ⊥) → before ≡ dropout (getD samples (i - 1) 0) → not before ≡ begins samples i
-unfolding begins
-begins-later samples i r before e h z b = rw (← e, h, ne-eqb i 0 z, b) refl
 
 -- ---- whether a run qualifies
 
@@ -215,73 +198,45 @@ module _ (rate : ℕ) (ms : Float) (s : State) (sized : Answer) (answered : size
         let told : Refused Setting ≡ settled rate ms (Done m) = rw (← tested, h) refl in
         told ∙ sym (ap (settled rate ms) accepted) ∙ opened
 
--- ---- a run followed to its end
-
-module _ (samples : List ℕ) (start end : ℕ) where
-  -- one dropout more
-  pub run-on : start ≤ end → end < length samples → dropout (getD samples end 0) ≡ true
-      → runAt samples start ≡ end - start + runAt samples end
-      → runAt samples start ≡ end + 1 - start + runAt samples (end + 1)
-  unfolding runLength
-  run-on a b h e =
-      let left : length samples - end ≡ suc (length samples - (end + 1)) = omega arith in
-      let more : runAt samples end ≡ suc (runAt samples (end + 1)) = ap (runLength samples end) left ∙ rw h refl in
-      omega (arith, e, more)
-
-  -- a sample that is none ends it
-  pub run-stops : end < length samples → dropout (getD samples end 0) ≡ false
-      → runAt samples start ≡ end - start + runAt samples end → runAt samples start ≡ end - start
-  unfolding runLength
-  run-stops b h e =
-      let left : length samples - end ≡ suc (length samples - (end + 1)) = omega arith in
-      let none : runAt samples end ≡ 0 = ap (runLength samples end) left ∙ rw h refl in
-      omega (arith, e, none)
-
-  -- so does the recording's end
-  pub run-touches : length samples ≤ end
-      → runAt samples start ≡ end - start + runAt samples end → runAt samples start ≡ end - start
-  unfolding runLength
-  run-touches b e =
-      let left : length samples - end ≡ 0 = omega arith in
-      let none : runAt samples end ≡ 0 = ap (runLength samples end) left in
-      omega (arith, e, none)
-
 -- ---- the search, place by place
 
 module _ (samples : List ℕ) (most i : ℕ) (whole : Run) (within : i < length samples)
     (search : nextRun samples most i ≡ whole) where
   -- what the search does at place i
   at-place : nextRun samples most i
-      ≡ (if begins samples i && qualifies (length samples) most i (runAt samples i) then At i (runAt samples i)
-      else nextRun samples most (i + 1))
+      ≡ (if starts samples most i then At i (runAt samples i) else nextRun samples most (i + 1))
   unfolding nextAmong
   at-place =
       let left : length samples - i ≡ suc (length samples - (i + 1)) = omega arith in
       ap (nextAmong samples most i) left
 
-  passed : begins samples i && qualifies (length samples) most i (runAt samples i) ≡ false
-      → nextRun samples most (i + 1) ≡ whole
+  passed : starts samples most i ≡ false → nextRun samples most (i + 1) ≡ whole
   passed t = sym (at-place ∙ rw t refl) ∙ search
 
   -- no run begins there
-  pub search-passes : (b : Bool) → b ≡ begins samples i → b ≡ false → nextRun samples most (i + 1) ≡ whole
+  pub search-passes : (b : Bool) → b ≡ runBegins samples i → b ≡ false → nextRun samples most (i + 1) ≡ whole
   search-passes b e h = passed (rw (← e, h) refl)
 
-  module _ (len : ℕ) (run : runAt samples i ≡ len) where
-    -- one does, and does not qualify
-    pub search-fails : (q : Bool) → q ≡ qualifies (length samples) most i len → q ≡ false
+  -- one does, and ends before place `end`
+  module _ (end : ℕ) (ends : end ≡ i + runAt samples i) where
+    run : runAt samples i ≡ end - i
+    run = omega (arith, ends)
+
+    -- it does not qualify
+    pub search-fails : (q : Bool) → q ≡ qualifies (length samples) most i (end - i) → q ≡ false
         → nextRun samples most (i + 1) ≡ whole
     search-fails q e h =
         let no : qualifies (length samples) most i (runAt samples i) ≡ false = rw (run, ← e, h) refl in
         passed (rw (no, and-false) refl)
 
-    -- one does, and touches the end
-    pub search-touches : length samples ≤ i + len → nextRun samples most (i + 1) ≡ whole
-    search-touches h = search-fails _ refl (rw (le-ltb (i + len) (length samples) h, and-false) refl)
+    -- it touches the recording's end
+    pub search-touches : length samples ≤ end → nextRun samples most (i + 1) ≡ whole
+    search-touches h =
+        search-fails _ refl (rw (le-ltb (i + (end - i)) (length samples) (omega (arith, ends)), and-false) refl)
 
-    -- one does, and qualifies
-    pub search-finds : (b q : Bool) → b ≡ begins samples i → b ≡ true
-        → q ≡ qualifies (length samples) most i len → q ≡ true → At i len ≡ whole
+    -- it qualifies
+    pub search-finds : (b q : Bool) → b ≡ runBegins samples i → b ≡ true
+        → q ≡ qualifies (length samples) most i (end - i) → q ≡ true → At i (end - i) ≡ whole
     search-finds b q e h f k =
         let yes : qualifies (length samples) most i (runAt samples i) ≡ true = rw (run, ← f, k) refl in
         sym (at-place ∙ rw (← e, h, yes, run) refl) ∙ search
@@ -304,10 +259,6 @@ qualifies-all n most start len h =
     let second = both-hold (leb 2 len) (leb len most) (third .0) in
     (leb-true 2 len (second .0), leb-true len most (second .1), ltb-true 0 start (third .1), ltb-true (start + len) n (last .1))
 
--- a run starts at place i that qualifies
-abbrev pub starts : List ℕ → ℕ → ℕ → Bool
-starts samples most i = begins samples i && qualifies (length samples) most i (runAt samples i)
-
 -- the run that is found from place i on: it starts there, so long, and none does before; so it has two samples or
 -- more, and ends before the recording does
 pub record Found (samples : List ℕ) (most i start len : ℕ) : Type 0 where
@@ -322,7 +273,7 @@ pub record Found (samples : List ℕ) (most i start len : ℕ) : Type 0 where
 found-there : (samples : List ℕ) (most i : ℕ) → starts samples most i ≡ true → Found samples most i i (runAt samples i)
 found-there samples most i t =
     let len = runAt samples i in
-    let fits = qualifies-all (length samples) most i len (both-hold (begins samples i) _ t .1) in
+    let fits = qualifies-all (length samples) most i len (both-hold (runBegins samples i) _ t .1) in
     record {
       from = omega arith;
       long = refl;

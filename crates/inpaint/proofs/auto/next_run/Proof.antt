@@ -1,22 +1,22 @@
 -- `inpaint::auto::next_run` meets its contract. The outer loop's invariant: the search from here on gives what the
--- search from `from` on gives, and nothing is found yet. The inner loop's: all from the run's start to before `end` are
--- dropouts, so that the run has these and what follows from `end` on. The measures are how many places are left.
--- Assumes nothing.
-use Prim.Native.Nat.{_+_, _-_, _≤_}
+-- search from `from` on gives, and nothing is found yet. The inner loop's: the run from `end` on ends where the whole run
+-- does. The measures are how many places are left. Assumes nothing.
+use Prim.Native.Nat.{ℕ, _+_, _-_, _≤_}
 use mathlib.Core.Path.{_≡_, refl, sym, _∙_}
+use mathlib.Core.Bool.{Bool}
 use native.Mathlib.Omega.{arith}
 use borrow.Author.Needs.{needs}
 use borrow.Author.Tests.{not-true, not-false}
-use Rattle.inpaint.specs.Auto.{runAt, nextRun}
+use Rattle.recording.proofs.Runs.{run-more, run-stops, run-ends}
+use Rattle.inpaint.specs.Auto.{dropoutAt, runAt, nextRun}
 use Rattle.inpaint.specs.declared.Run.the-variants.{Nowhere}
-use Rattle.inpaint.proofs.auto.Laws.{run-on, run-stops, run-touches}
 use Rattle.inpaint.proofs.auto.Laws.{search-passes, search-fails, search-touches, search-finds, search-ends}
 use Rattle.inpaint.proofs.auto.next_run.Statement.{statement}
 use Rattle.inpaint.proofs.auto.next_run.Tie as tie
 
 abbrev Inv-loop : tie.InvT-loop
 Inv-loop samples most from n found₀ i start end₀ found end =
-    (found ≡ Nowhere) × (start ≤ end) × (end ≤ n) × (runAt samples start ≡ end - start + runAt samples end)
+    (found ≡ Nowhere) × (start ≤ end) × (end ≤ n) × (end + runAt samples end ≡ start + runAt samples start)
 
 abbrev μ-loop : tie.MeasureT-loop
 μ-loop samples most from n found₀ i start end₀ found end = n - end
@@ -28,6 +28,10 @@ Inv-search samples most from n found₀ i₀ found i =
 abbrev μ-search : tie.MeasureT-search
 μ-search samples most from n found₀ i₀ found i = n - i
 
+-- the test of a place
+abbrev test : tie.Start Inv-loop μ-loop Inv-search μ-search → ℕ → Bool
+test c = dropoutAt (c .args .samples .now)
+
 search-holds : tie.Need-search-holds Inv-loop μ-loop Inv-search μ-search
 search-holds c = (refl, refl)
 
@@ -38,7 +42,7 @@ run-begins-requires : tie.Need-run-begins-requires Inv-loop μ-loop Inv-search �
 run-begins-requires c κs = omega arith
 
 loop-holds : tie.Need-loop-holds Inv-loop μ-loop Inv-search μ-search
-loop-holds c = (c .before .before .before .search .inv .0, omega arith, omega arith, omega arith)
+loop-holds c = (c .before .before .before .search .inv .0, omega arith, omega arith, refl)
 
 search-less : tie.Need-search-less Inv-loop μ-loop Inv-search μ-search
 search-less c = omega arith
@@ -49,7 +53,7 @@ search-again c =
     let turn = c .before .before .before .before in (
       followed .0,
       search-touches _ _ _ _ (turn .search-test .taken) (turn .before .search .inv .1) _
-          (run-touches _ _ _ (c .loop-test .left) (followed .3)) (omega arith),
+          (run-ends (test (turn .before .before .before)) _ _ _ (c .loop-test .left) (followed .3)) (c .loop-test .left),
     )
 
 mul-is-dropout : tie.Need-mul-is-dropout Inv-loop μ-loop Inv-search μ-search
@@ -82,7 +86,7 @@ search-again-2 c =
     let turn = inside .before .before .before .before in (
       followed .0,
       search-fails _ _ _ _ (turn .search-test .taken) (turn .before .search .inv .1) _
-          (run-stops _ _ _ (inside .loop-test .taken) none (followed .3)) _ (c .before .run-qualifies .ensures)
+          (run-stops (test (turn .before .before .before)) _ _ _ (inside .loop-test .taken) none (followed .3)) _ (c .before .run-qualifies .ensures)
           (c .if3 .left),
     )
 
@@ -96,8 +100,13 @@ loop-again : tie.Need-loop-again Inv-loop μ-loop Inv-search μ-search
 loop-again c =
     let inside = c .before .before .before in
     let followed = inside .before .loop .inv in
-    let more = sym (c .before .is-dropout .ensures) ∙ not-false _ (c .if2 .left) in
-    (followed .0, omega arith, omega arith, run-on _ _ _ (followed .1) (inside .loop-test .taken) more (followed .3))
+    let turn = inside .before .before .before .before in
+    let met = sym (c .before .is-dropout .ensures) ∙ not-false _ (c .if2 .left) in (
+      followed .0,
+      omega arith,
+      omega arith,
+      run-more (test (turn .before .before .before)) _ _ _ (inside .loop-test .taken) met (followed .3),
+    )
 
 search-less-3 : tie.Need-search-less-3 Inv-loop μ-loop Inv-search μ-search
 search-less-3 c = omega arith
@@ -123,7 +132,7 @@ returns-2 c =
     let begun = inside .before .before in
     let turn = begun .before .before in
     search-finds _ _ _ _ (turn .search-test .taken) (turn .before .search .inv .1) _
-    (run-stops _ _ _ (inside .loop-test .taken) none (inside .before .loop .inv .3)) _ _
+    (run-stops (test (turn .before .before .before)) _ _ _ (inside .loop-test .taken) none (inside .before .loop .inv .3)) _ _
     (begun .before .run-begins .ensures) (begun .if1 .taken) (c .before .run-qualifies .ensures) (c .if3 .taken)
 
 pub next-run-spec : {M : Type 1} → statement M
