@@ -13,15 +13,15 @@ use lib.Ieee.Scale.{finite}
 use Rattle.leaves.specs.Arithmetic.{_+₃₂_, _-₃₂_, _*₃₂_, _/₃₂_, nought, float, count}
 use Rattle.leaves.specs.Floats.{magnitude}
 use Rattle.leaves.proofs.Literals.{nought-word, one-word, two-word, three-word, unbounded, plus-infinity}
-use Rattle.recording.specs.Recording.{State, cubicDeclip}
+use Rattle.recording.specs.Recording.{State, cubicDeclip, called}
 use Rattle.recording.specs.Inner.{flags}
 use Rattle.recording.specs.Runs.{begins, runLength}
-use Rattle.redraw.specs.Whole.{Drawn, drawn, sample, untouched, wholeRepair}
+use Rattle.redraw.specs.Whole.{Drawn, drawn, sample, untouched, wholePlan}
 use Rattle.redraw.specs.Runs.{overRuns}
 use Rattle.redraw.specs.Inner.{wordsIn, flagsIn, restOf, drawnIn, Holds}
 use Rattle.redraw.proofs.Workspace.{store-words, store-behind, word-there, flag-words, name-flag, flags-behind, store-rest}
 use Rattle.redraw.proofs.Runs.{over-one, over-none, over-all}
-use Rattle.declip.specs.Declip.{allowed, clipped, clippedAt, to, cubicAt, cubicFrom, cubicFill, bridged, declipped, declipRepair}
+use Rattle.declip.specs.Declip.{allowed, clipped, clippedAt, to, cubicAt, cubicFrom, cubicFill, bridged, declipped, declipPlan, declipRepair}
 
 -- ---- The threshold
 
@@ -173,6 +173,6 @@ module _ (threshold : Float) (samples : List ℕ) where
 
 -- its whole rule, with the test of its threshold under another name
 pub declip-is : (threshold : Float) (b : Bool) (room : ℕ) (s : State) → b ≡ allowed threshold
-    → wholeRepair b room cubicDeclip (declipped threshold) s ≡ declipRepair threshold room s
-unfolding declipRepair
-declip-is threshold b room s e = ap (λ (x : Bool). wholeRepair x room cubicDeclip (declipped threshold) s) e
+    → called (wholePlan b room cubicDeclip (declipped threshold)) s ≡ declipRepair threshold room s
+unfolding declipRepair declipPlan
+declip-is threshold b room s e = ap (λ (x : Bool). called (wholePlan x room cubicDeclip (declipped threshold)) s) e

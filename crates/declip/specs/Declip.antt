@@ -8,8 +8,8 @@ use lib.Ieee.{Float, le, lt, add, sub, mul, div}
 use lib.Ieee.Scale.{finite}
 use Rattle.leaves.specs.Arithmetic.{_+₃₂_, _-₃₂_, _*₃₂_, _/₃₂_, nought, one, float, count}
 use Rattle.leaves.specs.Floats.{magnitude}
-use Rattle.recording.specs.Recording.{State, Ended, Plan, cubicDeclip, if_then_else_}
-use Rattle.redraw.specs.Whole.{sample, store, Drawn, drawn, untouched, wholePlan, wholeRepair}
+use Rattle.recording.specs.Recording.{State, Ended, Plan, called, cubicDeclip, if_then_else_}
+use Rattle.redraw.specs.Whole.{sample, store, Drawn, drawn, untouched, wholePlan}
 use Rattle.redraw.specs.Runs.{overRuns}
 
 -- "Threshold finite and above 0, else 4."
@@ -64,10 +64,12 @@ unfolding clipped overRuns bridged
 declipped threshold samples =
     overRuns (clippedAt threshold samples) (bridged (length samples)) 0 (length samples) (untouched samples)
 
+-- its plan: refusals 4, 6 and 7, or the mark and the named samples
 unfoldable pub declipPlan : Float → ℕ → List ℕ → Plan
 unfolding wholePlan declipped lt
 declipPlan threshold room = wholePlan (allowed threshold) room cubicDeclip (declipped threshold)
 
+-- the call
 unfoldable pub declipRepair : Float → ℕ → State → Ended
-unfolding wholeRepair declipped lt
-declipRepair threshold room = wholeRepair (allowed threshold) room cubicDeclip (declipped threshold)
+unfolding declipPlan called
+declipRepair threshold room = called (declipPlan threshold room)

@@ -11,17 +11,17 @@ use borrow.Author.Tests.{lt-ltb, le-ltb}
 use lib.ListN.{length, getD, drop, length-map}
 use lib.Ieee.{Float, eq}
 use Rattle.leaves.proofs.words.Laws.{number-test}
-use Rattle.recording.specs.Recording.{State}
+use Rattle.recording.specs.Recording.{State, called}
 use Rattle.recording.specs.Recording as recording
 use Rattle.recording.specs.Inner.{flags}
 use Rattle.recording.specs.Runs.{begins, runLength}
 use Rattle.recording.proofs.Runs.{begins-there, run-short}
-use Rattle.redraw.specs.Whole.{Drawn, drawn, untouched, wholeRepair}
+use Rattle.redraw.specs.Whole.{Drawn, drawn, untouched, wholePlan}
 use Rattle.redraw.specs.Runs.{overRuns}
 use Rattle.redraw.specs.Inner.{wordsIn, flagsIn, drawnIn, flaggedAt, Holds, Room}
 use Rattle.redraw.proofs.Workspace.{rest-behind, flags-behind, flags-count, room-stays}
 use Rattle.redraw.proofs.Runs.{over-one, over-none, over-all}
-use Rattle.decrackle.specs.Decrackle.{flagsOf, rewritten, smoothed, decrackled, decrackleRepair}
+use Rattle.decrackle.specs.Decrackle.{flagsOf, rewritten, smoothed, decrackled, decracklePlan, decrackleRepair}
 use Rattle.decrackle.proofs.Ends.{ends-never-flagged}
 
 -- ---- A run that begins behind the first place and does not reach the last
@@ -145,7 +145,7 @@ module _ (sensitivity : Float) (samples w v : List ℕ) (laid : drawnIn (length 
 
 -- its whole rule, with the code's test of its sensitivity
 pub decrackle-is : (sensitivity : Float) (room : ℕ) (s : State)
-    → wholeRepair (eq sensitivity sensitivity) room recording.decrackle (decrackled sensitivity) s ≡ decrackleRepair sensitivity room s
-unfolding decrackleRepair
+    → called (wholePlan (eq sensitivity sensitivity) room recording.decrackle (decrackled sensitivity)) s ≡ decrackleRepair sensitivity room s
+unfolding decrackleRepair decracklePlan
 decrackle-is sensitivity room s =
-    ap (λ (b : Bool). wholeRepair b room recording.decrackle (decrackled sensitivity) s) (number-test sensitivity)
+    ap (λ (b : Bool). called (wholePlan b room recording.decrackle (decrackled sensitivity)) s) (number-test sensitivity)

@@ -9,9 +9,9 @@ use lib.IntN.{negsuc}
 use lib.Ieee.{Float, fin, binary32, lt, isNan, add, sub, mul, div, neg}
 use Rattle.leaves.specs.Arithmetic.{_+₃₂_, _-₃₂_, _*₃₂_, _/₃₂_, nought, one, half, near, float, count}
 use Rattle.leaves.specs.Floats.{magnitude, held, rounded}
-use Rattle.recording.specs.Recording.{State, Ended, Plan, if_then_else_}
+use Rattle.recording.specs.Recording.{State, Ended, Plan, called, if_then_else_}
 use Rattle.recording.specs.Recording as recording
-use Rattle.redraw.specs.Whole.{sample, store, Drawn, drawn, untouched, wholePlan, wholeRepair}
+use Rattle.redraw.specs.Whole.{sample, store, Drawn, drawn, untouched, wholePlan}
 
 -- ---- The settings
 
@@ -102,13 +102,15 @@ dequantized bits strength samples =
     let step = stepOf bits in
     if acts held 3 n then drawn (widened step held (firstPass step held 1 (n - 2) samples)) (inner 1 n) else untouched samples
 
+-- its plan: refusals 4, 6 and 7, or the mark and the named samples
 unfoldable pub dequantizePlan : ℕ → Float → ℕ → List ℕ → Plan
 unfolding wholePlan dequantized isNan
 dequantizePlan bits strength room = wholePlan (allowed strength) room recording.dequantize (dequantized bits strength)
 
+-- the call
 unfoldable pub dequantizeRepair : ℕ → Float → ℕ → State → Ended
-unfolding wholeRepair dequantized isNan
-dequantizeRepair bits strength room = wholeRepair (allowed strength) room recording.dequantize (dequantized bits strength)
+unfolding dequantizePlan called
+dequantizeRepair bits strength room = called (dequantizePlan bits strength room)
 
 -- ---- `dequantize_cosparse`, at a sample with a and b before it and c and d behind it
 
@@ -173,12 +175,13 @@ cosparse bits strength iterations samples =
     if acts held 5 n && ltb 0 iterations
     then drawn (sparsePasses (stepOf bits) held (min iterations mostIterations) samples) (inner 2 n) else untouched samples
 
+-- its plan: refusals 4, 6 and 7, or the mark and the named samples
 unfoldable pub cosparsePlan : ℕ → Float → ℕ → ℕ → List ℕ → Plan
 unfolding wholePlan cosparse isNan
 cosparsePlan bits strength iterations room =
     wholePlan (allowed strength) room recording.dequantize (cosparse bits strength iterations)
 
+-- the call
 unfoldable pub cosparseRepair : ℕ → Float → ℕ → ℕ → State → Ended
-unfolding wholeRepair cosparse isNan
-cosparseRepair bits strength iterations room =
-    wholeRepair (allowed strength) room recording.dequantize (cosparse bits strength iterations)
+unfolding cosparsePlan called
+cosparseRepair bits strength iterations room = called (cosparsePlan bits strength iterations room)

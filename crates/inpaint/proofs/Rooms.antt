@@ -13,14 +13,14 @@ use lib.Ieee.{Float}
 use borrow.Author.Tests.{ltb-true}
 use Rattle.leaves.specs.Floats.{inRange}
 use Rattle.recording.specs.Answers.{number, reasonNumber}
-use Rattle.recording.specs.Recording.{State, Ended, Placed, Plan, refuse, change, if_then_else_, differ, tooMany}
+use Rattle.recording.specs.Recording.{orElse, State, Ended, Placed, Plan, refuse, change, if_then_else_, differ, tooMany}
 use Rattle.recording.specs.Recording.{overUsed, readable, unlessRead}
 use Rattle.recording.specs.Recording.{fitting, ranged, entered, entry, committed, carried, performed, unlessRefused}
 use Rattle.recording.specs.Recording.{entrySize, places}
 use Rattle.recording.specs.declared.Reason.the-variants.{Room, Setting}
 use Rattle.recording.specs.declared.Answer.{Answer}
 use Rattle.recording.specs.declared.Answer.the-variants.{Done, Refused}
-use Rattle.inpaint.specs.Gap.{gapWrong, byLine, needed, allReadable, knownBefore, knownBehind, orElse}
+use Rattle.inpaint.specs.Gap.{gapWrong, byLine, needed, allReadable, knownBefore, knownBehind}
 use Rattle.inpaint.specs.Gap.{from, line, model, repaired, gapPlan, gapRepair}
 use Rattle.inpaint.specs.Auto.{limit, allowed, dropout, dropoutAt, runBegins, runAt, qualifies, nextRun, Scan, scan, repairAt}
 use Rattle.inpaint.specs.Auto.{scanFrom, scannable, automatic}

@@ -8,8 +8,8 @@ use lib.Ieee.{Float, isNan, eq, mul, div, toUnsigned}
 use lib.Ieee.Scale.{finite}
 use Rattle.leaves.specs.Arithmetic.{_*₃₂_, _/₃₂_, nought, one, float, count}
 use Rattle.leaves.specs.Floats.{larger}
-use Rattle.recording.specs.Answers.{number}
-use Rattle.recording.specs.Recording.{State, fitting, workAfter, if_then_else_}
+use Rattle.recording.specs.Answers.{number, reasonNumber}
+use Rattle.recording.specs.Recording.{State, fitting, orElse, workAfter, if_then_else_}
 use Rattle.recording.specs.Runs.{begins, runLength}
 use Rattle.recording.specs.declared.Reason.the-variants.{Setting}
 use Rattle.recording.specs.declared.Answer.{Answer}
@@ -107,11 +107,13 @@ scanFrom most i (suc n) c =
 -- refusals 1 to 4, which "are tested once"; or else an acceptance
 unfoldable pub scannable : ℕ → Float → State → Answer
 unfolding fitting
-scannable rate ms s = let four = if allowed rate ms then Done 0 else Refused Setting in elim (fitting s) [ Done m ↦ four | Refused why ↦ Refused why ]
+scannable rate ms s = orElse (fitting s) (if allowed rate ms then Done 0 else Refused Setting)
 
+-- the call: refusals 1 to 4 end it with nothing counted, and else it scans from the first place on
 unfoldable pub automatic : ℕ → Float → List Float → State → Scan
 unfolding scannable scanFrom limit
 automatic rate ms w s =
-    let first = scannable rate ms s in
-    let scanned = scanFrom (limit ms rate) 0 (length (s .samples)) (scan 0 0 0 s w) in
-    elim first [ Done m ↦ scanned | Refused why ↦ scan 0 0 (number (Refused why)) s w ]
+    elim (scannable rate ms s) [
+      | Done m ↦ scanFrom (limit ms rate) 0 (length (s .samples)) (scan 0 0 0 s w)
+      | Refused why ↦ scan 0 0 (reasonNumber why) s w
+    ]

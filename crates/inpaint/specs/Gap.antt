@@ -8,8 +8,8 @@ use lib.Dec.{leb, ltb, eqb}
 use lib.Ieee.{Float, binary32, toBits, add, sub, mul, div}
 use Rattle.leaves.specs.Arithmetic.{_+₃₂_, _-₃₂_, _*₃₂_, _/₃₂_, nought, one, float, count}
 use Rattle.leaves.specs.Floats.{narrowed}
-use Rattle.recording.specs.Recording.{State, Ended, Plan, refuse, change, span, performed, if_then_else_, gapByModel}
-use Rattle.recording.specs.Recording.{gapByLine, readable, unlessRead}
+use Rattle.recording.specs.Recording.{State, Ended, Plan, refuse, change, span, called, if_then_else_, gapByModel}
+use Rattle.recording.specs.Recording.{gapByLine, orElse, readable, unlessRead}
 use Rattle.recording.specs.declared.Reason.the-variants.{Gap, Workspace}
 use Rattle.recording.specs.declared.Answer.{Answer}
 use Rattle.recording.specs.declared.Answer.the-variants.{Done, Refused}
@@ -56,11 +56,6 @@ knownBefore samples start len = take (start - from start len) (drop (from start 
 
 unfoldable pub knownBehind : List ℕ → ℕ → ℕ → List ℕ
 knownBehind samples start len = take (to (length samples) start len - (start + len)) (drop (start + len) samples)
-
--- the first refusal of two tests, or else an acceptance
-abbrev pub orElse : Answer → Answer → Answer
-orElse (Done m) later = later
-orElse (Refused why) later = Refused why
 
 unfoldable pub allReadable : List ℕ → ℕ → ℕ → Answer
 unfolding knownBefore knownBehind readable
@@ -122,7 +117,7 @@ gapPlan start len passes room samples =
     if ltb room (needed (length samples) start len) then refuse Workspace else
     unlessRead (allReadable samples start len) (repaired passes samples start len)
 
--- the call: refusals 1 to 3, the plan, refusals 8 and 9
+-- the call
 unfoldable pub gapRepair : ℕ → ℕ → ℕ → ℕ → State → Ended
-unfolding gapPlan performed
-gapRepair start len passes room s = performed s (gapPlan start len passes room (s .samples))
+unfolding gapPlan called
+gapRepair start len passes room = called (gapPlan start len passes room)

@@ -9,7 +9,7 @@ use Prim.Native.Nat.{ℕ, zero, suc, _-_, _≤_, _<_}
 use native.Mathlib.Omega.{arith}
 use lib.ListN.{length, getD, replicate, length-reverse}
 use Rattle.recording.specs.Answers.{value}
-use Rattle.recording.specs.Recording.{State, Ended, ended, Placed, made, committed, Plan, change, performed}
+use Rattle.recording.specs.Recording.{State, Ended, ended, Placed, made, committed, Plan, change, performed, called}
 use Rattle.recording.specs.Recording.{undone, opened, differ, tooMany}
 use Rattle.recording.specs.History.{Repair, Call, repair, undo, did, run, surviving, survivorsOver, survivors}
 use Rattle.recording.specs.History.{replay, fresh}
@@ -46,7 +46,7 @@ reached-sound (more before p e) = after-sound e (reached-sound before)
 
 -- a call, by the rules
 pub did-repair : (r : Repair) (s : State) → did (repair r) s ≡ performed s (r (s .samples))
-unfolding did
+unfolding did called
 did-repair r s = refl
 
 did-undo : (s : State) → did undo s ≡ undone s

@@ -8,7 +8,7 @@ use lib.ListN.{length}
 use lib.Dec.{eqb, ltb}
 use Rattle.recording.specs.Answers.{number, reasonNumber}
 use Rattle.recording.specs.Recording.{State, Ended, ended, refused, unlessRefused, Placed, put, committed, Plan, refuse, change}
-use Rattle.recording.specs.Recording.{fitting, ranged, entrySize, entered, carried, performed, malformed, undone}
+use Rattle.recording.specs.Recording.{fitting, ranged, entrySize, entered, carried, performed, called, malformed, undone}
 use Rattle.recording.specs.History.{Repair, Call, repair, undo, did}
 use Rattle.recording.specs.Consequences.{RefusalChangesNothing, MadeOf, AcceptedAsRuled}
 use Rattle.recording.specs.declared.Reason.{Reason}
@@ -49,7 +49,7 @@ carried-keeps s (refuse why) = refused-keeps s why
 carried-keeps s (change mark cs) = unless-keeps (ranged cs) s (entered s mark cs) (entered-keeps s mark cs)
 
 pub did-keeps : (c : Call) (s : State) → Keeps s (did c s)
-unfolding did performed undone
+unfolding did called performed undone
 did-keeps (repair r) s = unless-keeps (fitting s) s _ (carried-keeps s (r (s .samples)))
 did-keeps undo s =
     unless-keeps (fitting s) s _

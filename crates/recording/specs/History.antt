@@ -8,7 +8,7 @@ use mathlib.Core.Bool.{true}
 use mathlib.Core.List.{List, [], _∷_, map, reverse}
 use lib.ListN.{length, getD, replicate}
 use Rattle.recording.specs.Recording.{State, state, Ended, Placed, Plan, refuse, change, measured, made}
-use Rattle.recording.specs.Recording.{performed, undone, opened}
+use Rattle.recording.specs.Recording.{called, undone, opened}
 use Rattle.recording.specs.declared.Answer.{Answer}
 use Rattle.recording.specs.declared.Answer.the-variants.{Done, Refused}
 
@@ -24,8 +24,8 @@ pub data Call : Type 0 where
 
 -- how a call on a recording ends; refused or accepted, it is a call
 unfoldable pub did : Call → State → Ended
-unfolding performed undone
-did (repair r) s = performed s (r (s .samples))
+unfolding called undone
+did (repair r) s = called r s
 did undo s = undone s
 
 -- the recording after a sequence of calls
@@ -84,14 +84,16 @@ abbrev pub Ascending : ℕ → ℕ → List Placed → Type 0
 Ascending n least [] = Unit {0}
 Ascending n least (c ∷ cs) = (least ≤ c .place) × (c .place < n) × Ascending n (c .place + 1) cs
 
--- it refuses, or sets a mark of 1 to 5 at such places
+-- a plan refuses, or sets a mark of 1 to 5 at such places
 abbrev pub Keeps : ℕ → Plan → Type 0
 Keeps n (refuse why) = Unit {0}
 Keeps n (change mark cs) = (made mark ≡ true) × Ascending n 0 cs
 
+-- so does every plan of a repair
 abbrev pub LawfulRepair : Repair → Type 0
 LawfulRepair r = (samples : List ℕ) → Keeps (length samples) (r samples)
 
+-- and so does every repair of a sequence
 abbrev pub Lawful : List Call → Type 0
 Lawful [] = Unit {0}
 Lawful (repair r ∷ cs) = LawfulRepair r × Lawful cs

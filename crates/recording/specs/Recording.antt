@@ -94,6 +94,11 @@ fitting s =
     if overUsed s then Refused Used else
     Done 0
 
+-- the first refusal of two tests, or else an acceptance
+abbrev pub orElse : Answer → Answer → Answer
+orElse (Done m) later = later
+orElse (Refused why) later = Refused why
+
 -- a refusal where there is one, and else the rest of the call
 abbrev pub unlessRefused : Answer → State → Ended → Ended
 unlessRefused (Done m) s rest = rest
@@ -106,9 +111,21 @@ pub record Placed : Type 0 where
   pub place : ℕ
   pub value : ℕ
 
+-- the places alone
 abbrev pub places : List Placed → List ℕ
 places [] = []
 places (c ∷ cs) = c .place ∷ places cs
+
+-- named as a span: consecutive places from i on, with these words
+unfoldable pub span : ℕ → List ℕ → List Placed
+span i [] = []
+span i (w ∷ ws) = record { place = i; value = w } ∷ span (i + 1) ws
+
+-- named as picked out of the places from i on: those with true, with the word that stands beside it
+unfoldable pub picked : ℕ → List Bool → List ℕ → List Placed
+picked i [] ws = []
+picked i (b ∷ bs) [] = []
+picked i (b ∷ bs) (w ∷ ws) = let later = picked (i + 1) bs ws in cond b (record { place = i; value = w } ∷ later) later
 
 -- the list with each value at its place
 unfoldable pub put : List Placed → List ℕ → List ℕ
@@ -126,10 +143,12 @@ pub record Saved : Type 0 where
   pub word : ℕ
   pub mark : ℕ
 
+-- of each of these places
 unfoldable pub saved : List ℕ → List ℕ → List ℕ → List Saved
 saved samples marks [] = []
 saved samples marks (i ∷ is) = record { place = i; word = getD samples i 0; mark = getD marks i 0 } ∷ saved samples marks is
 
+-- as words of the journal
 abbrev pub threeWords : List Saved → List ℕ
 threeWords [] = []
 threeWords (t ∷ ts) = t .place ∷ t .word ∷ t .mark ∷ threeWords ts
@@ -150,21 +169,7 @@ committed s mark cs =
     state (put cs (s .samples)) (put (each mark (places cs)) (s .marks)) (sets (s .journal) (s .used) (entry s mark (places cs)))
     (s .used + entrySize (length cs))
 
--- 9: "m is at least 1 and the journal has fewer than 3m+2 free words". "Naming nothing is accepted and appends nothing".
-unfoldable pub entered : State → ℕ → List Placed → Ended
-unfolding committed
-entered s mark cs =
-    let m = length cs in
-    let free = length (s .journal) - s .used in
-    if eqb m 0 then ended (Done 0) s else
-    if ltb free (entrySize m) then refused s Room else
-    ended (Done m) (committed s mark cs)
-
--- 8: "a result at a named sample is not in range", with "the lowest such place"; or else an acceptance
-unfoldable pub ranged : List Placed → Answer
-unfolding inRange
-ranged [] = Done 0
-ranged (c ∷ cs) = let later = ranged cs in if inRange (c .value) then later else Refused (Result (c .place))
+-- ---- A repair: its rule, and refusals 7, 8 and 9
 
 -- what a repair's own rule makes of the samples: a reason among 4 to 7, or a mark and the named samples, ascending
 pub data Plan : Type 0 where
@@ -183,16 +188,21 @@ abbrev pub unlessRead : Answer → Plan → Plan
 unlessRead (Done m) rest = rest
 unlessRead (Refused why) rest = refuse why
 
--- named as a span: consecutive places from i on, with these words
-unfoldable pub span : ℕ → List ℕ → List Placed
-span i [] = []
-span i (w ∷ ws) = record { place = i; value = w } ∷ span (i + 1) ws
+-- 8: "a result at a named sample is not in range", with "the lowest such place"; or else an acceptance
+unfoldable pub ranged : List Placed → Answer
+unfolding inRange
+ranged [] = Done 0
+ranged (c ∷ cs) = let later = ranged cs in if inRange (c .value) then later else Refused (Result (c .place))
 
--- named as picked out of the places from i on: those with true, with the word that stands beside it
-unfoldable pub picked : ℕ → List Bool → List ℕ → List Placed
-picked i [] ws = []
-picked i (b ∷ bs) [] = []
-picked i (b ∷ bs) (w ∷ ws) = let later = picked (i + 1) bs ws in cond b (record { place = i; value = w } ∷ later) later
+-- 9: "m is at least 1 and the journal has fewer than 3m+2 free words". "Naming nothing is accepted and appends nothing".
+unfoldable pub entered : State → ℕ → List Placed → Ended
+unfolding committed
+entered s mark cs =
+    let m = length cs in
+    let free = length (s .journal) - s .used in
+    if eqb m 0 then ended (Done 0) s else
+    if ltb free (entrySize m) then refused s Room else
+    ended (Done m) (committed s mark cs)
 
 -- refusals 4 to 7 are the plan's own, then 8, then 9
 unfoldable pub carried : State → Plan → Ended
@@ -200,10 +210,15 @@ unfolding ranged entered
 carried s (refuse why) = refused s why
 carried s (change mark cs) = unlessRefused (ranged cs) s (entered s mark cs)
 
--- a repair: refusals 1 to 3, and then its plan
+-- refusals 1 to 3, and then the plan
 unfoldable pub performed : State → Plan → Ended
 unfolding fitting carried
 performed s p = unlessRefused (fitting s) s (carried s p)
+
+-- the call of a repair whose rule, with its settings, this is
+unfoldable pub called : (List ℕ → Plan) → State → Ended
+unfolding performed
+called rule s = performed s (rule (s .samples))
 
 -- ---- The workspace
 
@@ -249,6 +264,7 @@ savedAt journal i zero = []
 savedAt journal i (suc m) =
     record { place = getD journal i 0; word = getD journal (i + 1) 0; mark = getD journal (i + 2) 0 } ∷ savedAt journal (i + 3) m
 
+-- what the last entry keeps
 unfoldable pub lastSaved : List ℕ → ℕ → List Saved
 unfolding savedAt
 lastSaved journal used = savedAt journal (lastBegin journal used) (lastCount journal used)
@@ -285,6 +301,7 @@ malformed n journal used =
     || markPast olds
     || not (made (lastMark journal used))
 
+-- the words that it keeps, and the marks, each with its place
 abbrev pub oldWords : List Saved → List Placed
 oldWords [] = []
 oldWords (t ∷ ts) = record { place = t .place; value = t .word } ∷ oldWords ts

@@ -9,7 +9,7 @@ use native.Mathlib.Omega.{arith}
 use borrow.Author.Tests.{lt-ltb, le-ltb, ltb-false}
 use lib.Dec.{ltb}
 use lib.ListN.{length, drop}
-use Rattle.recording.specs.Recording.{State, Ended, ended, fitting, readable, Plan, refuse, change, picked, carried, performed, made}
+use Rattle.recording.specs.Recording.{State, Ended, ended, fitting, orElse, readable, Plan, refuse, change, picked, carried, performed, called, made}
 use Rattle.recording.specs.Recording.{cleared, clears, workAfter, unlessRead, unlessRefused, if_then_else_}
 use Rattle.recording.specs.History.{Keeps, LawfulRepair}
 use Rattle.recording.specs.Inner.{Fits, pickedBy}
@@ -22,7 +22,7 @@ use Rattle.recording.proofs.Performing.{commit-clears, cleared-too, picked-asce
 use Rattle.recording.proofs.open.Laws.{accepted-fits}
 use Rattle.recording.proofs.read.Laws.{readable-ends}
 use Rattle.redraw.proofs.Workspace.{room-stays}
-use Rattle.redraw.specs.Whole.{Drawn, untouched, needed, wholePlan, wholeRepair}
+use Rattle.redraw.specs.Whole.{Drawn, untouched, needed, wholePlan}
 use Rattle.redraw.specs.Inner.{begun, Begun, wordsIn, drawnIn, Holds, Room}
 
 -- ---- Refusals 1 to 4, 6 and 7
@@ -35,7 +35,7 @@ first (Done m) false false r = r
 first (Refused why) b c r = Refused why
 
 first-is : (f : Answer) (b c : Bool) (r : Answer)
-    → first f b c r ≡ elim f [ Done m ↦ if b then Refused Setting else if c then Refused Workspace else r | Refused why ↦ Refused why ]
+    → first f b c r ≡ orElse f (if b then Refused Setting else if c then Refused Workspace else r)
 first-is (Done m) true c r = refl
 first-is (Done m) false true r = refl
 first-is (Done m) false false r = refl
@@ -178,15 +178,15 @@ module _ (allowed : Bool) (w : List ℕ) (s : State) (a : Answer) (start : a ≡
       (accepted-fits s (fits .0) (fits .1), omega (arith, start-room m w e refl .enough, count, count'))
 
   -- how the repair ends, by its mark and its own rule of what is drawn; `rule` is its whole rule
-  module _ (mark : ℕ) (draw : List ℕ → Drawn) (rule : Ended) (is : wholeRepair allowed (length w) mark draw s ≡ rule) where
+  module _ (mark : ℕ) (draw : List ℕ → Drawn) (rule : Ended) (is : called (wholePlan allowed (length w) mark draw) s ≡ rule) where
     abbrev Ends : Answer → State → List ℕ → Type 0
     Ends r after next = (ended r after ≡ rule) × (next ≡ workAfter 0 (needed (length (s .samples))) r w)
 
     abbrev planned : Plan
     planned = let d = draw (s .samples) in change mark (picked 0 (d .named) (d .words))
 
-    repair-is : tests s (fitting s) (not allowed) short (readable 0 (s .samples)) planned ≡ wholeRepair allowed (length w) mark draw s
-    unfolding wholeRepair wholePlan performed
+    repair-is : tests s (fitting s) (not allowed) short (readable 0 (s .samples)) planned ≡ called (wholePlan allowed (length w) mark draw) s
+    unfolding called wholePlan performed
     repair-is = refl
 
     -- a refusal of the start ends it

@@ -5,7 +5,7 @@ use mathlib.Core.Bool.{Bool, false, not, cond}
 use mathlib.Core.List.{List}
 use lib.ListN.{length, getD, take, drop}
 use lib.Dec.{ltb}
-use Rattle.recording.specs.Recording.{State, mostSamples, fitting, readable, if_then_else_}
+use Rattle.recording.specs.Recording.{State, mostSamples, fitting, orElse, readable, if_then_else_}
 use Rattle.recording.specs.Inner.{flags}
 use Rattle.recording.specs.declared.Reason.the-variants.{Setting, Workspace}
 use Rattle.recording.specs.declared.Answer.{Answer}
@@ -16,9 +16,10 @@ use Rattle.redraw.specs.Whole.{Drawn, drawn, untouched, needed}
 unfoldable pub begun : Bool → ℕ → State → Answer
 unfolding fitting readable
 begun allowed room s =
-    let read = readable 0 (s .samples) in
-    let four = if not allowed then Refused Setting else if ltb room (needed (length (s .samples))) then Refused Workspace else read in
-    elim (fitting s) [ Done m ↦ four | Refused why ↦ Refused why ]
+    orElse (fitting s)
+    (if not allowed then Refused Setting else
+    if ltb room (needed (length (s .samples))) then Refused Workspace else
+    readable 0 (s .samples))
 
 -- The workspace of a repair of n samples: n words, then n words of which each that is not 0 names the sample of its place.
 abbrev pub wordsIn : ℕ → List ℕ → List ℕ

@@ -7,7 +7,7 @@ use lib.ListN.{length, getD, set, replicate}
 use lib.Dec.{ltb}
 use lib.Ieee.{Float, binary32, toBits}
 use Rattle.leaves.specs.Arithmetic.{float}
-use Rattle.recording.specs.Recording.{State, Ended, Plan, refuse, change, picked, readable, unlessRead, performed, if_then_else_}
+use Rattle.recording.specs.Recording.{Plan, refuse, change, picked, readable, unlessRead, if_then_else_}
 use Rattle.recording.specs.declared.Reason.the-variants.{Setting, Workspace}
 
 -- the float of the sample at place i, and the samples with the word of the float x there
@@ -42,8 +42,3 @@ wholePlan allowed room mark draw samples =
     if not allowed then refuse Setting else
     if ltb room (needed (length samples)) then refuse Workspace else
     unlessRead (readable 0 samples) (change mark (picked 0 (made .named) (made .words)))
-
--- the call: refusals 1 to 3, the plan, refusals 8 and 9
-unfoldable pub wholeRepair : Bool → ℕ → ℕ → (List ℕ → Drawn) → State → Ended
-unfolding wholePlan performed
-wholeRepair allowed room mark draw s = performed s (wholePlan allowed room mark draw (s .samples))

@@ -3,8 +3,8 @@
 use mathlib.Core.Path.{_≡_}
 use borrow.Author.Needs.{needs}
 use lib.ListN.{length}
-use Rattle.recording.specs.Recording.{State, state, cubicDeclip}
-use Rattle.redraw.specs.Whole.{wholeRepair}
+use Rattle.recording.specs.Recording.{State, state, cubicDeclip, called}
+use Rattle.redraw.specs.Whole.{wholePlan}
 use Rattle.redraw.proofs.Ending.{start-room, start-finishes, start-holds, whole-refused, whole-done}
 use Rattle.declip.specs.Declip.{declipped, declipRepair}
 use Rattle.declip.proofs.Laws.{declip-is}
@@ -23,7 +23,7 @@ after c = let l = c .finish .last in state (l .0) (l .1 .0) (l .1 .1 .0) (l .1 .
 
 -- the rule of the call
 rule-is : (c : tie.After-begin) → let a = start c .args in
-    wholeRepair (c .before .before .threshold-allowed .result) (length (a .work .now)) cubicDeclip (declipped (a .threshold)) (recording c)
+    called (wholePlan (c .before .before .threshold-allowed .result) (length (a .work .now)) cubicDeclip (declipped (a .threshold))) (recording c)
     ≡ declipRepair (a .threshold) (length (a .work .now)) (recording c)
 rule-is c = declip-is _ _ _ (recording c) (c .before .before .threshold-allowed .ensures)
 

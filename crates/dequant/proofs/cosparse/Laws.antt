@@ -15,13 +15,13 @@ use Rattle.leaves.specs.Arithmetic.{_+₃₂_, _-₃₂_, _*₃₂_, _/₃₂_,
 use Rattle.leaves.specs.Floats.{magnitude, held}
 use Rattle.leaves.proofs.Parts.{take-sets, drop-sets, part-of-sets}
 use Rattle.leaves.proofs.words.Laws.{number-test}
-use Rattle.recording.specs.Recording.{State, dequantize, if_then_else_}
+use Rattle.recording.specs.Recording.{State, called, dequantize, if_then_else_}
 use Rattle.recording.proofs.Picks.{picks}
-use Rattle.redraw.specs.Whole.{Drawn, drawn, untouched, sample, wholeRepair}
+use Rattle.redraw.specs.Whole.{Drawn, drawn, untouched, sample, wholePlan}
 use Rattle.redraw.specs.Inner.{wordsIn, flagsIn, restOf, drawnIn, Holds, Room}
 use Rattle.redraw.proofs.Workspace.{store-words, store-behind, flag-there, flags-behind, rest-behind, words-count, holds-then}
 use Rattle.dequant.specs.Dequant.{linear, cubic, cubicWeight, candidate, localStrength, target, sparseAt, sparsePass}
-use Rattle.dequant.specs.Dequant.{sparsePasses, stepOf, strengthOf, inner, acts, mostIterations, cosparse, cosparseRepair}
+use Rattle.dequant.specs.Dequant.{sparsePasses, stepOf, strengthOf, inner, acts, mostIterations, cosparse, cosparsePlan, cosparseRepair}
 use Rattle.leaves.proofs.Literals.{one-word, half-word, two-word}
 
 -- ---- The formulas
@@ -220,10 +220,10 @@ module _ (bits iterations n : ℕ) (strength : Float) (w : List ℕ) (room : Roo
 
 -- its whole rule, with the code's test of its strength
 pub cosparse-is : (bits : ℕ) (strength : Float) (iterations room : ℕ) (s : State)
-    → wholeRepair (eq strength strength) room dequantize (cosparse bits strength iterations) s ≡ cosparseRepair bits strength iterations room s
-unfolding cosparseRepair
+    → called (wholePlan (eq strength strength) room dequantize (cosparse bits strength iterations)) s ≡ cosparseRepair bits strength iterations room s
+unfolding cosparseRepair cosparsePlan
 cosparse-is bits strength iterations room s =
-    ap (λ (b : Bool). wholeRepair b room dequantize (cosparse bits strength iterations) s) (number-test strength)
+    ap (λ (b : Bool). called (wholePlan b room dequantize (cosparse bits strength iterations)) s) (number-test strength)
 
 -- ---- How many words there are
 

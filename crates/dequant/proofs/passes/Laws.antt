@@ -10,13 +10,13 @@ use lib.ListN.{length, getD, set, drop}
 use lib.Seq.{sets}
 use lib.Ieee.{Float, binary32, ofBits, toBits, lt, eq, round}
 use Rattle.leaves.specs.Arithmetic.{_+₃₂_, _-₃₂_, _*₃₂_, near, float}
-use Rattle.recording.specs.Recording.{State}
+use Rattle.recording.specs.Recording.{State, called}
 use Rattle.recording.specs.Recording as recording
-use Rattle.redraw.specs.Whole.{sample, drawn, untouched, wholeRepair}
+use Rattle.redraw.specs.Whole.{sample, drawn, untouched, wholePlan}
 use Rattle.redraw.specs.Inner.{wordsIn, flagsIn, restOf, drawnIn, Holds, Room}
 use Rattle.redraw.proofs.Workspace.{store-words, store-behind, word-there, flags-behind, rest-behind, words-count}
 use Rattle.dequant.specs.Dequant.{strengthOf, stepOf, target, firstAt, firstPass, quarter, secondAt, secondPass, wide, widened}
-use Rattle.dequant.specs.Dequant.{acts, inner, dequantized, dequantizeRepair}
+use Rattle.dequant.specs.Dequant.{acts, inner, dequantized, dequantizePlan, dequantizeRepair}
 use Rattle.leaves.proofs.words.Laws.{number-test}
 use Rattle.leaves.proofs.Literals.{half-word}
 use Rattle.dequant.proofs.lattice.Laws.{first-holds, snapped-words, snapped-flags, snapped-rest, snapped-there}
@@ -184,7 +184,7 @@ module _ (n bits : ℕ) (strength h : Float) (w : List ℕ) (held : h ≡ streng
 
 -- its whole rule, with the code's test of its strength
 pub dequantize-is : (bits : ℕ) (strength : Float) (room : ℕ) (s : State)
-    → wholeRepair (eq strength strength) room recording.dequantize (dequantized bits strength) s ≡ dequantizeRepair bits strength room s
-unfolding dequantizeRepair
+    → called (wholePlan (eq strength strength) room recording.dequantize (dequantized bits strength)) s ≡ dequantizeRepair bits strength room s
+unfolding dequantizeRepair dequantizePlan
 dequantize-is bits strength room s =
-    ap (λ (b : Bool). wholeRepair b room recording.dequantize (dequantized bits strength) s) (number-test strength)
+    ap (λ (b : Bool). called (wholePlan b room recording.dequantize (dequantized bits strength)) s) (number-test strength)

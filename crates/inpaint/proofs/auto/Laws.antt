@@ -19,8 +19,8 @@ use Rattle.leaves.proofs.Literals.{unbounded, plus-infinity}
 use Rattle.leaves.specs.Arithmetic.{nought, one, float, count}
 use Rattle.leaves.specs.Floats.{larger}
 use Rattle.leaves.proofs.words.Laws.{nan-test, one-nan}
-use Rattle.recording.specs.Answers.{number}
-use Rattle.recording.specs.Recording.{State, Ended, ended, fitting, workAfter, if_then_else_}
+use Rattle.recording.specs.Answers.{number, reasonNumber}
+use Rattle.recording.specs.Recording.{State, Ended, ended, fitting, orElse, workAfter, if_then_else_}
 use Rattle.recording.specs.declared.Reason.{Reason}
 use Rattle.recording.specs.declared.Reason.the-variants.{Setting}
 use Rattle.recording.specs.declared.Answer.{Answer}
@@ -177,7 +177,7 @@ limit-is ms rate k l r a b c = c ∙ ap (toUnsigned 64) (b ∙ rw (a, thousand, 
 
 abbrev settled : ℕ → Float → Answer → Answer
 settled rate ms sized =
-    elim sized [ Done m ↦ if allowed rate ms then Done 0 else Refused Setting | Refused why ↦ Refused why ]
+    orElse sized (if allowed rate ms then Done 0 else Refused Setting)
 
 module _ (rate : ℕ) (ms : Float) (s : State) (sized : Answer) (answered : sized ≡ fitting s) where
   opened : settled rate ms sized ≡ scannable rate ms s
@@ -383,7 +383,7 @@ no-refusal both-answers =
 
 abbrev scannedSo : ℕ → ℕ → List Float → State → Answer → Scan
 scannedSo most n w s first =
-    elim first [ Done m ↦ scanFrom most 0 n (scan 0 0 0 s w) | Refused why ↦ scan 0 0 (number (Refused why)) s w ]
+    elim first [ Done m ↦ scanFrom most 0 n (scan 0 0 0 s w) | Refused why ↦ scan 0 0 (reasonNumber why) s w ]
 
 module _ (rate : ℕ) (ms : Float) (w : List Float) (s : State)
     (checked : Answer) (tested : checked ≡ scannable rate ms s) where
