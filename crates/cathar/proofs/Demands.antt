@@ -21,7 +21,6 @@ use Rattle.inpaint.specs.Auto.{limit, scannable, automatic, allowed}
 use Rattle.inpaint.specs.Runs.{Stretch, runsOf, gapCalls}
 use Rattle.inpaint.proofs.Scans.{scan-is-its-runs, refused-scan, scan-lawful}
 use Rattle.inpaint.proofs.Lawful.{gap-lawful}
-use Rattle.redraw.specs.Whole.{wholeRepair}
 use Rattle.declip.specs.Declip.{declipRepair, declipPlan}
 use Rattle.decrackle.specs.Decrackle.{decrackleRepair, decracklePlan}
 use Rattle.dequant.specs.Dequant.{dequantizeRepair, dequantizePlan, cosparseRepair, cosparsePlan}
@@ -29,12 +28,9 @@ use Rattle.declip.proofs.Consequences.{declip-lawful}
 use Rattle.decrackle.proofs.Consequences.{decrackle-lawful}
 use Rattle.dequant.proofs.Consequences.{dequantize-lawful, cosparse-lawful}
 use Rattle.cathar.specs.Calls.{Call, gap, scan, declip, decrackle, dequantize, cosparse, undo, ran}
-use Rattle.cathar.specs.Demands.{OneOutcome, RefusalChangesNothing, RulesAreLawful, after, AfterAny}
+use Rattle.cathar.specs.Demands.{RefusalChangesNothing, RefusedScanChangesNothing, RulesAreLawful, after, AfterAny}
 use Rattle.cathar.specs.Demands.{scanned, rules, CallIsItsRules, allRules, Demand3, SurvivorsStand}
 use Rattle.cathar.specs.Demands.{UndoingAll, MeasuredIsRaw, EntriesAreSurvivors}
-
-pub one-outcome : OneOutcome
-one-outcome c s one other e f = e ∙ sym f
 
 -- ---- A call is its rules
 
@@ -46,22 +42,22 @@ gap-did start len passes room s = refl
 
 declip-did : (threshold : Float) (room : ℕ) (s : State)
     → declipRepair threshold room s ≡ single.did (single.repair (declipPlan threshold room)) s
-unfolding declipRepair wholeRepair declipPlan single.did
+unfolding declipRepair single.did
 declip-did threshold room s = refl
 
 decrackle-did : (sensitivity : Float) (room : ℕ) (s : State)
     → decrackleRepair sensitivity room s ≡ single.did (single.repair (decracklePlan sensitivity room)) s
-unfolding decrackleRepair wholeRepair decracklePlan single.did
+unfolding decrackleRepair single.did
 decrackle-did sensitivity room s = refl
 
 dequantize-did : (bits : ℕ) (strength : Float) (room : ℕ) (s : State)
     → dequantizeRepair bits strength room s ≡ single.did (single.repair (dequantizePlan bits strength room)) s
-unfolding dequantizeRepair wholeRepair dequantizePlan single.did
+unfolding dequantizeRepair single.did
 dequantize-did bits strength room s = refl
 
 cosparse-did : (bits : ℕ) (strength : Float) (iterations room : ℕ) (s : State)
     → cosparseRepair bits strength iterations room s ≡ single.did (single.repair (cosparsePlan bits strength iterations room)) s
-unfolding cosparseRepair wholeRepair cosparsePlan single.did
+unfolding cosparseRepair single.did
 cosparse-did bits strength iterations room s = refl
 
 undo-did : (s : State) → undone s ≡ single.did single.undo s
@@ -112,6 +108,9 @@ refusal-changes-nothing (dequantize bits strength work) s h = inl (alone-keeps _
 refusal-changes-nothing (cosparse bits strength iterations work) s h =
     inl (alone-keeps _ s _ (cosparse-did bits strength iterations (length work) s) h)
 refusal-changes-nothing undo s h = inl (alone-keeps _ s _ (undo-did s) h)
+
+pub refused-scan-changes-nothing : RefusedScanChangesNothing
+refused-scan-changes-nothing = refused-scan
 
 -- ---- Sequences
 

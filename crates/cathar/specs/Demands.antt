@@ -9,6 +9,7 @@ use lib.Ieee.{Float}
 use Rattle.recording.specs.Recording.{State, opened, measured}
 use Rattle.recording.specs.History as single
 use Rattle.recording.specs.Consequences.{AllName, closings, returned}
+use Rattle.recording.specs.declared.Reason.{Reason}
 use Rattle.recording.specs.declared.Answer.the-variants.{Done, Refused}
 use Rattle.inpaint.specs.Gap.{gapPlan}
 use Rattle.inpaint.specs.Auto.{limit, scannable}
@@ -16,21 +17,26 @@ use Rattle.inpaint.specs.Runs.{runsOf, gapCalls}
 use Rattle.declip.specs.Declip.{declipPlan}
 use Rattle.decrackle.specs.Decrackle.{decracklePlan}
 use Rattle.dequant.specs.Dequant.{dequantizePlan, cosparsePlan}
-use Rattle.cathar.specs.Calls.{Call, gap, scan, declip, decrackle, dequantize, cosparse, undo, Outcome, ran}
+use Rattle.cathar.specs.Calls.{Call, gap, scan, declip, decrackle, dequantize, cosparse, undo, ran}
 
 -- ---- 1. "Any samples and settings end in a repair or in a numbered refusal, given exactly when its rule says. A refusal changes
 -- nothing."
 
--- No exported function has a condition, and each promises that what it leaves is `ran` of its call. That allows no second outcome:
-abbrev pub OneOutcome : Type 0
-OneOutcome = (c : Call) (s : State) (one other : Outcome) → one ≡ ran c s → other ≡ ran c s → one ≡ other
+-- The first sentence is what the exported functions promise: none has a condition, and what each leaves equals `ran` of its call, or
+-- `opening`. An equation leaves no second outcome.
 
--- A call with a number that is not 0 changes nothing. The number of an automatic scan may be that of one of its single repairs, each of
--- which changes nothing where it is refused (`RefusalChangesNothing` of the crate `recording`).
+-- A call with a number that is not 0 changes nothing, unless it is an automatic scan,
 abbrev pub RefusalChangesNothing : Type 0
 RefusalChangesNothing =
     (c : Call) (s : State) → 0 < ran c s .number
     → (ran c s .after ≡ s) ⊎ ((rate : ℕ) × (millis : Float) × (work : List Float) × (c ≡ scan rate millis work))
+
+-- and neither does a scan that is itself refused, with 1 to 4. Where it is not, its number is that of the first of its single repairs that is
+-- refused; each of these changes nothing (`RefusalChangesNothing` of the crate `recording`).
+abbrev pub RefusedScanChangesNothing : Type 0
+RefusedScanChangesNothing =
+    (rate : ℕ) (millis : Float) (work : List Float) (s : State) (why : Reason) → scannable rate millis s ≡ Refused why
+    → ran (scan rate millis work) s .after ≡ s
 
 -- ---- 2. "An accepted repair gives, bit for bit, the samples of document 01's rules over IEEE 754, and marks exactly the samples it
 -- names."
