@@ -11,6 +11,7 @@ const TARGET: &str = "CARGO_BUILD_TARGET";
 const LINKER: &str = "CARGO_TARGET_X86_64_UNKNOWN_LINUX_GNU_LINKER";
 const RUNNER: &str = "CARGO_TARGET_X86_64_UNKNOWN_LINUX_GNU_RUNNER";
 
+/// What the environment sets, or else this.
 fn set(name: &str, otherwise: &str) -> String {
     env::var(name).unwrap_or_else(|_| String::from(otherwise))
 }
@@ -20,6 +21,7 @@ fn root() -> PathBuf {
     Path::new(env!("CARGO_MANIFEST_DIR")).join("..")
 }
 
+/// The text of a file of the repository.
 fn read(file: &str) -> String {
     fs::read_to_string(root().join(file)).unwrap_or_else(|error| panic!("{file}: {error}"))
 }

@@ -9,6 +9,7 @@ use std::process::Command;
 /// How many functions there are.
 const EXPORTS: usize = 11;
 
+/// A file of the repository.
 fn file(name: &str) -> PathBuf {
     Path::new(env!("CARGO_MANIFEST_DIR")).join("..").join(name)
 }

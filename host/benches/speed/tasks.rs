@@ -6,7 +6,7 @@ use cathar_host::inpaint::Gap;
 use cathar_host::lent::{Lent, LentWords, LentWork};
 use cathar_host::original::inpaint as original;
 use cathar_host::recording::{entry_words, Recording};
-use cathar_host::whole::{self, floats, Repair};
+use cathar_host::whole::{self, Repair};
 use std::time::{Duration, Instant};
 
 /// A task that takes less is run again until so much time has gone.
@@ -55,6 +55,7 @@ impl Task {
     }
 }
 
+/// A gap's repair.
 fn gap(samples: &[f32], gap: Gap, passes: u32) -> Times {
     let work = vec![0; gap.needed(samples.len())];
     both(
@@ -66,6 +67,7 @@ fn gap(samples: &[f32], gap: Gap, passes: u32) -> Times {
     )
 }
 
+/// A scan, with the workspace that the longest of its dropouts needs.
 fn scan(samples: &[f32]) -> Times {
     let n = samples.len();
     let work = vec![0; Gap { start: n / 2, len: inputs::DROPOUT }.needed(n)];
@@ -78,6 +80,7 @@ fn scan(samples: &[f32]) -> Times {
     )
 }
 
+/// One of the four repairs over the whole recording.
 fn whole(samples: &[f32], repair: Repair) -> Times {
     let work = vec![0; whole::needed(samples.len())];
     both(
@@ -89,6 +92,7 @@ fn whole(samples: &[f32], repair: Repair) -> Times {
     )
 }
 
+/// The undo of a dequantize, which the model makes before it. The raw samples have to come back.
 fn undo(samples: &[f32]) -> Times {
     let raw = opened(samples, samples.len());
     let mut recording = raw.clone();
@@ -120,16 +124,21 @@ fn both<W>(
         let (ours, number) = timed(|| library(&mut lent, &mut work));
         assert_eq!(number, 0);
         assert!(repaired != samples, "the original leaves the samples as they were");
-        assert!(repaired == floats(lent.samples()), "the samples are not the original's");
+        assert!(words(&repaired) == lent.samples(), "the samples are not the original's");
         Times { original: Some(theirs), library: ours }
     })
 }
 
-/// An opened recording of these samples, whose journal takes the entries of a repair of so many, or of several in all.
+/// An opened recording of these samples, with a journal for a repair that names so many. (One for all samples is enough
+/// for a scan too.)
 fn opened(samples: &[f32], named: usize) -> Recording {
     let n = samples.len();
-    let words = samples.iter().map(|x| x.to_bits()).collect();
-    Recording { samples: words, marks: vec![0; n], journal: vec![0; entry_words(named)], used: 0 }
+    Recording { samples: words(samples), marks: vec![0; n], journal: vec![0; entry_words(named)], used: 0 }
+}
+
+/// The samples' words, which tell -0 from +0.
+fn words(samples: &[f32]) -> Vec<u32> {
+    samples.iter().map(|x| x.to_bits()).collect()
 }
 
 /// The least times of several runs, or of one that takes long.
