@@ -146,9 +146,9 @@ uint32_t cathar_inpaint_auto(uint32_t *samples, size_t n, uint8_t *marks, size_t
                              double *work, size_t work_n, size_t *qualified, size_t *repaired);
 
 /* The four repairs that follow are over the whole recording. Each reads every sample, whatever its settings,
- * and works its results out in a workspace of words before it writes any. One that names no sample is accepted
- * and has no entry in the journal. A setting that is held to a..b counts as a where it is lower, and as b where
- * it is higher, infinities among them.
+ * and works its results out in a workspace of words before it writes any. To name no sample is no refusal, and
+ * makes no entry in the journal. A setting that is held to a..b counts as a where it is lower, and as b where it
+ * is higher, infinities among them.
  * work is the workspace: work_n words, of any contents. Of these it needs 2n: the first 2n are all 0 after an
  * acceptance or after refusal 8 or 9, and else they stay. All others stay.
  * value receives the number m of named samples where it was accepted, which may be 0, for refusals 7 and 8 the
