@@ -1,154 +1,109 @@
-//! The time of the original Rust and of the library on the same inputs, one after the other in one process,
-//! and whether they give the same samples. `host/bench` runs it.
-use cathar_host::cathar;
-use cathar_host::draw::{Draw, SEED};
-use cathar_host::inpaint::Gap;
-use cathar_host::original::inpaint as original;
+//! The time of the original Rust and of the library on the same inputs, in turn in one process, and whether they
+//! give the same samples: each repair in one recording, then how the times grow as the length of a gap doubles, or
+//! the number of samples. `host/bench` runs it.
+mod speed {
+    pub mod clock;
+    pub mod inputs;
+    pub mod tasks;
+}
+
+use cathar_host::recording::MOST_SAMPLES;
+use cathar_host::whole::Repair;
+use speed::inputs::{BITS, CLIP, DROPOUT, DROPOUT_STRETCH};
+use speed::tasks::{Task, Times};
 use std::env;
-use std::time::{Duration, Instant};
+use std::iter::successors;
+use std::time::Duration;
 
-/// The recordings in which one gap is repaired, and those that are scanned.
+/// The recording in which each repair is made, and the first of those that double up to the most samples.
 const SAMPLES: usize = 48_000;
-const SCANNED: usize = 1_048_576;
-const DROPOUTS: usize = 500;
+const FEWEST: usize = 4_096;
 
-/// Each is run so often at least, and for so long, and the least time is taken.
-const RUNS: usize = 3;
-const AT_LEAST: Duration = Duration::from_millis(200);
+/// The shortest gap that is timed, and the longest that is filled by a model.
+const SHORTEST: usize = 32;
+const LONGEST: usize = 2_048;
 
-/// A number from -1 to 1.
-fn number(draw: &mut Draw) -> f64 {
-    draw.digits(24) as f64 / 8_388_607.5 - 1.0
-}
+/// How many passes the original makes by default.
+const PASSES: u32 = 3;
 
-/// A tone with some noise, which no sample of is a zero.
-fn samples(draw: &mut Draw, n: usize) -> Vec<f32> {
-    let (mut last, mut before) = (0.3, 0.25);
-    let mut found = Vec::with_capacity(n);
-    while found.len() < n {
-        let next = 1.9 * last - before;
-        before = last;
-        last = next;
-        let x = (next + 0.01 * number(draw)) as f32;
-        found.push(if x == 0.0 { 0.5 } else { x });
-    }
-    found
-}
+/// The lines of a table are timed in turn, so many times over, and the least times are taken: so a while in which the
+/// machine is slow does not fall on one line alone.
+const ROUNDS: usize = 3;
 
-/// The least time of several runs, each on what `make` gives, and what the last run gives.
-fn timed<I, O>(make: impl Fn() -> I, run: impl Fn(I) -> O) -> (Duration, O) {
-    let begun = Instant::now();
-    let mut least = Duration::MAX;
-    let mut runs = 0;
-    loop {
-        let input = make();
-        let start = Instant::now();
-        let output = run(input);
-        least = least.min(start.elapsed());
-        runs += 1;
-        if runs >= RUNS && begun.elapsed() >= AT_LEAST {
-            return (least, output);
+/// The four repairs over the whole recording, with settings for the worn samples that they are given.
+const WHOLE: [(&str, Repair); 4] = [
+    ("declip", Repair::Declip { threshold: CLIP }),
+    ("decrackle", Repair::Decrackle { sensitivity: 5.0 }),
+    ("dequantize", Repair::Dequantize { bits: BITS, strength: 1.0 }),
+    ("dequantize_cosparse, 6 iterations", Repair::Cosparse { bits: BITS, strength: 1.0, iterations: 6 }),
+];
+
+/// A line of a table: its name, the task and the number of samples.
+type Line = (String, Task, usize);
+
+/// Prints the times of these lines, and where it `grows` also how each grew since the line before.
+fn table(what: &str, grows: bool, lines: Vec<Line>) {
+    let last = if grows { "      growth of each" } else { "" };
+    println!("\n{what:<36}{:>14}{:>14}{:>8}{last}", "original", "library", "ratio");
+    let mut times: Vec<Times> = lines.iter().map(|(_, task, n)| task.times(*n)).collect();
+    for _ in 1..ROUNDS {
+        for ((_, task, n), times) in lines.iter().zip(&mut times) {
+            *times = times.least(task.times(*n));
         }
     }
-}
-
-/// What the library is lent: samples, marks, journal and workspace.
-type Lent = (Vec<u32>, Vec<u8>, Vec<u32>, Vec<f64>);
-
-fn lent(samples: &[f32], journal: usize, work: usize) -> Lent {
-    let words = samples.iter().map(|x| x.to_bits()).collect();
-    (words, vec![0; samples.len()], vec![0; journal], vec![0.0; work])
-}
-
-/// Prints one line: what was run, both times, and the ratio of ours to the original's.
-fn line(what: &str, original: Duration, ours: Duration) {
-    let ratio = ours.as_secs_f64() / original.as_secs_f64();
-    println!("{what:<44}{:>12.3} ms{:>12.3} ms{ratio:>9.2}", millis(original), millis(ours));
-}
-
-fn millis(time: Duration) -> f64 {
-    time.as_secs_f64() * 1000.0
-}
-
-fn same(original: &[f32], ours: &[u32]) {
-    assert!(original.iter().map(|x| x.to_bits()).eq(ours.iter().copied()), "the samples are not the original's");
-}
-
-/// One gap in the middle, by the original at 1 and at 3 passes.
-fn gap(draw: &mut Draw, len: usize) {
-    let samples = samples(draw, SAMPLES);
-    let gap = Gap { start: SAMPLES / 2, len };
-    for passes in [1, 3] {
-        let (theirs, repaired) =
-            timed(|| samples.clone(), |samples| original::inpaint_gap(&samples, gap.start, len, passes));
-        let (ours, words) = timed(
-            || lent(&samples, 3 * len + 2, gap.needed(SAMPLES)),
-            |(mut words, mut marks, mut journal, mut work)| {
-                let (mut used, mut value) = (0, 0);
-                let number = cathar::inpaint_gap(
-                    &mut words,
-                    &mut marks,
-                    &mut journal,
-                    &mut used,
-                    gap.start,
-                    len,
-                    passes,
-                    &mut work,
-                    &mut value,
-                );
-                assert_eq!((number, value), (0, len));
-                words
-            },
-        );
-        same(&repaired, &words);
-        line(&format!("gap of {len}, {passes} pass(es)"), theirs, ours);
+    for (i, (name, _, _)) in lines.iter().enumerate() {
+        let before = if grows && i > 0 { Some(&times[i - 1]) } else { None };
+        println!("{}", line(name, &times[i], before).trim_end());
     }
 }
 
-/// A scan of the most samples, with dropouts of 2 to 48 samples.
-fn scan(draw: &mut Draw) {
-    let mut samples = samples(draw, SCANNED);
-    let apart = SCANNED / (DROPOUTS + 1);
-    let mut words = 0;
-    for dropout in 1..=DROPOUTS {
-        let len = 2 + draw.below(47) as usize;
-        samples[dropout * apart..dropout * apart + len].fill(0.0);
-        words += 3 * len + 2;
-    }
-    let work = Gap { start: SCANNED / 2, len: 48 }.needed(SCANNED);
-    let (theirs, repaired) = timed(|| samples.clone(), |samples| original::inpaint_auto(&samples, 48_000, 1.0));
-    let (ours, words) = timed(
-        || lent(&samples, words, work),
-        |(mut words, mut marks, mut journal, mut work)| {
-            let (mut used, mut qualified, mut repaired) = (0, 0, 0);
-            let number = cathar::inpaint_auto(
-                &mut words,
-                &mut marks,
-                &mut journal,
-                &mut used,
-                48_000,
-                1.0,
-                &mut work,
-                &mut qualified,
-                &mut repaired,
-            );
-            assert_eq!((number, qualified, repaired), (0, DROPOUTS, DROPOUTS));
-            words
-        },
-    );
-    same(&repaired, &words);
-    line(&format!("scan of {SCANNED}, {DROPOUTS} dropouts"), theirs, ours);
+/// Both times, the ratio of the library's to the original's, and how each grew since the times before.
+fn line(name: &str, times: &Times, before: Option<&Times>) -> String {
+    let ms = |time: Duration| format!("{:.3} ms", time.as_secs_f64() * 1000.0);
+    let ratio = |over: Duration, under: Duration| format!("{:.2}", over.as_secs_f64() / under.as_secs_f64());
+    let theirs = times.original.map(ms).unwrap_or_default();
+    let over = times.original.map(|original| ratio(times.library, original)).unwrap_or_default();
+    let grew = before.map(|before| {
+        let theirs = times.original.zip(before.original).map(|(now, then)| ratio(now, then));
+        (theirs.unwrap_or_default(), ratio(times.library, before.library))
+    });
+    let (theirs_grew, ours_grew) = grew.unwrap_or_default();
+    format!("{name:<36}{theirs:>14}{:>14}{over:>8}{theirs_grew:>12}{ours_grew:>8}", ms(times.library))
+}
+
+/// From the first number to the last, each twice the one before.
+fn doubled(first: usize, last: usize) -> impl Iterator<Item = usize> {
+    successors(Some(first), |n| Some(2 * n)).take_while(move |n| *n <= last)
+}
+
+/// The times of a task as the samples double.
+fn by_samples(what: &str, task: Task) {
+    let line = |n| (format!("{n:>12} samples"), task, n);
+    table(what, true, doubled(FEWEST, MOST_SAMPLES).map(line).collect());
+}
+
+/// Every repair, in one recording.
+fn each_repair() {
+    let gap = |len| (format!("gap of {len}, {PASSES} passes"), Task::Gap { len, passes: PASSES }, SAMPLES);
+    let mut lines: Vec<Line> = [32, 128, 512, 2048].map(gap).into();
+    lines.push((format!("scan, {} dropouts", SAMPLES / DROPOUT_STRETCH), Task::Scan, SAMPLES));
+    lines.extend(WHOLE.map(|(name, repair)| (name.into(), Task::Whole(repair), SAMPLES)));
+    table(&format!("in {SAMPLES} samples"), false, lines);
 }
 
 fn main() {
     let processor = env::var("CATHAR_PROCESSOR").unwrap_or_default();
     println!("processor: {}", if processor.is_empty() { "not known" } else { &processor });
     println!("emulated: {}", if env::var_os("CATHAR_EMULATED").is_some() { "yes, x86-64 on Arm" } else { "no" });
-    println!("the least time of {RUNS} runs or more each; one gap in {SAMPLES} samples");
-    println!("{:<44}{:>15}{:>15}{:>9}", "", "original", "library", "ratio");
-    let mut draw = Draw::new(SEED);
-    for len in [32, 128, 512, 2048] {
-        gap(&mut draw, len);
+    println!("times: the processor's, the least of {ROUNDS} runs or more; growth: over the line before, which is half the size");
+    each_repair();
+    let gap = |len| Task::Gap { len, passes: 1 };
+    let long = |len| (format!("{len:>12} long"), gap(len), SAMPLES);
+    table(&format!("gap in {SAMPLES} samples, 1 pass"), true, doubled(SHORTEST, LONGEST).map(long).collect());
+    by_samples(&format!("gap of {SHORTEST}, 1 pass"), gap(SHORTEST));
+    by_samples(&format!("scan, {DROPOUT} lost in each {DROPOUT_STRETCH}"), Task::Scan);
+    for (name, repair) in WHOLE {
+        by_samples(name, Task::Whole(repair));
     }
-    scan(&mut draw);
+    by_samples("undo of dequantize", Task::Undo);
 }

@@ -1,5 +1,5 @@
 //! The functions of `libcathar.a`, each behind a safe one of the same name without the prefix.
-//! Nothing checks the declarations here against the library: they follow `include/cathar.h`.
+//! The linker does not check the declarations here: a test holds them, and `include/cathar.h`, to the text of the exports.
 
 mod exports {
     extern "C" {

@@ -60,6 +60,10 @@ impl<T: Word> Part<T> {
         &mut self.whole[GUARDS..end]
     }
 
+    fn lent(&self) -> &[T] {
+        &self.whole[GUARDS..self.end()]
+    }
+
     /// Whether words of these patterns are lent, and the guards around them stand.
     fn holds(&self, words: impl ExactSizeIterator<Item = u64>) -> bool {
         let (before, from) = self.whole.split_at(GUARDS);
@@ -129,6 +133,11 @@ impl Lent {
             used: Part::new(&[recording.used], 0x5a5a_5a5a_5a5a_5a5a),
             numbers: [number(), number()],
         }
+    }
+
+    /// The samples as the last call left them.
+    pub fn samples(&self) -> &[u32] {
+        self.samples.lent()
     }
 
     /// Before each call, so that one that does not write its numbers is found out.

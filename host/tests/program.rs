@@ -16,8 +16,7 @@ const RATE: u32 = 48_000;
 const LIMIT: f32 = 1.0;
 
 /// The dropouts of the pump: a run of 1 does not qualify, nor does one of 49, nor one at an end.
-const PUMP: [(usize, usize); 8] =
-    [(0, 2), (137, 5), (410, 2), (600, 1), (801, 48), (1100, 49), (1500, 17), (2046, 2)];
+const PUMP: [(usize, usize); 8] = [(0, 2), (137, 5), (410, 2), (600, 1), (801, 48), (1100, 49), (1500, 17), (2046, 2)];
 
 fn bytes(samples: &[u32]) -> Vec<u8> {
     samples.iter().flat_map(|word| word.to_le_bytes()).collect()

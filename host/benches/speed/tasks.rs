@@ -1,0 +1,159 @@
+//! What is timed: each task by the original and by the library, in turn, on the same samples.
+use super::clock::thread_time;
+use super::inputs;
+use cathar_host::draw::{Draw, SEED};
+use cathar_host::inpaint::Gap;
+use cathar_host::lent::{Lent, LentWords, LentWork};
+use cathar_host::original::inpaint as original;
+use cathar_host::recording::{entry_words, Recording};
+use cathar_host::whole::{self, Repair};
+use std::time::{Duration, Instant};
+
+/// A task that takes less is run again until so much time has gone.
+const AT_LEAST: Duration = Duration::from_millis(50);
+
+/// A scan's rate and limit, which is 48 samples.
+const RATE: u32 = 48_000;
+const LIMIT: f32 = 1.0;
+
+#[derive(Clone, Copy)]
+pub enum Task {
+    /// The repair of one gap in the middle, in so many passes of the original.
+    Gap { len: usize, passes: u32 },
+    /// A scan of a recording with dropouts.
+    Scan,
+    /// A repair over the whole recording.
+    Whole(Repair),
+    /// The undo of a repair that named all samples but two. The original has none.
+    Undo,
+}
+
+#[derive(Clone, Copy)]
+pub struct Times {
+    pub original: Option<Duration>,
+    pub library: Duration,
+}
+
+impl Times {
+    /// Of each the lesser.
+    pub fn least(self, other: Times) -> Times {
+        let original = self.original.into_iter().chain(other.original).min();
+        Times { original, library: self.library.min(other.library) }
+    }
+}
+
+impl Task {
+    /// The times of this task on n samples, the least of some runs.
+    pub fn times(self, n: usize) -> Times {
+        let draw = &mut Draw::new(SEED);
+        match self {
+            Task::Gap { len, passes } => gap(&inputs::tone(draw, n), Gap { start: (n - len) / 2, len }, passes),
+            Task::Scan => scan(&inputs::with_dropouts(draw, n)),
+            Task::Whole(repair) => whole(&inputs::worn(draw, n), repair),
+            Task::Undo => undo(&inputs::worn(draw, n)),
+        }
+    }
+}
+
+/// A gap's repair.
+fn gap(samples: &[f32], gap: Gap, passes: u32) -> Times {
+    let work = vec![0; gap.needed(samples.len())];
+    both(
+        samples,
+        gap.len,
+        || original::inpaint_gap(samples, gap.start, gap.len, passes),
+        || LentWork::new(&work),
+        |lent, work| lent.inpaint_gap(gap, passes, work),
+    )
+}
+
+/// A scan, with the workspace that the longest of its dropouts needs.
+fn scan(samples: &[f32]) -> Times {
+    let n = samples.len();
+    let work = vec![0; Gap { start: n / 2, len: inputs::DROPOUT }.needed(n)];
+    both(
+        samples,
+        n,
+        || original::inpaint_auto(samples, RATE, LIMIT),
+        || LentWork::new(&work),
+        |lent, work| lent.inpaint_auto(RATE, LIMIT, work),
+    )
+}
+
+/// One of the four repairs over the whole recording.
+fn whole(samples: &[f32], repair: Repair) -> Times {
+    let work = vec![0; whole::needed(samples.len())];
+    both(
+        samples,
+        samples.len(),
+        || repair.original(samples),
+        || LentWords::new(&work),
+        |lent, work| lent.repair(repair, work),
+    )
+}
+
+/// The undo of a dequantize, which the model makes before it. The raw samples have to come back.
+fn undo(samples: &[f32]) -> Times {
+    let raw = opened(samples, samples.len());
+    let mut recording = raw.clone();
+    let repair = Repair::Dequantize { bits: inputs::BITS, strength: 1.0 };
+    let answer = whole::repair(&mut recording, repair, &mut vec![0; whole::needed(samples.len())]);
+    assert_eq!((answer.number(), answer.value()), (0, samples.len() - 2));
+    least(|| {
+        let mut lent = Lent::new(&recording);
+        let (library, number) = timed(|| lent.undo());
+        assert_eq!(number, 0);
+        assert!(lent.samples() == raw.samples, "the samples are not the raw ones");
+        Times { original: None, library }
+    })
+}
+
+/// Both times of a repair that names at most so many samples. The library is lent a recording and a workspace anew
+/// for each run. Both have to leave the same samples, and others than they found.
+fn both<W>(
+    samples: &[f32],
+    named: usize,
+    original: impl Fn() -> Vec<f32>,
+    work: impl Fn() -> W,
+    library: impl Fn(&mut Lent, &mut W) -> u32,
+) -> Times {
+    let recording = opened(samples, named);
+    least(|| {
+        let (theirs, repaired) = timed(&original);
+        let (mut lent, mut work) = (Lent::new(&recording), work());
+        let (ours, number) = timed(|| library(&mut lent, &mut work));
+        assert_eq!(number, 0);
+        assert!(repaired != samples, "the original leaves the samples as they were");
+        assert!(words(&repaired) == lent.samples(), "the samples are not the original's");
+        Times { original: Some(theirs), library: ours }
+    })
+}
+
+/// An opened recording of these samples, with a journal for a repair that names so many. (One for all samples is enough
+/// for a scan too.)
+fn opened(samples: &[f32], named: usize) -> Recording {
+    let n = samples.len();
+    Recording { samples: words(samples), marks: vec![0; n], journal: vec![0; entry_words(named)], used: 0 }
+}
+
+/// The samples' words, which tell -0 from +0.
+fn words(samples: &[f32]) -> Vec<u32> {
+    samples.iter().map(|x| x.to_bits()).collect()
+}
+
+/// The least times of several runs, or of one that takes long.
+fn least(once: impl Fn() -> Times) -> Times {
+    let begun = Instant::now();
+    let mut times = once();
+    while begun.elapsed() < AT_LEAST {
+        times = times.least(once());
+    }
+    times
+}
+
+/// The time of one run, and what it gives.
+fn timed<T>(run: impl FnOnce() -> T) -> (Duration, T) {
+    let start = thread_time();
+    let given = run();
+    (thread_time() - start, given)
+}
