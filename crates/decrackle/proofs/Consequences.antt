@@ -11,14 +11,14 @@ use Rattle.recording.proofs.Picks.{picks}
 use Rattle.redraw.specs.Whole.{Drawn, drawn, untouched}
 use Rattle.redraw.proofs.Runs.{over-keeps}
 use Rattle.redraw.proofs.Ending.{whole-lawful}
-use Rattle.decrackle.specs.Decrackle.{allowed, flagsOf, rewritten, smoothed, decrackled, decracklePlan}
+use Rattle.decrackle.specs.Decrackle.{allowed, flagsOf, repairHermite, smoothed, decrackled, decracklePlan}
 use Rattle.decrackle.specs.Consequences.{DecrackleIsLawful}
 use Rattle.decrackle.proofs.Curves.{length-rewritten}
 
 length-smoothed : (bs : List Bool) (out : List ℕ) → length (smoothed bs out) ≡ length out
 unfolding smoothed
 length-smoothed bs out =
-    over-keeps (λ i. getD bs i false) rewritten (λ (l : List ℕ). length l ≡ length out) (λ s e l h. length-rewritten s e l ∙ h)
+    over-keeps (λ i. getD bs i false) repairHermite (λ (l : List ℕ). length l ≡ length out) (λ s e l h. length-rewritten s e l ∙ h)
     0 (length bs) out refl
 
 decrackle-counts : (sensitivity : Float) (samples : List ℕ) → length (decrackled sensitivity samples .words) ≡ length samples

@@ -12,7 +12,7 @@ use Rattle.leaves.proofs.Literals.{nought-word, one-word, two-word, three-word}
 use Rattle.redraw.specs.Whole.{sample}
 use Rattle.redraw.specs.Inner.{wordsIn, Room}
 use Rattle.redraw.proofs.Workspace.{store-words, store-behind, word-there, words-count}
-use Rattle.decrackle.specs.Decrackle.{slopeBefore, slopeBehind, hermiteAt, hermiteFrom, rewritten}
+use Rattle.decrackle.specs.Decrackle.{slopeBefore, slopeBehind, hermiteAt, hermiteFrom, repairHermite}
 
 -- ---- The slopes
 
@@ -93,12 +93,12 @@ module _ (p0 p1 m0 m1 span : Float) (start : ℕ) where
 pub curve-is : (p0 p1 m0 m1 span : Float) (n start end : ℕ) (w : List ℕ) → 1 ≤ start → start ≤ end → end < n
     → p0 ≡ ofBits binary32 (getD w (start - 1) 0) → p1 ≡ ofBits binary32 (getD w end 0)
     → m0 ≡ slopeBefore (wordsIn n w) start → m1 ≡ slopeBehind (wordsIn n w) end → span ≡ count (end - (start - 1))
-    → hermiteFrom p0 p1 m0 m1 span start 0 (end - start - 0) (wordsIn n w) ≡ rewritten start end (wordsIn n w)
-unfolding rewritten
+    → hermiteFrom p0 p1 m0 m1 span start 0 (end - start - 0) (wordsIn n w) ≡ repairHermite start end (wordsIn n w)
+unfolding repairHermite
 curve-is p0 p1 m0 m1 span n start end w low order high e0 e1 f0 f1 es =
     rw (sub-zero (end - start), sample-there n (start - 1) w p0 (omega arith) e0, sample-there n end w p1 high e1, f0, f1, es) refl
 
 -- a run rewritten has as many words
-pub length-rewritten : (s e : ℕ) (out : List ℕ) → length (rewritten s e out) ≡ length out
-unfolding rewritten
+pub length-rewritten : (s e : ℕ) (out : List ℕ) → length (repairHermite s e out) ≡ length out
+unfolding repairHermite
 length-rewritten s e out = length-curve _ _ _ _ _ s 0 (e - s) out

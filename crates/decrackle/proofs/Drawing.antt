@@ -21,7 +21,7 @@ use Rattle.redraw.specs.Runs.{overRuns}
 use Rattle.redraw.specs.Inner.{wordsIn, flagsIn, drawnIn, flaggedAt, Holds, Room}
 use Rattle.redraw.proofs.Workspace.{rest-behind, flags-behind, flags-count, room-stays}
 use Rattle.redraw.proofs.Runs.{over-one, over-none, over-all}
-use Rattle.decrackle.specs.Decrackle.{flagsOf, rewritten, smoothed, decrackled, decracklePlan, decrackleRepair}
+use Rattle.decrackle.specs.Decrackle.{flagsOf, repairHermite, smoothed, decrackled, decracklePlan, decrackleRepair}
 use Rattle.decrackle.proofs.Ends.{ends-never-flagged}
 
 -- ---- A run that begins behind the first place and does not reach the last
@@ -45,7 +45,7 @@ module _ (test : ℕ → Bool) (n i : ℕ) (h : i < n) (starts : begins test i �
 abbrev pub Smoothing : ℕ → List ℕ → ℕ → List ℕ → Type 0
 Smoothing n w₀ i w =
     (i ≤ n) × (length w ≡ length w₀) × (drop n w ≡ drop n w₀)
-    × (overRuns (flaggedAt n w₀) rewritten i (n - i) (wordsIn n w) ≡ overRuns (flaggedAt n w₀) rewritten 0 (n - 0) (wordsIn n w₀))
+    × (overRuns (flaggedAt n w₀) repairHermite i (n - i) (wordsIn n w) ≡ overRuns (flaggedAt n w₀) repairHermite 0 (n - 0) (wordsIn n w₀))
 
 same-test : (n : ℕ) (w₀ w : List ℕ) → drop n w ≡ drop n w₀ → flaggedAt n w ≡ flaggedAt n w₀
 same-test n w₀ w e = ap (λ (l : List ℕ). λ (i : ℕ). getD (flags l) i false) (flags-behind n w w₀ e)
@@ -62,7 +62,7 @@ module _ (n : ℕ) (w₀ : List ℕ) (i : ℕ) (w : List ℕ) (there : Smoothing
     pub smooth-none : (next : List ℕ) → b ≡ false → next ≡ w → Smoothing n w₀ (i + 1) next
     smooth-none next e en =
         subst (λ (v : List ℕ). Smoothing n w₀ (i + 1) v) (sym en)
-        (omega arith, there .1, there .2, over-none (flaggedAt n w₀) rewritten i n _ _ h (begins-so false e) (there .3))
+        (omega arith, there .1, there .2, over-none (flaggedAt n w₀) repairHermite i n _ _ h (begins-so false e) (there .3))
 
     module _ (holds : b ≡ true) (end : ℕ) (ee : end ≡ i + runLength (flaggedAt n w) i (n - i)) where
       ends-so : end ≡ i + runLength (flaggedAt n w₀) i (n - i)
@@ -80,13 +80,13 @@ module _ (n : ℕ) (w₀ : List ℕ) (i : ℕ) (w : List ℕ) (there : Smoothing
 
       -- it is rewritten
       pub smooth-one : (v next : List ℕ) → length v ≡ length w
-          → (wordsIn n v ≡ rewritten i end (wordsIn n w)) × (drop n v ≡ drop n w) → next ≡ v → Smoothing n w₀ (i + 1) next
+          → (wordsIn n v ≡ repairHermite i end (wordsIn n w)) × (drop n v ≡ drop n w) → next ≡ v → Smoothing n w₀ (i + 1) next
       smooth-one v next count made en =
           subst (λ (x : List ℕ). Smoothing n w₀ (i + 1) x) (sym en) (
             omega arith,
             count ∙ there .1,
             made .1 ∙ there .2,
-            over-one (flaggedAt n w₀) rewritten i n end _ _ _ h (begins-so true holds) ends-so (made .0) (there .3),
+            over-one (flaggedAt n w₀) repairHermite i n end _ _ _ h (begins-so true holds) ends-so (made .0) (there .3),
           )
 
   -- no place is left
@@ -95,8 +95,8 @@ module _ (n : ℕ) (w₀ : List ℕ) (i : ℕ) (w : List ℕ) (there : Smoothing
   smooth-all room h =
       let many : length (flags (flagsIn n w₀)) ≡ n = length-map (flagsIn n w₀) _ ∙ flags-count n w₀ room in
       let all : n - 0 ≡ length (flags (flagsIn n w₀)) = sub-zero n ∙ sym many in (
-        over-all (flaggedAt n w₀) rewritten i n _ _ h (there .3)
-            ∙ ap (λ (k : ℕ). overRuns (flaggedAt n w₀) rewritten 0 k (wordsIn n w₀)) all,
+        over-all (flaggedAt n w₀) repairHermite i n _ _ h (there .3)
+            ∙ ap (λ (k : ℕ). overRuns (flaggedAt n w₀) repairHermite 0 k (wordsIn n w₀)) all,
         there .2,
       )
 

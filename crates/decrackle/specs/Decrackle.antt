@@ -37,11 +37,12 @@ unfoldable pub openingFloor : Float
 unfolding near
 openingFloor = near binary32 1 1000000
 
--- the 1e-6 of "max(floor,1e-6)", and 0.001
+-- the 1e-6 of "max(floor,1e-6)"
 unfoldable pub leastFloor : Float
 unfolding near
 leastFloor = near binary32 1 1000000
 
+-- the 0.001 of "floor=floor*(1−0.001)+a*0.001"
 unfoldable pub alpha : Float
 unfolding near
 alpha = near binary32 1 1000
@@ -65,6 +66,7 @@ flagsFrom factor s floor i (suc n) =
     let next = floorAfter floor a in
     flagged factor next a ∷ flagsFrom factor s next (i + 1) n
 
+-- those of all places
 unfoldable pub flagsOf : Float → List ℕ → List Bool
 unfolding factorFor flagsFrom openingFloor
 flagsOf sensitivity s = flagsFrom (factorFor sensitivity) s openingFloor 0 (length s)
@@ -101,17 +103,17 @@ hermiteFrom p0 p1 m0 m1 span s k (suc n) out =
     hermiteFrom p0 p1 m0 m1 span s (k + 1) n (store out (s + k) (hermiteAt p0 p1 m0 m1 span k))
 
 -- the anchors and the slopes are read before the run is written
-unfoldable pub rewritten : ℕ → ℕ → List ℕ → List ℕ
+unfoldable pub repairHermite : ℕ → ℕ → List ℕ → List ℕ
 unfolding float count slopeBefore slopeBehind hermiteFrom
-rewritten s e out =
+repairHermite s e out =
     hermiteFrom (sample out (s - 1)) (sample out e) (slopeBefore out s) (slopeBehind out e) (count (e - (s - 1))) s 0 (e - s) out
 
 -- ---- The repair
 
 -- "left to right on the changing output"
 unfoldable pub smoothed : List Bool → List ℕ → List ℕ
-unfolding overRuns rewritten
-smoothed flags out = overRuns (λ i. getD flags i false) rewritten 0 (length flags) out
+unfolding overRuns repairHermite
+smoothed flags out = overRuns (λ i. getD flags i false) repairHermite 0 (length flags) out
 
 -- "Under 8 samples: nothing named." "Named: the flagged places."
 unfoldable pub decrackled : Float → List ℕ → Drawn

@@ -11,7 +11,7 @@ ghost use Rattle.recording.specs.Runs.{begins, runLength};
 ghost use Rattle.redraw.specs.Whole.{drawn, untouched, needed};
 ghost use Rattle.redraw.specs.Inner.{wordsIn, flagsIn, drawnIn, flagWord, flaggedAt, Holds, Room};
 ghost use Rattle.decrackle.specs.Decrackle.{factorFor, detector, floorAfter, flagged, flagsOf, slopeBefore, slopeBehind};
-ghost use Rattle.decrackle.specs.Decrackle.{hermiteAt, rewritten, smoothed, decrackled, decrackleRepair};
+ghost use Rattle.decrackle.specs.Decrackle.{hermiteAt, repairHermite, smoothed, decrackled, decrackleRepair};
 use leaves::order::clamp32;
 use leaves::order::larger32;
 use leaves::order::magnitude32;
@@ -167,7 +167,7 @@ fn hermite_word(p0: f32, p1: f32, m0: f32, m1: f32, span: f32, k: usize) -> u32
 // left out, since no end is ever flagged.
 fn repair_hermite(work: &mut [u32], n: usize, start: usize, end: usize)
     requires { ⌜ Room n (now work) × (1 ≤ start) × (start ≤ end) × (end < n) ⌝ }
-    ensures { λ _. ⌜ (wordsIn n (now (work .exit)) ≡ rewritten start end (wordsIn n (now (work .entry))))
+    ensures { λ _. ⌜ (wordsIn n (now (work .exit)) ≡ repairHermite start end (wordsIn n (now (work .entry))))
         × (drop n (now (work .exit)) ≡ drop n (now (work .entry))) ⌝ }
 {
     let p0 = f32_of_word(work[start - 1]);

@@ -43,6 +43,7 @@ unfoldable pub innerFrom : ℕ → ℕ → ℕ → ℕ → List Bool
 innerFrom edge n i zero = []
 innerFrom edge n i (suc left) = (leb edge i && ltb (i + edge) n) ∷ innerFrom edge n (i + 1) left
 
+-- of all n places
 abbrev pub inner : ℕ → ℕ → List Bool
 inner edge n = innerFrom edge n 0 n
 
@@ -84,6 +85,7 @@ unfoldable pub wide : Float → ℕ → Bool
 unfolding near lt
 wide strength n = leb 5 n && lt (near binary32 3 10) strength
 
+-- what the second pass makes of the first, where there is one
 abbrev pub widened : Float → Float → List ℕ → List ℕ
 widened step strength src =
     if wide strength (length src) then secondPass step strength src 2 (length src - 4) src else src
@@ -130,6 +132,7 @@ cubicWeight a b c d =
     let d2 = magnitude (d -₃₂ count 2 *₃₂ c +₃₂ count 2 *₃₂ b -₃₂ a) in
     held (near binary32 1 10) one (one /₃₂ (one +₃₂ count 32 *₃₂ d2))
 
+-- the two, weighed
 unfoldable pub candidate : Float → Float → Float → Float → Float
 unfolding linear cubic cubicWeight add mul div
 candidate a b c d =
@@ -143,6 +146,7 @@ localStrength strength b c =
     let d1 = magnitude (c -₃₂ b) in
     strength *₃₂ (half +₃₂ half /₃₂ (one +₃₂ count 16 *₃₂ d1))
 
+-- an iteration at place i
 unfoldable pub sparseAt : Float → Float → List ℕ → ℕ → Float
 unfolding float target candidate localStrength add sub mul
 sparseAt step strength src i =
@@ -157,6 +161,7 @@ sparsePass step strength src i zero out = out
 sparsePass step strength src i (suc left) out =
     sparsePass step strength src (i + 1) left (store out i (sparseAt step strength src i))
 
+-- so many iterations, each over what the one before it left
 unfoldable pub sparsePasses : Float → Float → ℕ → List ℕ → List ℕ
 unfolding sparsePass
 sparsePasses step strength zero src = src

@@ -13,8 +13,8 @@ use borrow.Author.Tests.{le-ltb, le-leb, ltb-true, leb-true}
 use Rattle.leaves.specs.Arithmetic.{_+₆₄_, _*₆₄_, at, nought}
 use Rattle.leaves.proofs.Lists.{read-before, read-after}
 use Rattle.recording.proofs.open.Laws.{truth}
-use Rattle.model.specs.Model.{plus, plusWhere, known, lagSum, lags, estimate, coefAutocorr, rightSide, rightSides}
-use Rattle.model.specs.Model.{solveBanded, backward, solved, pass, passes, orderFor, filled}
+use Rattle.model.specs.Model.{plus, plusWhere, known, lagSum, lags, estimateArKnown, coefAutocorr, rightSide, rightSides}
+use Rattle.model.specs.Model.{solveSpdBanded, backward, solved, pass, passes, orderFor, filled}
 use Rattle.leaves.proofs.Parts.{part-of-sets}
 use Rattle.model.proofs.sums.Laws.{plus-agree, each-agree, known-before}
 
@@ -65,8 +65,8 @@ module _ (g len : ℕ) (seg seg' : List Float) (same : Same g len seg seg') wher
       lag (length seg - lag) nought
       (λ i h. let two = both-hold (known g len i) (known g len (i - lag)) h in rw (same .outside i (two .0), same .outside (i - lag) (two .1)) refl))
 
-  estimate-same : (p : ℕ) → estimate seg' g len p ≡ estimate seg g len p
-  unfolding estimate lags
+  estimate-same : (p : ℕ) → estimateArKnown seg' g len p ≡ estimateArKnown seg g len p
+  unfolding estimateArKnown lags
   estimate-same p = rw (each-agree (lagSum seg' g len) (lagSum seg g len) 0 (p + 1) (λ k l h. lag-same k)) refl
 
   before-same : (b : List Float) (p c : ℕ) (s : Float)
@@ -91,8 +91,8 @@ module _ (g len : ℕ) (seg seg' : List Float) (same : Same g len seg seg') wher
   unfolding solved rightSides
   solved-same p =
       rw (estimate-same p)
-      (let b = coefAutocorr (estimate seg g len p) p in
-      ap (λ (rhs : List Float). solveBanded b rhs p len)
+      (let b = coefAutocorr (estimateArKnown seg g len p) p in
+      ap (λ (rhs : List Float). solveSpdBanded b rhs p len)
       (each-agree (rightSide seg' g len b p) (rightSide seg g len b p) 0 len (λ k l h. right-same b p k)))
 
 -- ---- As many results as the gap has samples
@@ -103,7 +103,7 @@ backward-length band y p len zero x = omega arith
 backward-length band y p len (suc n) x = backward-length band y p len n _ ∙ omega arith
 
 pub solved-length : (seg : List Float) (g len p : ℕ) → length (solved seg g len p) ≡ len
-unfolding solved solveBanded
+unfolding solved solveSpdBanded
 solved-length seg g len p = backward-length _ _ p len len [] ∙ omega arith
 
 -- ---- A pass again

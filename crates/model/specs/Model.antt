@@ -11,11 +11,16 @@ use Rattle.leaves.specs.Arithmetic.{_+₆₄_, _-₆₄_, _*₆₄_, _/₆₄_,
 use Rattle.leaves.specs.Floats.{magnitude, larger}
 use Rattle.leaves.specs.Root.{root}
 
--- 1e-6 and 1e-12
+-- "p is len held to 32..128"
+abbrev pub orderFor : ℕ → ℕ
+orderFor len = min (max len 32) 128
+
+-- the 1e-6 of "1+1e-6" and of "1e-6*b[0]"
 unfoldable pub micro : Float
 unfolding near
 micro = near binary64 1 1000000
 
+-- the 1e-12 of "|e|<1e-12" and of the pivot
 unfoldable pub pico : Float
 unfolding near
 pico = near binary64 1 1000000000000
@@ -78,6 +83,7 @@ unfoldable pub raisedAt : List Float → ℕ → Float → ℕ → Float
 unfolding add mul
 raisedAt a i k j = cond (ltb 0 j && ltb j i) (at a j +₆₄ k *₆₄ at a (i - j)) (cond (eqb j i) k (at a j))
 
+-- so all of them
 unfoldable pub raised : List Float → ℕ → Float → List Float
 unfolding each raisedAt
 raised a i k = each (raisedAt a i k) 0 (length a)
@@ -93,14 +99,15 @@ orders r a e i (suc n) =
     let on = orders r a' e' (i + 1) n in
     cond (lt (magnitude e) pico) a (cond (le e' nought) a' on)
 
+-- from order 1 on, with the model 1,0,..,0 and e = r[0]
 unfoldable pub levinson : List Float → ℕ → List Float
 unfolding orders
 levinson r p = orders r (unit p) (at r 0) 1 p
 
 -- "If r[0]≤0 the model is 1,0,..,0. Else r[0] is multiplied by 1+1e-6 and `levinson` runs"
-unfoldable pub estimate : List Float → ℕ → ℕ → ℕ → List Float
+unfoldable pub estimateArKnown : List Float → ℕ → ℕ → ℕ → List Float
 unfolding lags levinson le mul add micro
-estimate seg g len p =
+estimateArKnown seg g len p =
     let r = lags seg g len p in
     let model = levinson (set r 0 (at r 0 *₆₄ (one +₆₄ micro))) p in
     cond (le (at r 0) nought) (unit p) model
@@ -112,11 +119,17 @@ unfoldable pub coefAt : List Float → ℕ → ℕ → Float
 unfolding plus mul
 coefAt a p j = plus (λ k. at a k *₆₄ at a (k + j)) 0 (p + 1 - j) nought
 
+-- all of b
 unfoldable pub coefAutocorr : List Float → ℕ → List Float
 unfolding each coefAt
 coefAutocorr a p = each (coefAt a p) 0 (p + 1)
 
 -- ---- solve_gap
+
+-- the matrix at a place d before the diagonal: b by the distance from the diagonal; "diagonal plus 1e-6*b[0]"
+unfoldable pub laid : List Float → ℕ → Float
+unfolding add mul micro
+laid b d = cond (eqb d 0) (at b 0 +₆₄ micro *₆₄ at b 0) (at b d)
 
 -- "right side from known neighbours within p": of the gap's place c, those before the gap, then those behind it, ascending
 unfoldable pub rightSide : List Float → ℕ → ℕ → List Float → ℕ → ℕ → Float
@@ -127,6 +140,7 @@ rightSide seg g len b p i =
     let before = plus (λ x. at b (c - x) *₆₄ at seg x) (c - p) (g - (c - p)) nought in
     neg (plus (λ x. at b (x - c) *₆₄ at seg x) end (min (c + p + 1) (length seg) - end) before)
 
+-- of all the gap's places
 unfoldable pub rightSides : List Float → ℕ → ℕ → List Float → ℕ → List Float
 unfolding each rightSide
 rightSides seg g len b p = each (rightSide seg g len b p) 0 len
@@ -137,11 +151,6 @@ rightSides seg g len b p = each (rightSide seg g len b p) 0 len
 -- j from i - p to i.
 abbrev pub mat : ℕ → List Float → ℕ → ℕ → Float
 mat p band i j = at band (p * (i + 1) + j)
-
--- mat[i][j] as solve_gap lays it down: b by the distance from the diagonal; "diagonal plus 1e-6*b[0]"
-unfoldable pub laid : List Float → ℕ → Float
-unfolding add mul micro
-laid b d = cond (eqb d 0) (at b 0 +₆₄ micro *₆₄ at b 0) (at b d)
 
 -- the place of row i that is d before the diagonal, with those before it in the band: "banded Cholesky, pivot raised to at
 -- least 1e-12 before its square root". A place before column 0 is left +0.
@@ -165,6 +174,7 @@ unfolding cells
 rows b p i zero band = band
 rows b p i (suc n) band = rows b p (i + 1) n (cells b p i (p + 1) band)
 
+-- all rows
 unfoldable pub factored : List Float → ℕ → ℕ → List Float
 unfolding rows
 factored b p len = rows b p 0 len []
@@ -195,9 +205,10 @@ unfolding backwardAt
 backward band y p len zero x = x
 backward band y p len (suc i) x = backward band y p len i (backwardAt band y p len i x ∷ x)
 
-unfoldable pub solveBanded : List Float → List Float → ℕ → ℕ → List Float
+-- "banded Cholesky ..; forward and back solves"
+unfoldable pub solveSpdBanded : List Float → List Float → ℕ → ℕ → List Float
 unfolding factored forward backward
-solveBanded b rhs p len =
+solveSpdBanded b rhs p len =
     let band = factored b p len in
     backward band (forward band rhs p len []) p len len []
 
@@ -205,10 +216,10 @@ solveBanded b rhs p len =
 
 -- the gap's doubles after one pass: a model of what is known, and the gap that fits it best
 unfoldable pub solved : List Float → ℕ → ℕ → ℕ → List Float
-unfolding estimate coefAutocorr rightSides solveBanded
+unfolding estimateArKnown coefAutocorr rightSides solveSpdBanded
 solved seg g len p =
-    let b = coefAutocorr (estimate seg g len p) p in
-    solveBanded b (rightSides seg g len b p) p len
+    let b = coefAutocorr (estimateArKnown seg g len p) p in
+    solveSpdBanded b (rightSides seg g len b p) p len
 
 -- one pass: the window with the gap so filled
 unfoldable pub pass : ℕ → ℕ → ℕ → List Float → List Float
@@ -221,10 +232,6 @@ unfolding pass
 passes zero g len p seg = pass g len p seg
 passes (suc zero) g len p seg = pass g len p seg
 passes (suc (suc n)) g len p seg = passes (suc n) g len p (pass g len p seg)
-
--- "p is len held to 32..128"
-abbrev pub orderFor : ℕ → ℕ
-orderFor len = min (max len 32) 128
 
 -- the gap's doubles after so many passes
 unfoldable pub filled : ℕ → List Float → ℕ → ℕ → List Float

@@ -3,7 +3,7 @@ ghost use mathlib.Core.Path.{_≡_};
 ghost use Prim.Native.Nat.{_+_, _*_, _≤_, _<_};
 ghost use lib.ListN.{length};
 ghost use lib.Seq.{sets};
-ghost use Rattle.model.specs.Model.{lags, unit, raisedAt, raised, levinson, estimate};
+ghost use Rattle.model.specs.Model.{lags, unit, raisedAt, raised, levinson, estimateArKnown};
 ghost use Rattle.model.specs.Areas.{area, Only, Laid, coefsAt};
 use super::sums::lag_sum;
 use super::sums::order_shortfall;
@@ -105,7 +105,7 @@ fn levinson(work: &mut [f64], r: usize, p: usize)
 // for stability.
 pub fn estimate_ar_known(work: &mut [f64], size: usize, g: usize, len: usize, p: usize)
     requires { ⌜ Laid size g len p (now work) ⌝ }
-    ensures { λ _. ⌜ (area (now (work .exit)) (coefsAt size p) (p + 1) ≡ estimate (area (now (work .entry)) 0 size) g len p)
+    ensures { λ _. ⌜ (area (now (work .exit)) (coefsAt size p) (p + 1) ≡ estimateArKnown (area (now (work .entry)) 0 size) g len p)
         × Only size (size + 3 * (p + 1)) (now (work .entry)) (now (work .exit)) ⌝ }
 {
     correlate(work, size, g, len, p);

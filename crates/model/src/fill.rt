@@ -3,7 +3,7 @@ ghost use mathlib.Core.Path.{_≡_};
 ghost use Prim.Native.Nat.{_+_, _*_, _≤_, _<_};
 ghost use lib.ListN.{length};
 ghost use lib.Seq.{sets};
-ghost use Rattle.model.specs.Model.{coefAutocorr, rightSides, solveBanded, solved};
+ghost use Rattle.model.specs.Model.{coefAutocorr, rightSides, solveSpdBanded, solved};
 ghost use Rattle.model.specs.Areas.{area, Only, Laid, bandAt, resultsAt, doublesFor};
 use super::banded::back_solve;
 use super::banded::factor;
@@ -41,7 +41,7 @@ fn right_sides(work: &mut [f64], size: usize, g: usize, len: usize, b: usize, rh
 fn solve_gap(work: &mut [f64], size: usize, g: usize, len: usize, p: usize)
     requires { ⌜ Laid size g len p (now work) ⌝ }
     ensures { λ _. ⌜ (area (now (work .exit)) (resultsAt size len p) len
-        ≡ solveBanded (area (now (work .entry)) (size + 3 * (p + 1)) (p + 1))
+        ≡ solveSpdBanded (area (now (work .entry)) (size + 3 * (p + 1)) (p + 1))
         (rightSides (area (now (work .entry)) 0 size) g len (area (now (work .entry)) (size + 3 * (p + 1)) (p + 1)) p) p len)
         × Only (bandAt size p) (doublesFor size len p) (now (work .entry)) (now (work .exit)) ⌝ }
 {

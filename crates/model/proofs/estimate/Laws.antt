@@ -14,7 +14,7 @@ use lib.Ieee.{Float, nan, binary64, neg, lt, le, ofBits}
 use Rattle.leaves.specs.Arithmetic.{_+₆₄_, _-₆₄_, _*₆₄_, _/₆₄_, nought, one, at}
 use Rattle.leaves.specs.Floats.{magnitude}
 use Rattle.model.specs.Model.{micro, each, unit, lagSum, lags, raisedAt, raised, shortfall, orders}
-use Rattle.model.specs.Model.{levinson, estimate}
+use Rattle.model.specs.Model.{levinson, estimateArKnown}
 use Rattle.model.specs.Areas.{area, Only, coefsAt}
 use Rattle.leaves.proofs.Parts.{take-sets, store-next, part-of-sets, part-before-sets, part-behind-sets}
 use Rattle.leaves.proofs.Parts.{part-length}
@@ -325,8 +325,8 @@ module _ (w w₁ : List Float) (size g len p : ℕ) (room : size + 3 * (p + 1) �
   -- the first lag is not above 0
   pub estimate-unit : (w₂ : List Float) → le (at w₁ size) (ofBits binary64 0) ≡ true
       → w₂ ≡ sets w₁ (coefsAt size p) (unit p)
-      → (area w₂ (coefsAt size p) (p + 1) ≡ estimate (area w 0 size) g len p) × Only size (size + 3 * (p + 1)) w w₂
-  unfolding estimate
+      → (area w₂ (coefsAt size p) (p + 1) ≡ estimateArKnown (area w 0 size) g len p) × Only size (size + 3 * (p + 1)) w w₂
+  unfolding estimateArKnown
   estimate-unit w₂ none e₂ =
       let test : le (at (lags (area w 0 size) g len p) 0) nought ≡ true =
       sym (ap (λ (x : Float). le x nought) first-lag) ∙ ap (le (at w₁ size)) (sym no-sum) ∙ none in
@@ -345,8 +345,8 @@ module _ (w w₁ : List Float) (size g len p : ℕ) (room : size + 3 * (p + 1) �
       → v ≡ at w₁ size *₆₄ (ofBits binary64 4607182418800017408 +₆₄ ofBits binary64 4517329193108106637)
       → area w₃ (coefsAt size p) (p + 1) ≡ levinson (area (set w₁ size v) size (p + 1)) p
       → Only (size + (p + 1)) (size + 3 * (p + 1)) (set w₁ size v) w₃
-      → (area w₃ (coefsAt size p) (p + 1) ≡ estimate (area w 0 size) g len p) × Only size (size + 3 * (p + 1)) w w₃
-  unfolding estimate
+      → (area w₃ (coefsAt size p) (p + 1) ≡ estimateArKnown (area w 0 size) g len p) × Only size (size + 3 * (p + 1)) w w₃
+  unfolding estimateArKnown
   estimate-model v w₃ some ev model o =
       let r = lags (area w 0 size) g len p in
       let test : le (at r 0) nought ≡ false =

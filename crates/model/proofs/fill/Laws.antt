@@ -9,7 +9,7 @@ use lib.ListN.{length, set}
 use lib.Seq.{sets}
 use lib.Ieee.{Float}
 use Rattle.model.specs.Model.{each, coefAt, coefAutocorr, rightSide, rightSides, factored, forward}
-use Rattle.model.specs.Model.{backward, solveBanded, estimate, solved}
+use Rattle.model.specs.Model.{backward, solveSpdBanded, estimateArKnown, solved}
 use Rattle.model.specs.Areas.{area, Only, coefsAt, bandAt, resultsAt, doublesFor}
 use Rattle.model.proofs.Parts.{only-then, only-wider, only-before}
 use Rattle.model.proofs.sums.Laws.{length-each}
@@ -130,14 +130,14 @@ module _ (w w₁ w₂ w₃ w₄ : List Float) (size g len p b band rhs y x : ℕ
   firsts-stand : area w₃ y len ≡ firsts
   firsts-stand = run-stands w₂ w₃ firsts y len e₃ count-firsts (rw count₂ (omega arith))
 
-  results-same : results ≡ solveBanded (area w b (p + 1)) (rightSides (area w 0 size) g len (area w b (p + 1)) p) p len
-  unfolding solveBanded
+  results-same : results ≡ solveSpdBanded (area w b (p + 1)) (rightSides (area w 0 size) g len (area w b (p + 1)) p) p len
+  unfolding solveSpdBanded
   results-same =
       ex
       ∙ ap (λ (l : List Float). backward l (area w₃ y len) p len len []) band-still
       ∙ ap (λ (l : List Float). backward factors l p len len []) (firsts-stand ∙ firsts-same)
       ∙ ap (λ (l : List Float). backward l (forward l sides p len []) p len len []) factors-same
-      ∙ ap (λ (l : List Float). solveBanded (area w b (p + 1)) l p len) es
+      ∙ ap (λ (l : List Float). solveSpdBanded (area w b (p + 1)) l p len) es
 
   all-kept : (end : ℕ) → x + len ≤ end → Only band end w w₄
   all-kept end h =
@@ -151,7 +151,7 @@ module _ (w w₁ w₂ w₃ w₄ : List Float) (size g len p b band rhs y x : ℕ
 
   pub gap-solved : (from end : ℕ) → from ≡ x → x + len ≤ end
       → (area w₄ from len
-      ≡ solveBanded (area w b (p + 1)) (rightSides (area w 0 size) g len (area w b (p + 1)) p) p len)
+      ≡ solveSpdBanded (area w b (p + 1)) (rightSides (area w 0 size) g len (area w b (p + 1)) p) p len)
       × Only band end w w₄
   gap-solved from end e h = (
     ap (λ (k : ℕ). area w₄ k len) e ∙ run-stands w₃ w₄ results x len e₄ count-results (rw count₃ room) ∙ results-same,
@@ -161,11 +161,11 @@ module _ (w w₁ w₂ w₃ w₄ : List Float) (size g len p b band rhs y x : ℕ
 -- ---- The pass
 
 pub pass-solved : (w w₁ w₂ w₃ : List Float) (size g len p : ℕ) → doublesFor size len p ≤ length w
-    → area w₁ (coefsAt size p) (p + 1) ≡ estimate (area w 0 size) g len p
+    → area w₁ (coefsAt size p) (p + 1) ≡ estimateArKnown (area w 0 size) g len p
     → Only size (size + 3 * (p + 1)) w w₁
     → w₂ ≡ sets w₁ (size + 3 * (p + 1)) (coefAutocorr (area w₁ (size + 2 * (p + 1)) (p + 1)) p)
     → area w₃ (resultsAt size len p) len
-    ≡ solveBanded (area w₂ (size + 3 * (p + 1)) (p + 1))
+    ≡ solveSpdBanded (area w₂ (size + 3 * (p + 1)) (p + 1))
     (rightSides (area w₂ 0 size) g len (area w₂ (size + 3 * (p + 1)) (p + 1)) p) p len
     → Only (bandAt size p) (doublesFor size len p) w₂ w₃
     → (area w₃ (resultsAt size len p) len ≡ solved (area w 0 size) g len p) × Only size (doublesFor size len p) w w₃
@@ -176,7 +176,7 @@ pass-solved w w₁ w₂ w₃ size g len p room model first e₂ results last =
     let coefs = area w₁ (size + 2 * (p + 1)) (p + 1) in
     let count : length (coefAutocorr coefs p) ≡ p + 1 = length-coefs coefs p in
     let there : b + (p + 1) ≤ length w₁ = rw (first .count) (omega arith) in
-    let sums : area w₂ b (p + 1) ≡ coefAutocorr (estimate (area w 0 size) g len p) p =
+    let sums : area w₂ b (p + 1) ≡ coefAutocorr (estimateArKnown (area w 0 size) g len p) p =
     run-stands w₁ w₂ (coefAutocorr coefs p) b (p + 1) e₂ count there
     ∙ ap (λ (l : List Float). coefAutocorr l p) model in
     let window : area w₂ 0 size ≡ area w 0 size =
@@ -187,8 +187,8 @@ pass-solved w w₁ w₂ w₃ size g len p room model first e₂ results last =
     (only-wider size b size end w w₁ (omega arith) (omega arith) first)
     (run-only w₁ w₂ (coefAutocorr coefs p) b (p + 1) size end e₂ count (omega arith) (omega arith)) in (
       results
-          ∙ ap (λ (l : List Float). solveBanded l (rightSides (area w₂ 0 size) g len l p) p len) sums
-          ∙ ap (λ (l : List Float). solveBanded (coefAutocorr (estimate (area w 0 size) g len p) p)
-          (rightSides l g len (coefAutocorr (estimate (area w 0 size) g len p) p) p) p len) window,
+          ∙ ap (λ (l : List Float). solveSpdBanded l (rightSides (area w₂ 0 size) g len l p) p len) sums
+          ∙ ap (λ (l : List Float). solveSpdBanded (coefAutocorr (estimateArKnown (area w 0 size) g len p) p)
+          (rightSides l g len (coefAutocorr (estimateArKnown (area w 0 size) g len p) p) p) p len) window,
       only-then size end w w₂ w₃ kept (only-wider (bandAt size p) end size end w₂ w₃ (omega arith) (omega arith) last),
     )
