@@ -17,7 +17,7 @@ use super::words::word_of_f64;
 const TOO_LARGE: u64 = 1151;
 // From 2 ^ -126 on it is normal, and keeps 24 of the 53 digits.
 const NORMAL: u64 = 897;
-
+// The other digits are dropped.
 const DROPPED: u64 = 29;
 // From 2 ^ -150 on, half of the least f32, it may be more than zero.
 const LEAST: u64 = 873;

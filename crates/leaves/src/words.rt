@@ -79,7 +79,8 @@ pub fn count_as_f32(n: usize) -> f32
     std::num::nearest_u32_to_f32(n as u32)
 }
 
-// Whether a sample is in range. A NaN and the infinities fail one of the two comparisons.
+// Whether a sample is in range: finite and of magnitude at most 65,536. A NaN and the infinities fail one of
+// the two comparisons.
 pub fn in_range(word: u32) -> bool
     ensures { λ r. ⌜ r ≡ inRange word ⌝ }
 {

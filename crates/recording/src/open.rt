@@ -9,6 +9,9 @@ use super::clear::set_marks;
 // The number of samples that a recording has at most.
 pub const MOST_SAMPLES: usize = 1_048_576;
 
+// The mark of a sample as it came from the pump.
+const MEASURED: u8 = 0;
+
 // Refusals 1, 2 and 3, in this order; accepted, with 0, where none of them applies.
 pub fn check_sizes(samples: &[u32], marks: &[u8], journal: &[u32], used: usize) -> Answer
     ensures { λ r. ⌜ r ≡ fitting (state (now (samples .entry)) (now (marks .entry)) (now (journal .entry)) used) ⌝ }
@@ -39,7 +42,7 @@ pub fn open(samples: &[u32], marks: &mut [u8], journal: &mut [u32], used: &mut u
     }
     let count = marks.len();
     let room = journal.len();
-    set_marks(marks, 0, count, 0);
+    set_marks(marks, 0, count, MEASURED);
     clear_words(journal, 0, room);
     *used = 0;
     Answer::Done(0)
