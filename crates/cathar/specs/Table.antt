@@ -2,10 +2,10 @@
 -- what the rules give and what it should be, and the statement is `table-holds` at the end. The checker computes it.
 use Prim.Native.Nat.{ℕ, _*_}
 use mathlib.Core.Path.{_≡_, refl}
-use mathlib.Core.Bool.{true, false}
+use mathlib.Core.Bool.{false}
 use mathlib.Core.List.{List, [], _∷_, map}
 use lib.ListN.{length, replicate}
-use lib.Ieee.{Float, fin, minus, binary32, binary64, toBits}
+use lib.Ieee.{Float, fin, minus, neg, binary32, binary64, toBits}
 use Rattle.leaves.specs.Arithmetic.{one, near}
 use Rattle.leaves.specs.Floats.{narrowed, rounded}
 use Rattle.leaves.specs.Root.{root}
@@ -34,21 +34,19 @@ unfoldable pub narrows : List Float → List ℕ
 unfolding narrowed toBits
 narrows = map (λ x. toBits binary32 (narrowed x))
 
--- m / 2 ^ k, and the same below zero
-abbrev pub over2^ : ℕ → ℕ → Float
-over2^ k m = fin false m (minus 0 k)
-
-abbrev pub minusOver2^ : ℕ → ℕ → Float
-minusOver2^ k m = fin true m (minus 0 k)
+infixl 70 _/2^_
+-- m / 2 ^ k
+abbrev pub _/2^_ : ℕ → ℕ → Float
+m /2^ k = fin false m (minus 0 k)
 
 -- ---- Calls: everything that they leave
 
 -- number, value and used; samples; marks; journal
-abbrev pub left : ℕ → ℕ → ℕ → List ℕ → List ℕ → List ℕ → List (List ℕ)
-left number value used samples marks journal = (number ∷ value ∷ used ∷ []) ∷ samples ∷ marks ∷ journal ∷ []
+abbrev pub leaving : ℕ → ℕ → ℕ → List ℕ → List ℕ → List ℕ → List (List ℕ)
+leaving number value used samples marks journal = (number ∷ value ∷ used ∷ []) ∷ samples ∷ marks ∷ journal ∷ []
 
 unfoldable pub shown : Ended → List (List ℕ)
-shown e = let s = e .after in left (number (e .answer)) (value (e .answer)) (s .used) (s .samples) (s .marks) (s .journal)
+shown e = let s = e .after in leaving (number (e .answer)) (value (e .answer)) (s .used) (s .samples) (s .marks) (s .journal)
 
 -- so many parts of d each, as words
 unfoldable pub partsOf : ℕ → List ℕ → List ℕ
@@ -82,58 +80,58 @@ spike = partsOf 32 (0 ∷ 0 ∷ 4 ∷ 0 ∷ 0 ∷ [])
 -- ---- The table
 
 unfoldable pub table : List Row
-unfolding roots wholes narrows shown partsOf quietGap undone declipRepair dequantizeRepair
+unfolding neg roots wholes narrows shown partsOf quietGap undone declipRepair dequantizeRepair
 table =
     let repaired = quietGap 2 8 in
     let back = undone (repaired .after) in
     -- root of 2.25 is 1.5; root of 2^-1074 is 2^-537
     record {
-      given = roots (over2^ 2 9 ∷ over2^ 1074 1 ∷ []) ∷ [];
+      given = roots (9 /2^ 2 ∷ 1 /2^ 1074 ∷ []) ∷ [];
       should = (0x3ff8000000000000 ∷ 0x1e60000000000000 ∷ []) ∷ [];
     }
     -- rounding: 2.5 to 3, −2.5 to −3, −0.25 to −0
     ∷ record {
-      given = wholes (over2^ 1 5 ∷ minusOver2^ 1 5 ∷ minusOver2^ 2 1 ∷ []) ∷ [];
+      given = wholes (5 /2^ 1 ∷ neg (5 /2^ 1) ∷ neg (1 /2^ 2) ∷ []) ∷ [];
       should = (0x40400000 ∷ 0xc0400000 ∷ 0x80000000 ∷ []) ∷ [];
     }
     -- narrowing: 1+2^-24 to 1; 1+3*2^-24 to 1+2^-22
     ∷ record {
-      given = narrows (over2^ 24 16777217 ∷ over2^ 24 16777219 ∷ []) ∷ [];
+      given = narrows (16777217 /2^ 24 ∷ 16777219 /2^ 24 ∷ []) ∷ [];
       should = (0x3f800000 ∷ 0x3f800002 ∷ []) ∷ [];
     }
     -- *quiet*: words 80000000, 00000000; journal after *quiet*: 2,0,0,3,0,0,2,1; used 8
     ∷ record {
       given = shown repaired;
       should =
-          left 0 2 8 (0x30800000 ∷ 0x30800000 ∷ 0x80000000 ∷ 0 ∷ 0x30800000 ∷ 0x30800000 ∷ []) (0 ∷ 0 ∷ 1 ∷ 1 ∷ 0 ∷ 0 ∷ [])
+          leaving 0 2 8 (0x30800000 ∷ 0x30800000 ∷ 0x80000000 ∷ 0 ∷ 0x30800000 ∷ 0x30800000 ∷ []) (0 ∷ 0 ∷ 1 ∷ 1 ∷ 0 ∷ 0 ∷ [])
           (2 ∷ 0 ∷ 0 ∷ 3 ∷ 0 ∷ 0 ∷ 2 ∷ 1 ∷ []);
     }
     -- *quiet* then undo: raw words, marks 0, used 0, journal 0
-    ∷ record { given = shown back; should = left 0 2 0 quiet (replicate 6 0) (replicate 8 0) }
+    ∷ record { given = shown back; should = leaving 0 2 0 quiet (replicate 6 0) (replicate 8 0) }
     -- a further undo: 10
-    ∷ record { given = shown (undone (back .after)); should = left 10 0 0 quiet (replicate 6 0) (replicate 8 0) }
+    ∷ record { given = shown (undone (back .after)); should = leaving 10 0 0 quiet (replicate 6 0) (replicate 8 0) }
     -- *quiet*, journal of 7 words: 9
-    ∷ record { given = shown (quietGap 2 7); should = left 9 0 0 quiet (replicate 6 0) (replicate 7 0) }
+    ∷ record { given = shown (quietGap 2 7); should = leaving 9 0 0 quiet (replicate 6 0) (replicate 7 0) }
     -- gap length 0: 5
-    ∷ record { given = shown (quietGap 0 8); should = left 5 0 0 quiet (replicate 6 0) (replicate 8 0) }
+    ∷ record { given = shown (quietGap 0 8); should = leaving 5 0 0 quiet (replicate 6 0) (replicate 8 0) }
     -- 5 samples 0,0,0.125,0,0, `dequantize`, bits 4, strength 1: 0, 0.0625, 0.0625, 0.03125, 0. The word of 0.125 is 3e000000.
     ∷ record {
       given = shown (dequantizeRepair 4 one 10 (recorded spike 11));
       should =
-          left 0 3 11 (partsOf 32 (0 ∷ 2 ∷ 2 ∷ 1 ∷ 0 ∷ [])) (0 ∷ 5 ∷ 5 ∷ 5 ∷ 0 ∷ [])
+          leaving 0 3 11 (partsOf 32 (0 ∷ 2 ∷ 2 ∷ 1 ∷ 0 ∷ [])) (0 ∷ 5 ∷ 5 ∷ 5 ∷ 0 ∷ [])
           (1 ∷ 0 ∷ 0 ∷ 2 ∷ 0x3e000000 ∷ 0 ∷ 3 ∷ 0 ∷ 0 ∷ 3 ∷ 5 ∷ []);
     }
     -- 9 samples, the fifth 1, the last 0.5, others 0, threshold 1: places 1..7 become 22, 80, 162, 256, 350, 432, 490 over 1024
     ∷ record {
       given = shown (declipRepair one 18 (recorded oneClipped 23));
       should =
-          left 0 7 23 (partsOf 1024 (0 ∷ 22 ∷ 80 ∷ 162 ∷ 256 ∷ 350 ∷ 432 ∷ 490 ∷ 512 ∷ [])) (0 ∷ 3 ∷ 3 ∷ 3 ∷ 3 ∷ 3 ∷ 3 ∷ 3 ∷ 0 ∷ [])
+          leaving 0 7 23 (partsOf 1024 (0 ∷ 22 ∷ 80 ∷ 162 ∷ 256 ∷ 350 ∷ 432 ∷ 490 ∷ 512 ∷ [])) (0 ∷ 3 ∷ 3 ∷ 3 ∷ 3 ∷ 3 ∷ 3 ∷ 3 ∷ 0 ∷ [])
           (1 ∷ 0 ∷ 0 ∷ 2 ∷ 0 ∷ 0 ∷ 3 ∷ 0 ∷ 0 ∷ 4 ∷ 0x3f800000 ∷ 0 ∷ 5 ∷ 0 ∷ 0 ∷ 6 ∷ 0 ∷ 0 ∷ 7 ∷ 0 ∷ 0 ∷ 7 ∷ 3 ∷ []);
     }
     -- 4 samples, only place 1 clipped: nothing named
     ∷ record {
       given = shown (declipRepair one 8 (recorded fourSamples 14));
-      should = left 0 0 0 fourSamples (replicate 4 0) (replicate 14 0);
+      should = leaving 0 0 0 fourSamples (replicate 4 0) (replicate 14 0);
     }
     ∷ []
 

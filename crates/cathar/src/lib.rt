@@ -20,8 +20,10 @@ pub extern "C" fn cathar_open(
     journal: &mut [u32],
     used: &mut usize,
 ) -> u32
-    ensures { λ r. ⌜ outcome r [] (state (now (samples .entry)) (now (marks .exit)) (now (journal .exit)) (now (used .exit))) none
-        ≡ opening (state (now (samples .entry)) (now (marks .entry)) (now (journal .entry)) (now (used .entry))) ⌝ }
+    ensures { λ r. ⌜ outcome r []
+        (state (now (samples .entry)) (now (marks .exit)) (now (journal .exit)) (now (used .exit))) none
+        ≡ opening
+        (state (now (samples .entry)) (now (marks .entry)) (now (journal .entry)) (now (used .entry))) ⌝ }
 {
     let answer = recording::open::open(samples, marks, journal, used);
     number_of(answer)
@@ -42,8 +44,10 @@ pub extern "C" fn cathar_inpaint_gap(
     work: &mut [f64],
     value: &mut usize,
 ) -> u32
-    ensures { λ r. ⌜ outcome r (now (value .exit) ∷ []) (state (now (samples .exit)) (now (marks .exit)) (now (journal .exit)) (now (used .exit))) (doubles (now (work .exit)))
-        ≡ ran (gap start len passes (now (work .entry))) (state (now (samples .entry)) (now (marks .entry)) (now (journal .entry)) (now (used .entry))) ⌝ }
+    ensures { λ r. ⌜ outcome r (now (value .exit) ∷ [])
+        (state (now (samples .exit)) (now (marks .exit)) (now (journal .exit)) (now (used .exit))) (doubles (now (work .exit)))
+        ≡ ran (gap start len passes (now (work .entry)))
+        (state (now (samples .entry)) (now (marks .entry)) (now (journal .entry)) (now (used .entry))) ⌝ }
 {
     let answer = inpaint::gap::inpaint_gap(samples, marks, journal, used, start, len, passes, work);
     *value = value_of(answer);
@@ -65,8 +69,10 @@ pub extern "C" fn cathar_inpaint_auto(
     qualified: &mut usize,
     repaired: &mut usize,
 ) -> u32
-    ensures { λ r. ⌜ outcome r (now (qualified .exit) ∷ now (repaired .exit) ∷ []) (state (now (samples .exit)) (now (marks .exit)) (now (journal .exit)) (now (used .exit))) (doubles (now (work .exit)))
-        ≡ ran (scan rate millis (now (work .entry))) (state (now (samples .entry)) (now (marks .entry)) (now (journal .entry)) (now (used .entry))) ⌝ }
+    ensures { λ r. ⌜ outcome r (now (qualified .exit) ∷ now (repaired .exit) ∷ [])
+        (state (now (samples .exit)) (now (marks .exit)) (now (journal .exit)) (now (used .exit))) (doubles (now (work .exit)))
+        ≡ ran (scan rate millis (now (work .entry)))
+        (state (now (samples .entry)) (now (marks .entry)) (now (journal .entry)) (now (used .entry))) ⌝ }
 {
     let scanned = inpaint::auto::inpaint_auto(samples, marks, journal, used, rate, millis, work);
     *qualified = scanned.qualified;
@@ -87,8 +93,10 @@ pub extern "C" fn cathar_declip(
     work: &mut [u32],
     value: &mut usize,
 ) -> u32
-    ensures { λ r. ⌜ outcome r (now (value .exit) ∷ []) (state (now (samples .exit)) (now (marks .exit)) (now (journal .exit)) (now (used .exit))) (words (now (work .exit)))
-        ≡ ran (declip threshold (now (work .entry))) (state (now (samples .entry)) (now (marks .entry)) (now (journal .entry)) (now (used .entry))) ⌝ }
+    ensures { λ r. ⌜ outcome r (now (value .exit) ∷ [])
+        (state (now (samples .exit)) (now (marks .exit)) (now (journal .exit)) (now (used .exit))) (words (now (work .exit)))
+        ≡ ran (declip threshold (now (work .entry)))
+        (state (now (samples .entry)) (now (marks .entry)) (now (journal .entry)) (now (used .entry))) ⌝ }
 {
     let answer = declip::declip(samples, marks, journal, used, threshold, work);
     *value = value_of(answer);
@@ -106,8 +114,10 @@ pub extern "C" fn cathar_decrackle(
     work: &mut [u32],
     value: &mut usize,
 ) -> u32
-    ensures { λ r. ⌜ outcome r (now (value .exit) ∷ []) (state (now (samples .exit)) (now (marks .exit)) (now (journal .exit)) (now (used .exit))) (words (now (work .exit)))
-        ≡ ran (decrackle sensitivity (now (work .entry))) (state (now (samples .entry)) (now (marks .entry)) (now (journal .entry)) (now (used .entry))) ⌝ }
+    ensures { λ r. ⌜ outcome r (now (value .exit) ∷ [])
+        (state (now (samples .exit)) (now (marks .exit)) (now (journal .exit)) (now (used .exit))) (words (now (work .exit)))
+        ≡ ran (decrackle sensitivity (now (work .entry)))
+        (state (now (samples .entry)) (now (marks .entry)) (now (journal .entry)) (now (used .entry))) ⌝ }
 {
     let answer = decrackle::decrackle(samples, marks, journal, used, sensitivity, work);
     *value = value_of(answer);
@@ -127,8 +137,10 @@ pub extern "C" fn cathar_dequantize(
     work: &mut [u32],
     value: &mut usize,
 ) -> u32
-    ensures { λ r. ⌜ outcome r (now (value .exit) ∷ []) (state (now (samples .exit)) (now (marks .exit)) (now (journal .exit)) (now (used .exit))) (words (now (work .exit)))
-        ≡ ran (dequantize bits strength (now (work .entry))) (state (now (samples .entry)) (now (marks .entry)) (now (journal .entry)) (now (used .entry))) ⌝ }
+    ensures { λ r. ⌜ outcome r (now (value .exit) ∷ [])
+        (state (now (samples .exit)) (now (marks .exit)) (now (journal .exit)) (now (used .exit))) (words (now (work .exit)))
+        ≡ ran (dequantize bits strength (now (work .entry)))
+        (state (now (samples .entry)) (now (marks .entry)) (now (journal .entry)) (now (used .entry))) ⌝ }
 {
     let answer = dequant::passes::dequantize(samples, marks, journal, used, bits, strength, work);
     *value = value_of(answer);
@@ -149,8 +161,10 @@ pub extern "C" fn cathar_dequantize_cosparse(
     work: &mut [u32],
     value: &mut usize,
 ) -> u32
-    ensures { λ r. ⌜ outcome r (now (value .exit) ∷ []) (state (now (samples .exit)) (now (marks .exit)) (now (journal .exit)) (now (used .exit))) (words (now (work .exit)))
-        ≡ ran (cosparse bits strength iterations (now (work .entry))) (state (now (samples .entry)) (now (marks .entry)) (now (journal .entry)) (now (used .entry))) ⌝ }
+    ensures { λ r. ⌜ outcome r (now (value .exit) ∷ [])
+        (state (now (samples .exit)) (now (marks .exit)) (now (journal .exit)) (now (used .exit))) (words (now (work .exit)))
+        ≡ ran (cosparse bits strength iterations (now (work .entry)))
+        (state (now (samples .entry)) (now (marks .entry)) (now (journal .entry)) (now (used .entry))) ⌝ }
 {
     let answer = dequant::cosparse::dequantize_cosparse(
         samples,
@@ -176,8 +190,10 @@ pub extern "C" fn cathar_undo(
     used: &mut usize,
     value: &mut usize,
 ) -> u32
-    ensures { λ r. ⌜ outcome r (now (value .exit) ∷ []) (state (now (samples .exit)) (now (marks .exit)) (now (journal .exit)) (now (used .exit))) none
-        ≡ ran undo (state (now (samples .entry)) (now (marks .entry)) (now (journal .entry)) (now (used .entry))) ⌝ }
+    ensures { λ r. ⌜ outcome r (now (value .exit) ∷ [])
+        (state (now (samples .exit)) (now (marks .exit)) (now (journal .exit)) (now (used .exit))) none
+        ≡ ran undo
+        (state (now (samples .entry)) (now (marks .entry)) (now (journal .entry)) (now (used .entry))) ⌝ }
 {
     let answer = recording::undo::undo(samples, marks, journal, used);
     *value = value_of(answer);
