@@ -1,46 +1,68 @@
--- The repair of a gap is lawful, so demand 3 holds of every sequence of it with undos: its plan refuses, or sets mark 1
--- or 2 at the places of the gap, which ascend within the recording. Assumes nothing.
+-- The plans of a gap: a refusal 5, 6 or 7, or mark 1 or 2 at the places of the gap. So the repair of a gap is lawful, and demand 3
+-- holds of every sequence of it with undos. Assumes nothing.
 use mathlib.Core.Path.{_≡_, refl}
 use mathlib.Core.Bool.{true}
-use mathlib.Core.List.{List}
-use mathlib.Core.Logic.{inl, inr}
-use Prim.Native.Nat.{ℕ, _+_, _≤_}
+use mathlib.Core.List.{List, [], _∷_}
+use Prim.Native.Nat.{ℕ, _+_, _≤_, _<_}
 use native.Mathlib.Omega.{arith}
+use borrow.Author.Tests.{ltb-true}
 use lib.Dec.{ltb}
 use lib.ListN.{length}
-use Rattle.recording.specs.Recording.{change, span, made, gapByModel, gapByLine}
+use Rattle.leaves.specs.Floats.{inRange}
+use Rattle.recording.specs.Recording.{Plan, refuse, change, span, made, gapByModel, gapByLine, orElse, readable, unlessRead}
 use Rattle.recording.specs.History.{Keeps}
-use Rattle.recording.proofs.open.Laws.{truth}
-use Rattle.recording.proofs.Performing.{span-ascends, unless-kept}
-use Rattle.inpaint.specs.Gap.{gapWrong, byLine, needed, allReadable, line, model, repaired, gapPlan}
-use Rattle.inpaint.specs.Consequences.{GapIsLawful}
-use Rattle.recording.proofs.Picks.{picks}
+use Rattle.recording.specs.declared.Reason.the-variants.{Gap, Workspace, Read}
+use Rattle.recording.specs.declared.Answer.{Answer}
+use Rattle.recording.specs.declared.Answer.the-variants.{Done, Refused}
+use Rattle.recording.proofs.Performing.{span-ascends}
+use Rattle.recording.proofs.Picks.{picks, picks-by}
+use Rattle.inpaint.specs.Gap.{gapWrong, byLine, from, needed, knownBefore, knownBehind, allReadable, line, model}
+use Rattle.inpaint.specs.Gap.{repaired, gapPlan}
+use Rattle.inpaint.specs.Consequences.{GapLawful}
 use Rattle.inpaint.proofs.window.Laws.{gap-right}
 use Rattle.inpaint.proofs.line.Laws.{length-line}
 use Rattle.inpaint.proofs.fill.Laws.{length-model}
 
--- as many words as the gap has places
-span-kept : (n start len mark : ℕ) (ws : List ℕ) → made mark ≡ true → length ws ≡ len → start + len ≤ n
-    → Keeps n (change mark (span start ws))
-span-kept n start len mark ws m count h = (m, span-ascends n 0 start ws (omega arith) (rw count h))
+-- ---- What holds of each plan that a gap can have holds of its plan
 
-repaired-kept : (passes : ℕ) (samples : List ℕ) (start len : ℕ) → start + len ≤ length samples
-    → Keeps (length samples) (repaired passes samples start len)
-unfolding repaired
-repaired-kept passes samples start len h =
-    picks (Keeps (length samples)) (byLine len) _ _
-    (span-kept (length samples) start len gapByLine (line samples start len) refl (length-line samples start len) h)
-    (span-kept (length samples) start len gapByModel (model passes samples start len) refl
-    (length-model samples start len h passes) h)
+module _ (P : Plan → Type 0) (start len passes room : ℕ) (samples : List ℕ)
+    (wrong : gapWrong (length samples) start len ≡ true → P (refuse Gap))
+    (short : room < needed (length samples) start len → P (refuse Workspace))
+    (read : (i : ℕ) → P (refuse (Read i)))
+    (filled : (mark : ℕ) (ws : List ℕ) → made mark ≡ true → length ws ≡ len → start + len ≤ length samples
+    → P (change mark (span start ws))) where
+  -- refusal 7 of words, or the rest of the plan
+  module _ (rest : Plan) (holds : P rest) where
+    readable-holds : (i : ℕ) (ws : List ℕ) → P (unlessRead (readable i ws) rest)
+    unfolding readable
+    readable-holds i [] = holds
+    readable-holds i (w ∷ ws) = picks (λ (a : Answer). P (unlessRead a rest)) (inRange w) _ _ (readable-holds (i + 1) ws) (read i)
 
-pub gap-lawful : GapIsLawful
-unfolding gapPlan
+    either-holds : (a b : Answer) → P (unlessRead a rest) → P (unlessRead b rest) → P (unlessRead (orElse a b) rest)
+    either-holds (Done m) b first second = second
+    either-holds (Refused why) b first second = first
+
+    known-holds : P (unlessRead (allReadable samples start len) rest)
+    unfolding allReadable
+    known-holds =
+        either-holds (readable (from start len) (knownBefore samples start len)) (readable (start + len) (knownBehind samples start len))
+        (readable-holds (from start len) (knownBefore samples start len)) (readable-holds (start + len) (knownBehind samples start len))
+
+  repaired-holds : start + len ≤ length samples → P (repaired passes samples start len)
+  unfolding repaired
+  repaired-holds inside =
+      picks P (byLine len) _ _ (filled gapByLine (line samples start len) refl (length-line samples start len) inside)
+      (filled gapByModel (model passes samples start len) refl (length-model samples start len inside passes) inside)
+
+  pub plan-holds : P (gapPlan start len passes room samples)
+  unfolding gapPlan
+  plan-holds =
+      picks-by P (gapWrong (length samples) start len) _ _ wrong
+      (λ right. picks-by P (ltb room (needed (length samples) start len)) _ _
+      (λ less. short (ltb-true room (needed (length samples) start len) less))
+      (λ enough. known-holds _ (repaired-holds (gap-right (length samples) start len right .inside))))
+
+pub gap-lawful : GapLawful
 gap-lawful start len passes room samples =
-    elim (truth (gapWrong (length samples) start len)) [
-      | inl wrong ↦ rw wrong tt
-      | inr right ↦
-          rw right
-          (picks (Keeps (length samples)) (ltb room (needed (length samples) start len)) _ _ tt
-          (unless-kept (length samples) (allReadable samples start len) (repaired passes samples start len)
-          (repaired-kept passes samples start len (gap-right (length samples) start len right .inside))))
-    ]
+    plan-holds (Keeps (length samples)) start len passes room samples (λ h. tt) (λ h. tt) (λ i. tt)
+    (λ mark ws m count inside. (m, span-ascends (length samples) 0 start ws (omega arith) (rw count inside)))

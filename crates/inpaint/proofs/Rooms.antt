@@ -1,301 +1,290 @@
--- What a scan never lacks: a journal of three words for each sample has room for all its entries, and a workspace that any run
--- within the limit needs suffices for each. Assumes nothing.
-use mathlib.Core.Path.{_≡_, refl, sym, ap, _∙_}
-use mathlib.Core.Bool.{Bool, true, false, true≢false, cond}
+-- What each run of a scan answers: an acceptance or a refusal from 6 to 9; none by 9 where the journal has three words for each
+-- sample, and none by 6 where the workspace suffices for every gap within the limit. Assumes nothing.
+use mathlib.Core.Path.{_≡_, refl, sym, ap, subst, _∙_}
+use mathlib.Core.Bool.{true, false, true≢false}
 use mathlib.Core.Logic.{_⊎_, inl, inr}
 use mathlib.Core.List.{List, [], _∷_}
 use Prim.Native.Nat.{ℕ, zero, suc, _+_, _-_, _*_, _≤_, _<_}
+use native.Mathlib.Nat.{sub-zero}
 use native.Mathlib.Omega.{arith}
-use lib.ListN.{length, getD}
+use lib.ListN.{length}
 use lib.Seq.{length-sets}
 use lib.Dec.{ltb, eqb}
 use lib.Ieee.{Float}
-use borrow.Author.Tests.{ltb-true}
+use borrow.Author.Tests.{ltb-true, ne-eqb, lt-leb, le-ltb}
 use Rattle.leaves.specs.Floats.{inRange}
-use Rattle.recording.specs.Answers.{number, reasonNumber}
-use Rattle.recording.specs.Recording.{orElse, State, Ended, Placed, Plan, refuse, change, if_then_else_, differ, tooMany}
-use Rattle.recording.specs.Recording.{overUsed, readable, unlessRead}
-use Rattle.recording.specs.Recording.{fitting, ranged, entered, entry, committed, carried, performed, unlessRefused}
-use Rattle.recording.specs.Recording.{entrySize, places}
-use Rattle.recording.specs.declared.Reason.the-variants.{Room, Setting}
+use Rattle.recording.specs.Answers.{number}
+use Rattle.recording.specs.Recording.{State, Ended, Placed, each, span, Plan, refuse, change, places, entry, entrySize}
+use Rattle.recording.specs.Recording.{differ, tooMany, overUsed, fitting, ranged, entered, committed, carried, performed, called}
+use Rattle.recording.specs.Recording.{unlessRefused}
+use Rattle.recording.specs.Inner.{Fits}
 use Rattle.recording.specs.declared.Answer.{Answer}
 use Rattle.recording.specs.declared.Answer.the-variants.{Done, Refused}
-use Rattle.inpaint.specs.Gap.{gapWrong, byLine, needed, allReadable, knownBefore, knownBehind}
-use Rattle.inpaint.specs.Gap.{from, line, model, repaired, gapPlan, gapRepair}
-use Rattle.inpaint.specs.Auto.{limit, allowed, dropout, dropoutAt, runBegins, runAt, qualifies, nextRun, Scan, scan, repairAt}
-use Rattle.inpaint.specs.Auto.{scanFrom, scannable, automatic}
+use Rattle.recording.proofs.commit.Laws.{length-span}
+use Rattle.recording.proofs.open.Laws.{fits-done, accepted-fits}
+use Rattle.recording.proofs.Entering.{Enters, Ending, unnamed, turned-away, enters, ending, enters-ends}
+use Rattle.recording.proofs.Picks.{picks, picks-by}
+use Rattle.recording.proofs.Put.{length-put}
+use Rattle.recording.proofs.Runs.{begins-not}
+use Rattle.model.proofs.Passes.{both-hold}
+use Rattle.inpaint.specs.Gap.{gapWrong, needed, gapPlan, gapRepair}
+use Rattle.inpaint.specs.Auto.{limit, dropoutAt, runBegins, runAt, qualifies, nextRun, sourcePasses, scannable}
+use Rattle.inpaint.specs.Runs.{Stretch, runsAmong, runsOf, gapCalls, answers}
+use Rattle.inpaint.specs.Consequences.{EachNumber, OwnAnswers, ThreeWordsSuffice, WideSuffices}
 use Rattle.inpaint.specs.declared.Run.{Run}
 use Rattle.inpaint.specs.declared.Run.the-variants.{At, Nowhere}
-use Rattle.recording.proofs.commit.Laws.{length-span}
-use Rattle.inpaint.proofs.line.Laws.{length-line}
-use Rattle.inpaint.proofs.auto.Laws.{Found, qualifies-all, found-run, scan-stops, scan-takes, automatic-refused}
-use Rattle.inpaint.proofs.auto.Laws.{automatic-scanned}
-use Rattle.model.proofs.Passes.{both-hold}
-use Rattle.recording.proofs.Picks.{picks, picks-by}
-use Rattle.recording.proofs.Runs.{begins-not}
-use Rattle.inpaint.proofs.Scans.{Behind, repair-leaves, work-count, found-behind}
-use Rattle.inpaint.proofs.Scans.{model-within}
+use Rattle.inpaint.proofs.auto.Laws.{Found, qualifies-all, found-run, scannable-unfit}
+use Rattle.inpaint.proofs.Lawful.{plan-holds, gap-lawful}
+use Rattle.inpaint.proofs.Scans.{none-among, runs-behind, found-behind, answers-first}
 
--- ---- A repair that is spared refusal k, which is 6 or 9
+-- ---- What the repair of a gap answers
 
-module _ (k : ℕ) (which : (k ≡ 6) ⊎ (k ≡ 9)) where
-  abbrev Spared : Answer → Type 0
-  Spared a = number a ≡ k → ⊥
+-- what holds of each number that it can give holds of the one that it gives
+module _ (P : ℕ → Type 0) (s : State) (start len passes room : ℕ) (accepted : P 0) (unfit : P (number (fitting s)))
+    (wrong : gapWrong (length (s .samples)) start len ≡ true → P 5) (short : room < needed (length (s .samples)) start len → P 6)
+    (read : P 7) (result : P 8) (full : length (s .journal) < s .used + entrySize len → P 9) where
+  abbrev Holds : Ended → Type 0
+  Holds e = P (number (e .answer))
 
-  -- any other number is none of the two
-  other : (j : ℕ) → (j ≡ 6 → ⊥) → (j ≡ 9 → ⊥) → j ≡ k → ⊥
-  other j six nine e = elim which [ inl h ↦ six (e ∙ h) | inr h ↦ nine (e ∙ h) ]
+  unless : (a : Answer) (e : Ended) → P (number a) → Holds e → Holds (unlessRefused a s e)
+  unless (Done m) e p q = q
+  unless (Refused why) e p q = p
 
-  fitting-spared : (s : State) → Spared (fitting s)
-  unfolding fitting
-  fitting-spared s =
-      picks Spared (differ s) _ _ (other 1 (λ e. omega arith) (λ e. omega arith))
-      (picks Spared (tooMany s) _ _ (other 2 (λ e. omega arith) (λ e. omega arith))
-      (picks Spared (overUsed s) _ _ (other 3 (λ e. omega arith) (λ e. omega arith)) (other 0 (λ e. omega arith) (λ e. omega arith))))
-
-  ranged-spared : (cs : List Placed) → Spared (ranged cs)
+  ranged-number : (cs : List Placed) → P (number (ranged cs))
   unfolding ranged
-  ranged-spared [] = other 0 (λ e. omega arith) (λ e. omega arith)
-  ranged-spared (c ∷ cs) =
-      picks Spared (inRange (c .value)) _ _ (ranged-spared cs) (other 8 (λ e. omega arith) (λ e. omega arith))
+  ranged-number [] = accepted
+  ranged-number (c ∷ cs) = picks (λ (a : Answer). P (number a)) (inRange (c .value)) _ _ (ranged-number cs) result
 
-  readable-spared : (i : ℕ) (ws : List ℕ) → Spared (readable i ws)
-  unfolding readable
-  readable-spared i [] = other 0 (λ e. omega arith) (λ e. omega arith)
-  readable-spared i (w ∷ ws) =
-      picks Spared (inRange w) _ _ (readable-spared (i + 1) ws) (other 7 (λ e. omega arith) (λ e. omega arith))
+  entered-number : (mark : ℕ) (cs : List Placed) → length cs ≡ len → Holds (entered s mark cs)
+  unfolding entered
+  entered-number mark cs count =
+      picks Holds (eqb (length cs) 0) _ _ accepted
+      (picks-by Holds (ltb (length (s .journal) - s .used) (entrySize (length cs))) _ _
+      (λ less. full (omega (arith, count, ltb-true (length (s .journal) - s .used) (entrySize (length cs)) less))) (λ enough. accepted))
 
-  or-spared : (a b : Answer) → Spared a → Spared b → Spared (orElse a b)
-  or-spared (Done m) b p q = q
-  or-spared (Refused why) b p q = p
+  plan-number : Holds (carried s (gapPlan start len passes room (s .samples)))
+  unfolding carried
+  plan-number =
+      plan-holds (λ (p : Plan). Holds (carried s p)) start len passes room (s .samples) wrong short (λ i. read)
+      (λ mark ws m count inside. unless (ranged (span start ws)) _ (ranged-number (span start ws))
+      (entered-number mark (span start ws) (length-span start ws ∙ count)))
 
-  read-spared : (samples : List ℕ) (start len : ℕ) → Spared (allReadable samples start len)
-  unfolding allReadable
-  read-spared samples start len =
-      let before = readable-spared (from start len) (knownBefore samples start len) in
-      let behind = readable-spared (start + len) (knownBehind samples start len) in
-      or-spared (readable (from start len) (knownBefore samples start len)) (readable (start + len) (knownBehind samples start len)) before behind
+  gap-number : Holds (gapRepair start len passes room s)
+  unfolding gapRepair called performed
+  gap-number = unless (fitting s) _ unfit plan-number
 
-  -- a plan that does not refuse so, and names m samples at most
-  abbrev Light : ℕ → Plan → Type 0
-  Light m (refuse why) = Spared (Refused why)
-  Light m (change mark cs) = length cs ≤ m
+-- refusals 1 to 3 have these numbers
+fitting-number : (P : ℕ → Type 0) (s : State) → P 0 → P 1 → P 2 → P 3 → P (number (fitting s))
+unfolding fitting
+fitting-number P s p0 p1 p2 p3 =
+    let Q : Answer → Type 0 = λ a. P (number a) in
+    picks Q (differ s) _ _ p1 (picks Q (tooMany s) _ _ p2 (picks Q (overUsed s) _ _ p3 p0))
 
-  unless-light : (m : ℕ) (a : Answer) (p : Plan) → Spared a → Light m p → Light m (unlessRead a p)
-  unless-light m (Done j) p h l = l
-  unless-light m (Refused why) p h l = h
+-- a gap within the samples is not turned away by 5
+not-wrong : (n start len : ℕ) → 1 ≤ len → start + len < n → gapWrong n start len ≡ false
+not-wrong n start len some inside =
+    rw (ne-eqb len 0 (λ (e : len ≡ 0). absurd (omega arith)), lt-leb n start (omega arith), le-ltb (n - start) len (omega arith)) refl
 
-  repaired-light : (passes : ℕ) (samples : List ℕ) (start len : ℕ) → Light len (repaired passes samples start len)
-  unfolding repaired
-  repaired-light passes samples start len =
-      picks (Light len) (byLine len) _ _
-      (omega (arith, length-span start (line samples start len), length-line samples start len))
-      (omega (arith, length-span start (model passes samples start len), model-within passes samples start len))
+-- ---- What it leaves
 
-  gap-light : (start len passes room : ℕ) (samples : List ℕ)
-      → (k ≡ 6 → needed (length samples) start len ≤ room) → Light len (gapPlan start len passes room samples)
-  unfolding gapPlan
-  gap-light start len passes room samples enough =
-      picks (Light len) (gapWrong (length samples) start len) _ _ (other 5 (λ e. omega arith) (λ e. omega arith))
-      (picks-by (Light len) (ltb room (needed (length samples) start len)) _ _
-      (λ short e. absurd (omega (arith, ltb-true room (needed (length samples) start len) short, enough (sym e))))
-      (λ h. unless-light len (allReadable samples start len) _ (read-spared samples start len) (repaired-light passes samples start len)))
+-- so many samples, marks and journal words as there were, with no more than one entry used
+record Left (s : State) (len : ℕ) (t : State) : Type 0 where
+  samples : length (t .samples) ≡ length (s .samples)
+  journal : length (t .journal) ≡ length (s .journal)
+  grown : t .used ≤ s .used + entrySize len
+  fits : Fits s → Fits t
 
-  -- how such a repair ends: not so, with no more than its entry used, and the journal as long as it was
-  module _ (s : State) (m : ℕ) (roomy : k ≡ 9 → s .used + entrySize m ≤ length (s .journal)) where
-    pub record Ends (e : Ended) : Type 0 where
-      pub spared : Spared (e .answer)
-      pub grown : e .after .used ≤ s .used + entrySize m
-      pub count : length (e .after .journal) ≡ length (s .journal)
+left-as-it-was : (s : State) (len : ℕ) → Left s len s
+left-as-it-was s len = record { samples = refl; journal = refl; grown = omega arith; fits = λ f. f }
 
-    stays : (a : Answer) → Spared a → Ends (record { answer = a; after = s })
-    stays a h = record { spared = h; grown = omega arith; count = refl }
+left-committed : (s : State) (len mark : ℕ) (cs : List Placed) → length cs ≡ len → Enters s mark cs → Left s len (committed s mark cs)
+unfolding committed
+left-committed s len mark cs count e =
+    let samples = length-put cs (s .samples) in
+    let marks = length-put (each mark (places cs)) (s .marks) in
+    let journal = length-sets (s .journal) (s .used) (entry s mark (places cs)) in
+    record {
+      samples = samples;
+      journal = journal;
+      grown = omega (arith, count);
+      fits = λ f. record {
+        counts = marks ∙ f .counts ∙ sym samples;
+        few = rw samples (f .few);
+        within = rw journal (e .room);
+      };
+    }
 
-    unless : (a : Answer) (e : Ended) → Spared a → Ends e → Ends (unlessRefused a s e)
-    unless (Done j) e h ends = ends
-    unless (Refused why) e h ends = stays (Refused why) h
+-- a plan names as many samples as the gap has
+abbrev Names : ℕ → Plan → Type 0
+Names len (refuse why) = Unit {0}
+Names len (change mark cs) = length cs ≡ len
 
-    entered-ends : (mark : ℕ) (cs : List Placed) → length cs ≤ m → Ends (entered s mark cs)
-    unfolding entered committed
-    entered-ends mark cs few =
-        picks Ends (eqb (length cs) 0) _ _ (stays (Done 0) (other 0 (λ e. omega arith) (λ e. omega arith)))
-        (picks-by Ends (ltb (length (s .journal) - s .used) (entrySize (length cs))) _ _
-        (λ short. stays (Refused Room) (full short))
-        (λ h. record {
-          spared = other 0 (λ e. omega arith) (λ e. omega arith);
-          grown = omega (arith, few);
-          count = length-sets (s .journal) (s .used) (entry s mark (places cs));
-        }))
+gap-left : (s : State) (start len passes room : ℕ) → Left s len (gapRepair start len passes room s .after)
+unfolding gapRepair called
+gap-left s start len passes room = go (ending s plan (gap-lawful start len passes room (s .samples)))
+  where
+    plan : Plan
+    plan = gapPlan start len passes room (s .samples)
+
+    named : Names len plan
+    named =
+        plan-holds (Names len) start len passes room (s .samples) (λ h. tt) (λ h. tt) (λ i. tt)
+        (λ mark ws m count inside. length-span start ws ∙ count)
+
+    go : Ending s plan → Left s len (performed s plan .after)
+    go (unnamed mark p e) = rw e (left-as-it-was s len)
+    go (turned-away why e) = rw e (left-as-it-was s len)
+    go (enters mark cs p e) =
+        rw (ap (performed s) p ∙ enters-ends e) (left-committed s len mark cs (subst (Names len) p named) e)
+
+-- ---- The runs of a scan
+
+-- runs of n samples, each within the limit and before the end, and each behind a place that no run before it has; the first
+-- behind place i
+abbrev Apart : ℕ → ℕ → ℕ → List Stretch → Type 0
+Apart n most i [] = Unit {0}
+Apart n most i (r ∷ rs) =
+    (i < r .start) × (1 ≤ r .len) × (r .len ≤ most) × (r .start + r .len < n) × Apart n most (r .start + r .len) rs
+
+-- where place i has no dropout, or is the start, a run that is found begins behind it
+found-apart : (samples : List ℕ) (most i start len : ℕ) → Found samples most i start len
+    → (i ≡ 0) ⊎ (dropoutAt samples i ≡ false) → (i < start) × (len ≤ most)
+found-apart samples most i start len f place = (later place, omega (arith, f .long, bounds .1))
+  where
+    tests : (runBegins samples start ≡ true) × (qualifies (length samples) most start (runAt samples start) ≡ true)
+    tests = both-hold (runBegins samples start) (qualifies (length samples) most start (runAt samples start)) (f .here)
+
+    bounds : (2 ≤ runAt samples start) × (runAt samples start ≤ most) × (0 < start) × (start + runAt samples start < length samples)
+    bounds = qualifies-all (length samples) most start (runAt samples start) (tests .1)
+
+    later : (i ≡ 0) ⊎ (dropoutAt samples i ≡ false) → i < start
+    later (inl first) = omega (arith, first, bounds .2)
+    later (inr none) = omega (arith, f .from, apart)
       where
-        full : ltb (length (s .journal) - s .used) (entrySize (length cs)) ≡ true → 9 ≡ k → ⊥
-        full short e =
-            let few-free = ltb-true (length (s .journal) - s .used) (entrySize (length cs)) short in
-            omega (arith, few, few-free, roomy (sym e))
+        apart : i ≡ start → ⊥
+        apart e = true≢false (sym (tests .0) ∙ sym (begins-not (dropoutAt samples) start (ap (dropoutAt samples) (sym e) ∙ none)))
 
-    performed-ends : (p : Plan) → Light m p → Ends (performed s p)
-    unfolding performed carried
-    performed-ends (refuse why) h = unless (fitting s) _ (fitting-spared s) (stays (Refused why) h)
-    performed-ends (change mark cs) h =
-        unless (fitting s) _ (fitting-spared s) (unless (ranged cs) _ (ranged-spared cs) (entered-ends mark cs h))
-
-  gap-ends : (s : State) (start len passes room : ℕ) (roomy : k ≡ 9 → s .used + entrySize len ≤ length (s .journal))
-      → (k ≡ 6 → needed (length (s .samples)) start len ≤ room) → Ends s len roomy (gapRepair start len passes room s)
-  unfolding gapRepair
-  gap-ends s start len passes room roomy enough =
-      performed-ends s len roomy (gapPlan start len passes room (s .samples)) (gap-light start len passes room (s .samples) enough)
-
-  -- the first refusal's number, after one answer more
-  first-spared : (j l : ℕ) → (j ≡ k → ⊥) → (l ≡ k → ⊥) → cond (eqb j 0) l j ≡ k → ⊥
-  first-spared j l hj hl = go (eqb j 0)
-    where
-      go : (b : Bool) → cond b l j ≡ k → ⊥
-      go true = hl
-      go false = hj
-
-  scannable-spared : (rate : ℕ) (ms : Float) (s : State) → Spared (scannable rate ms s)
-  unfolding scannable
-  scannable-spared rate ms s = go (fitting s) (fitting-spared s)
-    where
-      go : (a : Answer) → Spared a → Spared (elim a [ Done m ↦ if allowed rate ms then Done 0 else Refused Setting | Refused why ↦ Refused why ])
-      go (Done m) h =
-          picks Spared (allowed rate ms) _ _ (other 0 (λ e. omega arith) (λ e. omega arith)) (other 4 (λ e. omega arith) (λ e. omega arith))
-      go (Refused why) h = h
-
--- ---- A scan whose journal has three words for each sample
-
--- a run that is found is within the limit, and does not begin at the start
-module _ (samples : List ℕ) (most i start len : ℕ) (f : Found samples most i start len) where
-  tests : (runBegins samples start ≡ true) × (qualifies (length samples) most start (runAt samples start) ≡ true)
-  tests = both-hold (runBegins samples start) (qualifies (length samples) most start (runAt samples start)) (f .here)
-
-  bounds : (2 ≤ runAt samples start) × (runAt samples start ≤ most) × (0 < start) × (start + runAt samples start < length samples)
-  bounds = qualifies-all (length samples) most start (runAt samples start) (tests .1)
-
-  pub found-short : len ≤ most
-  found-short = omega (arith, f .long, bounds .1)
-
-  -- where place i has no dropout, or is the start, it begins behind it
-  pub found-later : (i ≡ 0) ⊎ (dropout (getD samples i 0) ≡ false) → i < start
-  found-later (inl first) = omega (arith, first, bounds .2)
-  found-later (inr none) = omega (arith, f .from, apart)
-    where
-      apart : i ≡ start → ⊥
-      apart e =
-          true≢false (sym (tests .0) ∙ sym (begins-not (dropoutAt samples) start (ap (dropoutAt samples) (sym e) ∙ none)))
-
-record Roomy (i : ℕ) (c : Scan) : Type 0 where
-  spared : c .refused ≡ 9 → ⊥
-  filled : c .after .used ≤ 3 * i
-  long : 3 * length (c .after .samples) ≤ length (c .after .journal)
-  place : (i ≡ 0) ⊎ (dropout (getD (c .after .samples) i 0) ≡ false)
-
-roomy-on : (most i start len : ℕ) (c : Scan) → nextRun (c .after .samples) most i ≡ At start len → Roomy i c
-    → Roomy (start + len) (repairAt c start len)
-roomy-on most i start len c found r =
-    record {
-      spared = first-spared 9 (inr refl) (c .refused) (number (e .answer)) (r .spared) (ends .spared);
-      filled = omega (arith, ends .grown, r .filled, later);
-      long = omega (arith, ends .count, left .count, r .long);
-      place =
-          inr (ap dropout (left .same (start + len) (omega arith)) ∙ found-behind (c .after .samples) most i start len found);
-    }
+runs-apart : (samples : List ℕ) (most k i : ℕ) → length samples ≤ i + k → (i ≡ 0) ⊎ (dropoutAt samples i ≡ false)
+    → Apart (length samples) most i (runsAmong samples most i (length samples - i))
+runs-apart samples most zero i h place =
+    let none : length samples - i ≡ 0 = omega arith in
+    rw none (unfold runsAmong in tt)
+runs-apart samples most (suc k) i h place = go (nextRun samples most i) refl (runs-apart samples most k)
   where
-    s : State
-    s = c .after
+    n : ℕ
+    n = length samples
 
-    room : ℕ
-    room = length (c .work)
+    go : (t : Run) → nextRun samples most i ≡ t
+        → ((j : ℕ) → n ≤ j + k → (j ≡ 0) ⊎ (dropoutAt samples j ≡ false) → Apart n most j (runsAmong samples most j (n - j)))
+        → Apart n most i (runsAmong samples most i (n - i))
+    go Nowhere e later = rw (none-among samples most i (n - i) e) tt
+    go (At start len) e later =
+        let f = found-run samples most i start len e in
+        let first = found-apart samples most i start len f place in
+        let rest = later (start + len) (omega (arith, f .from, f .two)) (inr (found-behind samples most i start len e)) in
+        rw (runs-behind samples most i start len e) (first .0, omega (arith, f .two), first .1, f .inside, rest)
 
-    e : Ended
-    e = gapRepair start len 3 room s
+-- the repair of a run behind place i has an answer of which P holds, where I holds of the place and the recording, and leaves them so
+abbrev Step : (ℕ → Type 0) → (ℕ → State → Type 0) → ℕ → ℕ → ℕ → Type 0
+Step P I n most room =
+    (i start len : ℕ) (s : State) → I i s → i < start → 1 ≤ len → len ≤ most → start + len < n
+    → let e = gapRepair start len sourcePasses room s in P (number (e .answer)) × I (start + len) (e .after)
 
-    f : Found (s .samples) most i start len
-    f = found-run (s .samples) most i start len found
+-- so P holds of all answers
+each-number : (P : ℕ → Type 0) (I : ℕ → State → Type 0) (n most room : ℕ) → Step P I n most room
+    → (rs : List Stretch) (i : ℕ) (s : State) → Apart n most i rs → I i s → EachNumber P (answers (gapCalls room rs) s)
+each-number P I n most room step [] i s h k = unfold answers in tt
+each-number P I n most room step (r ∷ rs) i s h k =
+    let e = gapRepair (r .start) (r .len) sourcePasses room s in
+    let now = step i (r .start) (r .len) s k (h .0) (h .1) (h .2) (h .3) in
+    rw (answers-first room r rs s) (now .0, each-number P I n most room step rs (r .start + r .len) (e .after) (h .4) (now .1))
 
-    later : i < start
-    later = found-later (s .samples) most i start len f (r .place)
+all-numbers : (P : ℕ → Type 0) (I : ℕ → State → Type 0) (most room : ℕ) (s : State) → Step P I (length (s .samples)) most room → I 0 s
+    → EachNumber P (answers (gapCalls room (runsOf (s .samples) most)) s)
+all-numbers P I most room s step begin =
+    let n = length (s .samples) in
+    let apart = runs-apart (s .samples) most n 0 (omega arith) (inl refl) in
+    each-number P I n most room step (runsOf (s .samples) most) 0 s
+    (subst (λ (m : ℕ). Apart n most 0 (runsAmong (s .samples) most 0 m)) (sub-zero n) apart) begin
 
-    left : Behind (start + len) (s .samples) (e .after .samples)
-    left = repair-leaves start len 3 room s
+-- ---- The answers of a scan's runs
 
-    enough : s .used + entrySize len ≤ length (s .journal)
-    enough = omega (arith, r .filled, r .long, later, f .inside)
-
-    ends : Ends 9 (inr refl) s len (λ h. enough) e
-    ends = gap-ends 9 (inr refl) s start len 3 room (λ h. enough) (λ h. absurd (omega (arith, h)))
-
--- ---- A scan whose workspace suffices for every run within the limit
-
-record Worked (most : ℕ) (c : Scan) : Type 0 where
-  spared : c .refused ≡ 6 → ⊥
-  wide : (n start len : ℕ) → len ≤ most → needed n start len ≤ length (c .work)
-
-worked-on : (most i start len : ℕ) (c : Scan) → nextRun (c .after .samples) most i ≡ At start len → Worked most c
-    → Worked most (repairAt c start len)
-worked-on most i start len c found r =
-    record {
-      spared = first-spared 6 (inl refl) (c .refused) (number (e .answer)) (r .spared) (ends .spared);
-      wide = λ n a l h. omega (arith, r .wide n a l h, work-count (needed (length (s .samples)) start len) (e .answer) (c .work));
-    }
+pub three-words-suffice : ThreeWordsSuffice
+three-words-suffice rate ms work s empty long =
+    all-numbers P I (limit ms rate) (length work) s step (refl, omega (arith, empty), long)
   where
-    s : State
-    s = c .after
+    P : ℕ → Type 0
+    P k = k ≡ 9 → ⊥
 
-    room : ℕ
-    room = length (c .work)
+    -- up to place i there are three words for each place
+    I : ℕ → State → Type 0
+    I i t = (length (t .samples) ≡ length (s .samples)) × (t .used ≤ 3 * i) × (3 * length (s .samples) ≤ length (t .journal))
 
-    e : Ended
-    e = gapRepair start len 3 room s
+    other : (k : ℕ) → k < 9 → k ≡ 9 → ⊥
+    other k h e = omega arith
 
-    short : len ≤ most
-    short = found-short (s .samples) most i start len (found-run (s .samples) most i start len found)
+    step : Step P I (length (s .samples)) (limit ms rate) (length work)
+    step i start len t h later some short inside =
+        let left = gap-left t start len sourcePasses (length work) in (
+          gap-number P t start len sourcePasses (length work) (other 0 (omega arith))
+              (fitting-number P t (other 0 (omega arith)) (other 1 (omega arith)) (other 2 (omega arith)) (other 3 (omega arith)))
+              (λ w. other 5 (omega arith)) (λ w. other 6 (omega arith)) (other 7 (omega arith)) (other 8 (omega arith))
+              (λ full e. omega (arith, full, h .1, h .2)),
+          (left .samples ∙ h .0, omega (arith, left .grown, h .1), omega (arith, left .journal, h .2)),
+        )
 
-    ends : Ends 6 (inl refl) s len (λ h. absurd (omega (arith, h))) e
-    ends = gap-ends 6 (inl refl) s start len 3 room (λ h. absurd (omega (arith, h))) (λ h. r .wide (length (s .samples)) start len short)
-
--- ---- The whole scan
-
--- what a property of scans says of the first refusal, kept from run to run, it says at the end
-scan-spared : (k most : ℕ) (P : ℕ → Scan → Type 0) → ((i : ℕ) (c : Scan) → P i c → c .refused ≡ k → ⊥)
-    → ((i start len : ℕ) (c : Scan) → nextRun (c .after .samples) most i ≡ At start len → P i c → P (start + len) (repairAt c start len))
-    → (n i : ℕ) (c : Scan) → P i c → scanFrom most i n c .refused ≡ k → ⊥
-unfolding scanFrom
-scan-spared k most P spared on zero i c p = spared i c p
-scan-spared k most P spared on (suc n) i c p = go (nextRun (c .after .samples) most i) refl (scan-spared k most P spared on n)
+pub wide-suffices : WideSuffices
+wide-suffices rate ms work s wide = all-numbers P I (limit ms rate) (length work) s step refl
   where
-    go : (t : Run) → nextRun (c .after .samples) most i ≡ t
-        → ((j : ℕ) (d : Scan) → P j d → scanFrom most j n d .refused ≡ k → ⊥) → scanFrom most i (suc n) c .refused ≡ k → ⊥
-    go Nowhere h later e = spared i c p (sym (ap (λ (d : Scan). d .refused) (scan-stops most i (suc n) c h)) ∙ e)
-    go (At start len) h later e =
-        later (start + len) (repairAt c start len) (on i start len c h p)
-        (sym (ap (λ (d : Scan). d .refused) (scan-takes most i n start len c h)) ∙ e)
+    P : ℕ → Type 0
+    P k = k ≡ 6 → ⊥
 
--- of a call: refusals 1 to 4, or the scan
-call-spared : (k : ℕ) → (k ≡ 6) ⊎ (k ≡ 9) → (rate : ℕ) (ms : Float) (work : List Float) (s : State)
-    → (scanFrom (limit ms rate) 0 (length (s .samples)) (scan 0 0 0 s work) .refused ≡ k → ⊥)
-    → automatic rate ms work s .refused ≡ k → ⊥
-call-spared k which rate ms work s scanned = go (scannable rate ms s) refl
+    I : ℕ → State → Type 0
+    I i t = length (t .samples) ≡ length (s .samples)
+
+    other : (k : ℕ) → (k < 6) ⊎ (6 < k) → k ≡ 6 → ⊥
+    other k (inl h) e = omega arith
+    other k (inr h) e = omega arith
+
+    step : Step P I (length (s .samples)) (limit ms rate) (length work)
+    step i start len t h later some short inside = (
+      gap-number P t start len sourcePasses (length work) (other 0 (inl (omega arith)))
+          (fitting-number P t (other 0 (inl (omega arith))) (other 1 (inl (omega arith))) (other 2 (inl (omega arith)))
+          (other 3 (inl (omega arith)))) (λ w. other 5 (inl (omega arith)))
+          (λ less e. omega (arith, rw h at less, wide start len short)) (other 7 (inr (omega arith))) (other 8 (inr (omega arith)))
+          (λ full. other 9 (inr (omega arith))),
+      gap-left t start len sourcePasses (length work) .samples ∙ h,
+    )
+
+-- a scan that is not turned away fits
+scannable-fits : (rate : ℕ) (ms : Float) (s : State) → scannable rate ms s ≡ Done 0 → Fits s
+scannable-fits rate ms s h = go (fitting s) refl
   where
-    go : (a : Answer) → scannable rate ms s ≡ a → automatic rate ms work s .refused ≡ k → ⊥
-    go (Done m) h e =
-        scanned (ap (λ (c : Scan). c .refused) (automatic-scanned rate ms work s (Done m) (sym h) m refl (limit ms rate) _ refl refl) ∙ e)
-    go (Refused why) h e =
-        let answered = automatic-refused rate ms work s (Refused why) (sym h) why (reasonNumber why) refl refl in
-        scannable-spared k which rate ms s (ap number h ∙ ap (λ (c : Scan). c .refused) answered ∙ e)
+    go : (a : Answer) → a ≡ fitting s → Fits s
+    go (Done m) e = accepted-fits s m (sym e)
+    go (Refused why) e =
+        let both : Refused why ≡ Done 0 = scannable-unfit rate ms s (Refused why) e why refl ∙ h in
+        let none : _≡_ {A = ℕ} 0 1 = cc in
+        absurd (omega arith)
 
--- three journal words for each sample suffice
-pub journal-suffices : (rate : ℕ) (ms : Float) (work : List Float) (s : State) → s .used ≡ 0
-    → 3 * length (s .samples) ≤ length (s .journal) → automatic rate ms work s .refused ≡ 9 → ⊥
-journal-suffices rate ms work s empty long =
-    call-spared 9 (inr refl) rate ms work s
-    (scan-spared 9 (limit ms rate) Roomy (λ i c r. r .spared) (roomy-on (limit ms rate)) (length (s .samples)) 0 (scan 0 0 0 s work)
-    (record { spared = λ h. omega (arith, h); filled = omega (arith, empty); long = long; place = inl refl }))
+pub own-answers : OwnAnswers
+own-answers rate ms work s h = all-numbers P I (limit ms rate) (length work) s step (refl, scannable-fits rate ms s h)
+  where
+    P : ℕ → Type 0
+    P k = (k ≡ 0) ⊎ ((6 ≤ k) × (k ≤ 9))
 
--- so does a workspace that every run within the limit finds long enough
-pub workspace-suffices : (rate : ℕ) (ms : Float) (work : List Float) (s : State)
-    → ((n start len : ℕ) → len ≤ limit ms rate → needed n start len ≤ length work) → automatic rate ms work s .refused ≡ 6 → ⊥
-workspace-suffices rate ms work s wide =
-    call-spared 6 (inl refl) rate ms work s
-    (scan-spared 6 (limit ms rate) (λ i c. Worked (limit ms rate) c) (λ i c r. r .spared)
-    (λ i start len c h r. worked-on (limit ms rate) i start len c h r) (length (s .samples)) 0 (scan 0 0 0 s work)
-    (record { spared = λ h. omega (arith, h); wide = wide }))
+    I : ℕ → State → Type 0
+    I i t = (length (t .samples) ≡ length (s .samples)) × Fits t
+
+    refusal : (k : ℕ) → 6 ≤ k → k ≤ 9 → P k
+    refusal k a b = inr (a, b)
+
+    step : Step P I (length (s .samples)) (limit ms rate) (length work)
+    step i start len t k later some short inside =
+        let left = gap-left t start len sourcePasses (length work) in
+        let right = not-wrong (length (t .samples)) start len some (rw (k .0) inside) in (
+          gap-number P t start len sourcePasses (length work) (inl refl) (rw (fits-done (k .1)) (inl refl))
+              (λ w. absurd (true≢false (sym w ∙ right))) (λ w. refusal 6 (omega arith) (omega arith)) (refusal 7 (omega arith) (omega arith))
+              (refusal 8 (omega arith) (omega arith)) (λ w. refusal 9 (omega arith) (omega arith)),
+          (left .samples ∙ k .0, left .fits (k .1)),
+        )

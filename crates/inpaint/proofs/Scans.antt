@@ -1,42 +1,45 @@
 -- The scan is a sequence of gap repairs, one for each run that qualified as the call began: a repair changes nothing
 -- behind its run, and there stands a sample that is no dropout. Assumes nothing.
-use mathlib.Core.Path.{_≡_, refl, sym, ap, _∙_}
-use mathlib.Core.Bool.{true, false}
+use mathlib.Core.Path.{_≡_, refl, sym, ap, subst, _∙_}
+use mathlib.Core.Bool.{true, false, cond}
 use mathlib.Core.List.{List, [], _∷_}
 use mathlib.Core.Logic.{inl, inr}
 use Prim.Native.Nat.{ℕ, zero, suc, _+_, _-_, _≤_, _<_}
 use native.Mathlib.Decide.{ℕ-discrete}
 use native.Mathlib.Nat.{sub-zero, zero-add}
 use native.Mathlib.Omega.{arith}
-use lib.ListN.{length, getD, length-map, length-take, replicate}
+use borrow.Author.Tests.{eqb-true}
+use lib.ListN.{length, getD, replicate}
 use lib.Seq.{length-sets}
 use lib.Dec.{ltb, eqb}
 use lib.Ieee.{Float}
 use Rattle.leaves.specs.Arithmetic.{nought}
-use Rattle.recording.specs.Recording.{State, Ended, places, put, span, Plan, refuse, change, unlessRead}
+use Rattle.recording.specs.Answers.{number, reasonNumber}
+use Rattle.recording.specs.Recording.{State, Ended, places, put, span, Plan, refuse, change}
 use Rattle.recording.specs.Recording.{fitting, ranged, entered, committed, carried, performed, unlessRefused}
 use Rattle.recording.specs.Recording.{entrySize, clears, workAfter}
-use Rattle.recording.specs.History.{Lawful, run, did}
+use Rattle.recording.specs.History.{run, did}
+use Rattle.recording.specs.Consequences.{Among}
 use Rattle.recording.specs.declared.Reason.{Reason}
+use Rattle.recording.specs.declared.Reason.the-variants.{Counts, TooMany, Used, Setting, Gap, Workspace, Read}
+use Rattle.recording.specs.declared.Reason.the-variants.{Result, Room, Nothing, Malformed}
 use Rattle.recording.specs.declared.Answer.{Answer}
 use Rattle.recording.specs.declared.Answer.the-variants.{Done, Refused}
 use Rattle.recording.proofs.open.Laws.{EitherWay, truth}
-use Rattle.recording.specs.Consequences.{Among}
+use Rattle.recording.proofs.Picks.{picks}
 use Rattle.recording.proofs.Put.{length-put, put-elsewhere}
 use Rattle.recording.proofs.Runs.{begins-not, begins-same, begins-not-behind, length-same, run-met, run-behind}
-use Rattle.model.specs.Model.{filled}
-use Rattle.inpaint.specs.Gap.{gapWrong, byLine, needed, allReadable, line}
-use Rattle.inpaint.specs.Gap.{model, repaired, gapPlan, gapRepair}
+use Rattle.inpaint.specs.Gap.{needed, gapPlan, gapRepair}
 use Rattle.inpaint.specs.Auto.{limit, dropout, dropoutAt, runBegins, runAt, starts, nextAmong, nextRun}
-use Rattle.inpaint.specs.Auto.{Scan, scan, repairAt, scanFrom, scannable, automatic}
-use Rattle.inpaint.specs.Runs.{Stretch, runsAmong, gapCalls, ScanIsItsRuns, ScanCountsItsRuns}
+use Rattle.inpaint.specs.Auto.{Scan, scan, sourcePasses, repairAt, scanFrom, scannable, automatic}
+use Rattle.inpaint.specs.Runs.{Stretch, runsAmong, runsOf, gapCalls, answers, acceptances, firstRefusal}
+use Rattle.inpaint.specs.Runs.{ScanIsItsRuns, ScanCountsItsRuns}
+use Rattle.inpaint.specs.Consequences.{ScanLawful, RefusedScan}
 use Rattle.inpaint.specs.declared.Run.{Run}
 use Rattle.inpaint.specs.declared.Run.the-variants.{At, Nowhere}
 use Rattle.inpaint.proofs.auto.Laws.{Found, found-run, scan-stops, scan-takes}
 use Rattle.inpaint.proofs.auto.Laws.{automatic-refused, automatic-scanned}
-use Rattle.inpaint.proofs.line.Laws.{length-line}
-use Rattle.recording.proofs.Picks.{picks}
-use Rattle.inpaint.proofs.Lawful.{gap-lawful}
+use Rattle.inpaint.proofs.Lawful.{plan-holds, gap-lawful}
 
 abbrev stretch : ℕ → ℕ → Stretch
 stretch start len = record { start = start; len = len }
@@ -67,11 +70,6 @@ put-behind end start ws l h =
           (λ (a : Among j (places (span start ws))). absurd (omega (arith, span-places j start ws a)));
     }
 
--- as many words as the gap has samples, or fewer
-pub model-within : (passes : ℕ) (samples : List ℕ) (start len : ℕ) → length (model passes samples start len) ≤ len
-unfolding model filled
-model-within passes samples start len = simp (length-map, length-take) (omega arith)
-
 -- a plan names nothing behind the gap
 abbrev Before : ℕ → List ℕ → Plan → Type 0
 Before end l (refuse why) = Unit {0}
@@ -79,24 +77,9 @@ Before end l (change mark cs) = Behind end l (put cs l)
 
 plan-before : (start len passes room : ℕ) (samples : List ℕ)
     → Before (start + len) samples (gapPlan start len passes room samples)
-unfolding gapPlan repaired
 plan-before start len passes room samples =
-    picks P (gapWrong (length samples) start len) _ _ tt
-    (picks P (ltb room (needed (length samples) start len)) _ _ tt (read (allReadable samples start len)))
-  where
-    P : Plan → Type 0
-    P = Before (start + len) samples
-
-    words : P (repaired passes samples start len)
-    words =
-        picks P (byLine len) _ _
-        (put-behind (start + len) start (line samples start len) samples (omega (arith, length-line samples start len)))
-        (put-behind (start + len) start (model passes samples start len) samples
-        (omega (arith, model-within passes samples start len)))
-
-    read : (a : Answer) → P (unlessRead a (repaired passes samples start len))
-    read (Done m) = words
-    read (Refused why) = tt
+    plan-holds (Before (start + len) samples) start len passes room samples (λ h. tt) (λ h. tt) (λ i. tt)
+    (λ mark ws m count inside. put-behind (start + len) start ws samples (omega (arith, count)))
 
 -- so the call leaves what stands there
 module _ (end : ℕ) (s : State) where
@@ -160,7 +143,7 @@ runs-skip samples most (suc k) i n m e none =
     ∙ ap (λ (j : ℕ). runsAmong samples most j m) (omega arith)
 
 -- where it answers with nothing, there are none
-none-among : (samples : List ℕ) (most i n : ℕ) → nextAmong samples most i n ≡ Nowhere → runsAmong samples most i n ≡ []
+pub none-among : (samples : List ℕ) (most i n : ℕ) → nextAmong samples most i n ≡ Nowhere → runsAmong samples most i n ≡ []
 unfolding nextAmong runsAmong
 none-among samples most i zero h = refl
 none-among samples most i (suc n) h =
@@ -179,7 +162,7 @@ none-among samples most i (suc n) h =
         runs-pass samples most i n t ∙ later (sym step ∙ h)
 
 -- what is found is the first of them, and the others begin behind its end: within it, and at its end, none begins
-runs-behind : (samples : List ℕ) (most i start len : ℕ) → nextRun samples most i ≡ At start len
+pub runs-behind : (samples : List ℕ) (most i start len : ℕ) → nextRun samples most i ≡ At start len
     → runsAmong samples most i (length samples - i)
     ≡ stretch start len ∷ runsAmong samples most (start + len) (length samples - (start + len))
 runs-behind samples most i start len h =
@@ -257,88 +240,46 @@ behind-same samples t most end n b none = runs-same samples t most end n (b .cou
           | no f ↦ begins-same (dropoutAt samples) (dropoutAt t) j (ap dropout (b .same j h)) (ap dropout (b .same (j - 1) (omega arith)))
         ]
 
--- ---- The scan
+-- ---- The scan is made over its runs
 
--- a scan from place i on, with at most k runs to come, ends as the calls for its runs end, and counts them
+-- the repair of these runs, one after the other
+abbrev over : List Stretch → Scan → Scan
+over [] c = c
+over (r ∷ rs) c = over rs (repairAt c (r .start) (r .len))
+
+-- a scan from place i on, with at most k runs to come, repairs the runs from there on
 abbrev Ends : ℕ → ℕ → ℕ → Scan → Type 0
-Ends most i k c =
-    let rs = runsAmong (c .after .samples) most i (length (c .after .samples) - i) in
-    (scanFrom most i k c .after ≡ run (gapCalls (length (c .work)) rs) (c .after))
-    × (scanFrom most i k c .qualified ≡ c .qualified + length rs)
+Ends most i k c = scanFrom most i k c ≡ over (runsAmong (c .after .samples) most i (length (c .after .samples) - i)) c
 
 -- no run is left
 ends-none : (most i k : ℕ) (c : Scan) → scanFrom most i k c ≡ c
     → runsAmong (c .after .samples) most i (length (c .after .samples) - i) ≡ [] → Ends most i k c
-unfolding run
-ends-none most i k c stops none = (
-  ap (λ (d : Scan). d .after) stops
-      ∙ ap (λ (rs : List Stretch). run (gapCalls (length (c .work)) rs) (c .after)) (sym none),
-  ap (λ (d : Scan). d .qualified) stops
-      ∙ omega arith
-      ∙ ap (λ (rs : List Stretch). c .qualified + length rs) (sym none),
-)
-
--- the first of the calls is the repair of its run
-run-first : (start len room : ℕ) (rs : List Stretch) (s : State)
-    → run (gapCalls room rs) (gapRepair start len 3 room s .after) ≡ run (gapCalls room (stretch start len ∷ rs)) s
-unfolding run did gapRepair
-run-first start len room rs s = refl
+ends-none most i k c stops none = stops ∙ ap (λ (rs : List Stretch). over rs c) (sym none)
 
 -- a run is left
 ends-more : (most i k : ℕ) (c : Scan) (start len : ℕ) → nextRun (c .after .samples) most i ≡ At start len
     → Ends most (start + len) k (repairAt c start len) → Ends most i (suc k) c
-ends-more most i k c start len h rest = (
-  ap (λ (e : Scan). e .after) step
-      ∙ rest .0
-      ∙ ap (λ (m : ℕ). run (gapCalls m rs') (d .after)) room'
-      ∙ ap (λ (l : List Stretch). run (gapCalls room l) (d .after)) same
-      ∙ run-first start len room rs (c .after)
-      ∙ ap (λ (l : List Stretch). run (gapCalls room l) (c .after)) (sym all),
-  ap (λ (e : Scan). e .qualified) step
-      ∙ rest .1
-      ∙ counted
-      ∙ ap (λ (l : List Stretch). c .qualified + length l) (sym all),
-)
+ends-more most i k c start len h rest =
+    scan-takes most i k start len c h
+    ∙ rest
+    ∙ ap (λ (rs : List Stretch). over rs d) same
+    ∙ ap (λ (rs : List Stretch). over rs c) (sym (runs-behind before most i start len h))
   where
-    d : Scan
-    d = repairAt c start len
-
-    room : ℕ
-    room = length (c .work)
-
-    room' : length (d .work) ≡ room
-    room' =
-        let size = needed (length (c .after .samples)) start len in
-        work-count size (gapRepair start len 3 room (c .after) .answer) (c .work)
-
     before : List ℕ
     before = c .after .samples
 
-    rs : List Stretch
-    rs = runsAmong before most (start + len) (length before - (start + len))
-
-    rs' : List Stretch
-    rs' = runsAmong (d .after .samples) most (start + len) (length (d .after .samples) - (start + len))
-
-    step : scanFrom most i (suc k) c ≡ scanFrom most (start + len) k d
-    step = scan-takes most i k start len c h
-
-    all : runsAmong before most i (length before - i) ≡ stretch start len ∷ rs
-    all = runs-behind before most i start len h
+    d : Scan
+    d = repairAt c start len
 
     left : Behind (start + len) before (d .after .samples)
-    left = repair-leaves start len 3 room (c .after)
+    left = repair-leaves start len sourcePasses (length (c .work)) (c .after)
 
-    same : rs' ≡ rs
+    same : runsAmong (d .after .samples) most (start + len) (length (d .after .samples) - (start + len))
+        ≡ runsAmong before most (start + len) (length before - (start + len))
     same =
         ap (λ (m : ℕ). runsAmong (d .after .samples) most (start + len) (m - (start + len))) (left .count)
         ∙ behind-same before (d .after .samples) most (start + len) (length before - (start + len)) left
         (found-behind before most i start len h)
-
-    counted : c .qualified + 1 + length rs' ≡ c .qualified + length (stretch start len ∷ rs)
-    counted =
-        let n : length rs' ≡ length rs = ap length same in
-        omega arith
 
 -- whatever is left, if there are no more places from i on than runs may come
 ends : (most k i : ℕ) (c : Scan) → length (c .after .samples) ≤ i + k → Ends most i k c
@@ -355,42 +296,127 @@ ends most (suc k) i c h = go (nextRun (c .after .samples) most i) refl (ends mos
         (none-among (c .after .samples) most i (length (c .after .samples) - i) e)
     go (At start len) e later =
         let f = found-run (c .after .samples) most i start len e in
-        let left = repair-leaves start len 3 (length (c .work)) (c .after) in
+        let left = repair-leaves start len sourcePasses (length (c .work)) (c .after) in
         ends-more most i k c start len e
         (later (start + len) (repairAt c start len) (omega (arith, left .count, f .from, f .two)))
 
 -- the scan of a whole call
-pub whole : (rate : ℕ) (ms : Float) (work : List Float) (s : State) → scannable rate ms s ≡ Done 0
-    → scanFrom (limit ms rate) 0 (length (s .samples)) (scan 0 0 0 s work) ≡ automatic rate ms work s
-whole rate ms work s h = automatic-scanned rate ms work s (Done 0) (sym h) 0 refl (limit ms rate) _ refl refl
+whole : (rate : ℕ) (ms : Float) (work : List Float) (s : State) → scannable rate ms s ≡ Done 0
+    → automatic rate ms work s ≡ over (runsOf (s .samples) (limit ms rate)) (scan 0 0 0 s work)
+whole rate ms work s h =
+    let most = limit ms rate in
+    let c = scan 0 0 0 s work in
+    sym (automatic-scanned rate ms work s (Done 0) (sym h) 0 refl most _ refl refl)
+    ∙ ends most (length (s .samples)) 0 c (omega arith)
+    ∙ ap (λ (n : ℕ). over (runsAmong (s .samples) most 0 n) c) (sub-zero (length (s .samples)))
 
-all-runs : (most : ℕ) (work : List Float) (s : State) → Ends most 0 (length (s .samples)) (scan 0 0 0 s work)
-all-runs most work s = ends most (length (s .samples)) 0 (scan 0 0 0 s work) (omega arith)
+-- ---- What it leaves and returns
+
+-- a reason has a number that is not 0
+numbered : (why : Reason) → eqb (reasonNumber why) 0 ≡ false
+numbered why = elim why [
+  | Counts ↦ refl
+  | TooMany ↦ refl
+  | Used ↦ refl
+  | Setting ↦ refl
+  | Gap ↦ refl
+  | Workspace ↦ refl
+  | Read place ↦ refl
+  | Result place ↦ refl
+  | Room ↦ refl
+  | Nothing ↦ refl
+  | Malformed ↦ refl
+]
+
+-- so an answer is counted, and its number is the first, as the scan does it
+accepts : (a : Answer) (later : List Answer) → acceptances (a ∷ later) ≡ cond (eqb (number a) 0) 1 0 + acceptances later
+accepts (Done m) later = omega arith
+accepts (Refused why) later = rw (numbered why) (omega arith)
+
+refuses : (a : Answer) (later : List Answer) → firstRefusal (a ∷ later) ≡ cond (eqb (number a) 0) (firstRefusal later) (number a)
+refuses (Done m) later = refl
+refuses (Refused why) later = rw (numbered why) refl
+
+-- the first number that is not 0, with one number more before the others
+first-of : (k j later : ℕ)
+    → cond (eqb (cond (eqb k 0) j k) 0) later (cond (eqb k 0) j k) ≡ cond (eqb k 0) (cond (eqb j 0) later j) k
+first-of k j later = elim (truth (eqb k 0)) [ inl t ↦ rw t refl | inr t ↦ rw (t, t) refl ]
+
+module _ (room : ℕ) (r : Stretch) (rs : List Stretch) (s : State) where
+  -- the first of the calls is the repair of its run
+  run-first : run (gapCalls room rs) (gapRepair (r .start) (r .len) sourcePasses room s .after) ≡ run (gapCalls room (r ∷ rs)) s
+  unfolding run did gapRepair
+  run-first = refl
+
+  pub answers-first : let e = gapRepair (r .start) (r .len) sourcePasses room s in
+      answers (gapCalls room (r ∷ rs)) s ≡ e .answer ∷ answers (gapCalls room rs) (e .after)
+  unfolding answers did gapRepair
+  answers-first = refl
+
+-- what the repair of these runs leaves and counts, by the calls with so much workspace and their answers
+record Told (room : ℕ) (rs : List Stretch) (c : Scan) : Type 0 where
+  after : over rs c .after ≡ run (gapCalls room rs) (c .after)
+  qualified : over rs c .qualified ≡ c .qualified + length rs
+  repaired : over rs c .repaired ≡ c .repaired + acceptances (answers (gapCalls room rs) (c .after))
+  refused : over rs c .refused ≡ cond (eqb (c .refused) 0) (firstRefusal (answers (gapCalls room rs) (c .after))) (c .refused)
+
+told : (rs : List Stretch) (c : Scan) → Told (length (c .work)) rs c
+unfolding run answers
+told [] c =
+    record {
+      after = refl;
+      qualified = omega arith;
+      repaired = omega arith;
+      refused = elim (truth (eqb (c .refused) 0)) [ inl t ↦ rw t (eqb-true (c .refused) 0 t) | inr t ↦ rw t refl ];
+    }
+told (r ∷ rs) c = go (told rs d)
+  where
+    room : ℕ
+    room = length (c .work)
+
+    e : Ended
+    e = gapRepair (r .start) (r .len) sourcePasses room (c .after)
+
+    d : Scan
+    d = repairAt c (r .start) (r .len)
+
+    later : List Answer
+    later = answers (gapCalls room rs) (e .after)
+
+    all : answers (gapCalls room (r ∷ rs)) (c .after) ≡ e .answer ∷ later
+    all = answers-first room r rs (c .after)
+
+    go : Told (length (d .work)) rs d → Told room (r ∷ rs) c
+    go rest =
+        let size = needed (length (c .after .samples)) (r .start) (r .len) in
+        let t = subst (λ (m : ℕ). Told m rs d) (work-count size (e .answer) (c .work)) rest in
+        record {
+          after = t .after ∙ run-first room r rs (c .after);
+          qualified = omega (arith, t .qualified);
+          repaired = omega (arith, t .repaired, ap acceptances all, accepts (e .answer) later);
+          refused =
+              t .refused
+              ∙ first-of (c .refused) (number (e .answer)) (firstRefusal later)
+              ∙ ap (λ (k : ℕ). cond (eqb (c .refused) 0) k (c .refused)) (sym (ap firstRefusal all ∙ refuses (e .answer) later));
+        }
 
 pub scan-is-its-runs : ScanIsItsRuns
 scan-is-its-runs rate ms work s h =
-    let most = limit ms rate in
-    ap (λ (c : Scan). c .after) (sym (whole rate ms work s h))
-    ∙ all-runs most work s .0
-    ∙ ap (λ (n : ℕ). run (gapCalls (length work) (runsAmong (s .samples) most 0 n)) s) (sub-zero (length (s .samples)))
+    ap (λ (c : Scan). c .after) (whole rate ms work s h) ∙ told (runsOf (s .samples) (limit ms rate)) (scan 0 0 0 s work) .after
 
 pub scan-counts-its-runs : ScanCountsItsRuns
 scan-counts-its-runs rate ms work s h =
-    let most = limit ms rate in
-    ap (λ (c : Scan). c .qualified) (sym (whole rate ms work s h))
-    ∙ all-runs most work s .1
-    ∙ zero-add (length (runsAmong (s .samples) most 0 (length (s .samples) - 0)))
-    ∙ ap (λ (n : ℕ). length (runsAmong (s .samples) most 0 n)) (sub-zero (length (s .samples)))
+    let all = whole rate ms work s h in
+    let t = told (runsOf (s .samples) (limit ms rate)) (scan 0 0 0 s work) in (
+      ap (λ (c : Scan). c .qualified) all ∙ t .qualified ∙ zero-add _,
+      ap (λ (c : Scan). c .repaired) all ∙ t .repaired ∙ zero-add _,
+      ap (λ (c : Scan). c .refused) all ∙ t .refused,
+    )
 
--- where refusals 1 to 4 turn it away, the scan leaves the recording
-pub refused-scan : (rate : ℕ) (ms : Float) (work : List Float) (s : State) (why : Reason)
-    → scannable rate ms s ≡ Refused why → automatic rate ms work s .after ≡ s
+pub refused-scan : RefusedScan
 refused-scan rate ms work s why h =
     sym (ap (λ (c : Scan). c .after) (automatic-refused rate ms work s (Refused why) (sym h) why _ refl refl))
 
--- ---- The calls are lawful
-
--- so are all the calls of a scan
-pub scan-lawful : (room : ℕ) (rs : List Stretch) → Lawful (gapCalls room rs)
+pub scan-lawful : ScanLawful
 scan-lawful room [] = tt
-scan-lawful room (r ∷ rs) = (gap-lawful (r .start) (r .len) 3 room, scan-lawful room rs)
+scan-lawful room (r ∷ rs) = (gap-lawful (r .start) (r .len) sourcePasses room, scan-lawful room rs)

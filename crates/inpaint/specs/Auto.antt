@@ -85,10 +85,14 @@ pub record Scan : Type 0 where
 abbrev pub scan : ℕ → ℕ → ℕ → State → List Float → Scan
 scan q r k s w = record { qualified = q; repaired = r; refused = k; after = s; work = w }
 
+-- the source asks for three passes at each run; every count gives the same (`EveryCount` of Consequences.antt)
+abbrev pub sourcePasses : ℕ
+sourcePasses = 3
+
 -- "Each run is one gap repair with its own answer from 6 to 9": one run more, and of its refusal the number, if it is the first
 abbrev pub repairAt : Scan → ℕ → ℕ → Scan
 repairAt c start len =
-    let e = gapRepair start len 3 (length (c .work)) (c .after) in
+    let e = gapRepair start len sourcePasses (length (c .work)) (c .after) in
     let k = number (e .answer) in
     scan (c .qualified + 1) (c .repaired + cond (eqb k 0) 1 0) (cond (eqb (c .refused) 0) k (c .refused)) (e .after)
     (workAfter nought (needed (length (c .after .samples)) start len) (e .answer) (c .work))

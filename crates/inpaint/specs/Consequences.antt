@@ -1,11 +1,23 @@
--- What follows from the rules of a gap and of the scan, each proved in proofs/. Statements only.
-use Prim.Native.Nat.{ℕ}
+-- What follows from the rules of a gap and of the scan. Statements only, each proved in proofs/ under the same name, written small:
+-- those of a gap in Plans.antt and Lawful.antt, those of a scan in Scans.antt and Rooms.antt.
+use Prim.Native.Nat.{ℕ, _*_, _≤_}
 use mathlib.Core.Path.{_≡_}
-use mathlib.Core.List.{List}
+use mathlib.Core.Logic.{_⊎_}
+use mathlib.Core.List.{List, [], _∷_}
 use lib.ListN.{length}
 use lib.Seq.{sets}
-use Rattle.recording.specs.History.{LawfulRepair}
-use Rattle.inpaint.specs.Gap.{gapPlan}
+use lib.Ieee.{Float}
+use Rattle.recording.specs.Answers.{number}
+use Rattle.recording.specs.Recording.{State}
+use Rattle.recording.specs.History.{LawfulRepair, Lawful}
+use Rattle.recording.specs.declared.Reason.{Reason}
+use Rattle.recording.specs.declared.Answer.{Answer}
+use Rattle.recording.specs.declared.Answer.the-variants.{Refused}
+use Rattle.inpaint.specs.Gap.{needed, gapPlan}
+use Rattle.inpaint.specs.Auto.{limit, scannable, automatic}
+use Rattle.inpaint.specs.Runs.{Stretch, gapCalls, runAnswers, OfEveryScan}
+
+-- ---- Of a gap
 
 -- "Prove that every count gives the answer of one pass."
 abbrev pub EveryCount : Type 0
@@ -18,5 +30,43 @@ GapHasNoSay =
     → gapPlan start len passes room (sets samples start words) ≡ gapPlan start len passes room samples
 
 -- demand 3 covers the repair of a gap
-abbrev pub GapIsLawful : Type 0
-GapIsLawful = (start len passes room : ℕ) → LawfulRepair (gapPlan start len passes room)
+abbrev pub GapLawful : Type 0
+GapLawful = (start len passes room : ℕ) → LawfulRepair (gapPlan start len passes room)
+
+-- ---- Of a scan
+
+-- demand 3 covers the repair of its runs
+abbrev pub ScanLawful : Type 0
+ScanLawful = (room : ℕ) (runs : List Stretch) → Lawful (gapCalls room runs)
+
+-- a scan that refusals 1 to 4 turn away changes nothing
+abbrev pub RefusedScan : Type 0
+RefusedScan =
+    (rate : ℕ) (ms : Float) (work : List Float) (s : State) (why : Reason) → scannable rate ms s ≡ Refused why
+    → automatic rate ms work s .after ≡ s
+
+-- something holds of the number of each of these answers, which for an acceptance is 0
+abbrev pub EachNumber : (ℕ → Type 0) → List Answer → Type 0
+EachNumber P [] = Unit {0}
+EachNumber P (a ∷ later) = P (number a) × EachNumber P later
+
+-- "Each run is one gap repair with its own answer from 6 to 9": an acceptance, or a refusal from 6 to 9
+abbrev pub OwnAnswers : Type 0
+OwnAnswers = OfEveryScan (λ rate ms work s. EachNumber (λ k. (k ≡ 0) ⊎ ((6 ≤ k) × (k ≤ 9))) (runAnswers rate ms work s))
+
+-- none of these answers has the number k
+abbrev pub NoneHas : ℕ → List Answer → Type 0
+NoneHas k = EachNumber (λ j. j ≡ k → ⊥)
+
+-- where the journal is empty and has three words for each sample, no run is refused for want of room in it
+abbrev pub ThreeWordsSuffice : Type 0
+ThreeWordsSuffice =
+    (rate : ℕ) (ms : Float) (work : List Float) (s : State) → s .used ≡ 0 → 3 * length (s .samples) ≤ length (s .journal)
+    → NoneHas 9 (runAnswers rate ms work s)
+
+-- where the workspace suffices for every gap within the limit, no run is refused for want of workspace
+abbrev pub WideSuffices : Type 0
+WideSuffices =
+    (rate : ℕ) (ms : Float) (work : List Float) (s : State)
+    → ((start len : ℕ) → len ≤ limit ms rate → needed (length (s .samples)) start len ≤ length work)
+    → NoneHas 6 (runAnswers rate ms work s)

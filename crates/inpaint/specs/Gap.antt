@@ -12,7 +12,6 @@ use Rattle.recording.specs.Recording.{State, Ended, Plan, refuse, change, span,
 use Rattle.recording.specs.Recording.{gapByLine, orElse, readable, unlessRead}
 use Rattle.recording.specs.declared.Reason.the-variants.{Gap, Workspace}
 use Rattle.recording.specs.declared.Answer.{Answer}
-use Rattle.recording.specs.declared.Answer.the-variants.{Done, Refused}
 use Rattle.model.specs.Model.{orderFor, filled}
 
 -- 5: "gap length 0, start at or past the end, or gap past the end"

@@ -1,7 +1,7 @@
 -- Which runs the automatic scan takes: those of the recording as the call began, whatever the repair of one run has
--- made of the samples when the next is looked for. So "Each run is one gap repair" makes the scan a sequence of calls.
--- Definitions, and then two statements, which are proved as `scan-is-its-runs` and `scan-counts-its-runs` of
--- proofs/Scans.antt, which nobody has to read.
+-- made of the samples when the next is looked for. So "Each run is one gap repair" makes the scan a sequence of calls, each
+-- with its own answer. Definitions, and then two statements, which are proved as `scan-is-its-runs` and
+-- `scan-counts-its-runs` of proofs/Scans.antt, which nobody has to read.
 use Prim.Native.Nat.{ℕ, zero, suc, _+_}
 use mathlib.Core.Path.{_≡_}
 use mathlib.Core.List.{List, [], _∷_}
@@ -9,10 +9,12 @@ use lib.ListN.{length}
 use lib.Ieee.{Float}
 use Rattle.recording.specs.Recording.{State, if_then_else_}
 use Rattle.recording.specs.Runs.{begins, runLength}
-use Rattle.recording.specs.History.{Call, repair, run}
-use Rattle.recording.specs.declared.Answer.the-variants.{Done}
+use Rattle.recording.specs.Answers.{reasonNumber}
+use Rattle.recording.specs.History.{Call, repair, did, run}
+use Rattle.recording.specs.declared.Answer.{Answer}
+use Rattle.recording.specs.declared.Answer.the-variants.{Done, Refused}
 use Rattle.inpaint.specs.Gap.{gapPlan}
-use Rattle.inpaint.specs.Auto.{limit, dropout, runAt, starts, scannable, automatic}
+use Rattle.inpaint.specs.Auto.{limit, dropout, runAt, starts, sourcePasses, scannable, automatic}
 
 -- a dropout run, by its start and its length
 pub record Stretch : Type 0 where
@@ -33,7 +35,32 @@ runsOf samples most = runsAmong samples most 0 (length samples)
 -- "Each run is one gap repair": the calls, with so many doubles of workspace
 abbrev pub gapCalls : ℕ → List Stretch → List Call
 gapCalls room [] = []
-gapCalls room (r ∷ rs) = repair (gapPlan (r .start) (r .len) 3 room) ∷ gapCalls room rs
+gapCalls room (r ∷ rs) = repair (gapPlan (r .start) (r .len) sourcePasses room) ∷ gapCalls room rs
+
+-- "with its own answer": what calls answer, one after the other
+unfoldable pub answers : List Call → State → List Answer
+unfolding did
+answers [] s = []
+answers (c ∷ cs) s = did c s .answer ∷ answers cs (did c s .after)
+
+-- the calls of a scan, and what each of its runs answers
+abbrev pub scanCalls : ℕ → Float → List Float → State → List Call
+scanCalls rate ms work s = gapCalls (length work) (runsOf (s .samples) (limit ms rate))
+
+abbrev pub runAnswers : ℕ → Float → List Float → State → List Answer
+runAnswers rate ms work s = answers (scanCalls rate ms work s) s
+
+-- how many of these answers are acceptances
+abbrev pub acceptances : List Answer → ℕ
+acceptances [] = 0
+acceptances (Done m ∷ later) = 1 + acceptances later
+acceptances (Refused why ∷ later) = acceptances later
+
+-- "number of the first refusal or 0"
+abbrev pub firstRefusal : List Answer → ℕ
+firstRefusal [] = 0
+firstRefusal (Done m ∷ later) = firstRefusal later
+firstRefusal (Refused why ∷ later) = reasonNumber why
 
 -- something holds of every scan that refusals 1 to 4 do not turn away
 abbrev pub OfEveryScan : (ℕ → Float → List Float → State → Type 0) → Type 0
@@ -42,12 +69,13 @@ OfEveryScan P =
 
 -- the recording after the scan is the recording after these calls
 abbrev pub ScanIsItsRuns : Type 0
-ScanIsItsRuns =
-    OfEveryScan
-    (λ rate ms work s. automatic rate ms work s .after
-    ≡ run (gapCalls (length work) (runsOf (s .samples) (limit ms rate))) s)
+ScanIsItsRuns = OfEveryScan (λ rate ms work s. automatic rate ms work s .after ≡ run (scanCalls rate ms work s) s)
 
--- the scan returns how many they are
+-- "Returned: runs qualified, runs repaired, number of the first refusal or 0."
 abbrev pub ScanCountsItsRuns : Type 0
 ScanCountsItsRuns =
-    OfEveryScan (λ rate ms work s. automatic rate ms work s .qualified ≡ length (runsOf (s .samples) (limit ms rate)))
+    OfEveryScan
+    (λ rate ms work s.
+    (automatic rate ms work s .qualified ≡ length (runsOf (s .samples) (limit ms rate)))
+    × (automatic rate ms work s .repaired ≡ acceptances (runAnswers rate ms work s))
+    × (automatic rate ms work s .refused ≡ firstRefusal (runAnswers rate ms work s)))

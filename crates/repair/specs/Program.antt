@@ -1,24 +1,29 @@
--- The program: document 01's section of that name, whose sentences the comments quote. Definitions only.
+-- The program: document 01's section of that name, whose sentences the comments quote. Definitions, and then two statements, which
+-- are proved in proofs/Suffices.antt under the same names, written small.
 use Prim.Native.Nat.{ℕ, zero, suc, _+_, _*_, _%_, _≤_}
-use mathlib.Core.Path.{_≡_}
 use mathlib.Core.Bool.{Bool, not, _||_}
 use mathlib.Core.List.{List, [], _∷_}
-use lib.ListN.{length, getD}
+use lib.ListN.{length, getD, replicate}
 use lib.Dec.{ltb, eqb}
 use lib.Ieee.{Float}
-use Rattle.leaves.specs.Arithmetic.{one}
+use Rattle.leaves.specs.Arithmetic.{nought, one}
 use Rattle.recording.specs.Recording.{State, opened}
 use Rattle.recording.specs.History.{fresh}
 use Rattle.inpaint.specs.Auto.{Scan, automatic}
+use Rattle.inpaint.specs.Runs.{runAnswers}
+use Rattle.inpaint.specs.Consequences.{NoneHas}
+
+-- ---- The input
+
+-- "little-endian f32 words, at most 4,096"
+abbrev pub mostInput : ℕ
+mostInput = 4096
 
 -- "Input over 4,096 samples or not a multiple of 4 bytes"
-abbrev pub mostBytes : ℕ
-mostBytes = 16384
-
 abbrev pub badLength : ℕ → Bool
-badLength bytes = ltb mostBytes bytes || not (eqb (bytes % 4) 0)
+badLength bytes = ltb (4 * mostInput) bytes || not (eqb (bytes % 4) 0)
 
--- "little-endian f32 words": the word of the four bytes from place i on
+-- the word of the four bytes from place i on
 unfoldable pub wordAt : List ℕ → ℕ → ℕ
 wordAt bytes i = getD bytes i 0 + 256 * getD bytes (i + 1) 0 + 65536 * getD bytes (i + 2) 0 + 16777216 * getD bytes (i + 3) 0
 
@@ -28,10 +33,17 @@ unfolding wordAt
 decoded bytes i zero = []
 decoded bytes i (suc n) = wordAt bytes i ∷ decoded bytes (i + 4) n
 
--- "rate 48,000", "the limit 1 ms", "a journal of 12,288 words"
+-- ---- The repair
+
+-- "rate 48,000"
 abbrev pub rate : ℕ
 rate = 48000
 
+-- "the limit 1 ms"
+abbrev pub limitMs : Float
+limitMs = one
+
+-- "a journal of 12,288 words"
 abbrev pub journalWords : ℕ
 journalWords = 12288
 
@@ -42,16 +54,23 @@ workspace = 4788
 -- "It runs `inpaint_auto` at rate 48,000 with the limit 1 ms (48 samples)", on the recording as opening leaves it
 unfoldable pub repairing : List Float → State → Scan
 unfolding opened automatic
-repairing work s = automatic rate one work (opened s .after)
+repairing work s = automatic rate limitMs work (opened s .after)
 
--- "which always suffices": of a recording of at most 4,096 samples no run is refused for want of room in the journal, and none
--- for want of workspace
+-- what it makes of the words of its input, with marks for as many samples, and with a journal and a workspace of its own
+unfoldable pub repairedInput : List ℕ → List ℕ → Scan
+unfolding decoded repairing
+repairedInput bytes marks = repairing (replicate workspace nought) (fresh (decoded bytes 0 (length marks)) marks journalWords)
+
+-- ---- What suffices
+
+-- "which always suffices": of a recording of at most 4,096 samples no run is refused for want of room in the journal
 abbrev pub JournalSuffices : Type 0
 JournalSuffices =
-    (words marks : List ℕ) (work : List Float) → length words ≤ 4096
-    → automatic rate one work (fresh words marks journalWords) .refused ≡ 9 → ⊥
+    (words marks : List ℕ) (work : List Float) → length words ≤ mostInput
+    → NoneHas 9 (runAnswers rate limitMs work (fresh words marks journalWords))
 
+-- and none of any recording for want of workspace
 abbrev pub WorkspaceSuffices : Type 0
 WorkspaceSuffices =
     (words marks : List ℕ) (room : ℕ) (work : List Float) → workspace ≤ length work
-    → automatic rate one work (fresh words marks room) .refused ≡ 6 → ⊥
+    → NoneHas 6 (runAnswers rate limitMs work (fresh words marks room))
