@@ -12,8 +12,8 @@ use Rattle.recording.specs.Consequences.{AllName, closings, returned}
 use Rattle.recording.specs.declared.Reason.{Reason}
 use Rattle.recording.specs.declared.Answer.the-variants.{Done, Refused}
 use Rattle.inpaint.specs.Gap.{gapPlan}
-use Rattle.inpaint.specs.Auto.{limit, scannable}
-use Rattle.inpaint.specs.Runs.{runsOf, gapCalls}
+use Rattle.inpaint.specs.Auto.{scannable}
+use Rattle.inpaint.specs.Runs.{scanCalls}
 use Rattle.declip.specs.Declip.{declipPlan}
 use Rattle.decrackle.specs.Decrackle.{decracklePlan}
 use Rattle.dequant.specs.Dequant.{dequantizePlan, cosparsePlan}
@@ -32,7 +32,7 @@ RefusalChangesNothing =
     → (ran c s .after ≡ s) ⊎ ((rate : ℕ) × (millis : Float) × (work : List Float) × (c ≡ scan rate millis work))
 
 -- and neither does a scan that is itself refused, with 1 to 4. Where it is not, its number is that of the first of its single repairs that is
--- refused; each of these changes nothing (`RefusalChangesNothing` of the crate `recording`).
+-- refused (`ScanCountsItsRuns` of the crate `inpaint`), each of which changes nothing (`RefusalChangesNothing` of `recording`).
 abbrev pub RefusedScanChangesNothing : Type 0
 RefusedScanChangesNothing =
     (rate : ℕ) (millis : Float) (work : List Float) (s : State) (why : Reason) → scannable rate millis s ≡ Refused why
@@ -46,8 +46,7 @@ RefusedScanChangesNothing =
 -- none where it is itself refused, with 1 to 4.
 abbrev pub scanned : ℕ → Float → List Float → State → List single.Call
 scanned rate millis work s =
-    let runs = gapCalls (length work) (runsOf (s .samples) (limit millis rate)) in
-    elim (scannable rate millis s) [ Done m ↦ runs | Refused why ↦ [] ]
+    elim (scannable rate millis s) [ Done m ↦ scanCalls rate millis work s | Refused why ↦ [] ]
 
 abbrev pub rules : Call → State → List single.Call
 rules (gap start len passes work) s = single.repair (gapPlan start len passes (length work)) ∷ []
