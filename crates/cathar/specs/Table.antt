@@ -1,6 +1,6 @@
 -- "Sums done by hand": the rows marked P, "as a single table under one statement about the rules". Each row has, one below the other,
 -- what the rules give and what it should be, and the statement is `table-holds` at the end. The checker computes it.
-use Prim.Native.Nat.{ℕ, _*_}
+use Prim.Native.Nat.{ℕ}
 use mathlib.Core.Path.{_≡_, refl}
 use mathlib.Core.Bool.{false}
 use mathlib.Core.List.{List, [], _∷_, map}

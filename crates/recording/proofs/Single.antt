@@ -9,7 +9,7 @@ use lib.Dec.{eqb, ltb}
 use Rattle.recording.specs.Answers.{number, reasonNumber}
 use Rattle.recording.specs.Recording.{State, Ended, ended, refused, unlessRefused, Placed, put, committed, Plan, refuse, change}
 use Rattle.recording.specs.Recording.{fitting, ranged, entrySize, entered, carried, performed, called, malformed, undone}
-use Rattle.recording.specs.History.{Repair, Call, repair, undo, did}
+use Rattle.recording.specs.History.{Call, repair, undo, did}
 use Rattle.recording.specs.Consequences.{RefusalChangesNothing, MadeOf, AcceptedAsRuled}
 use Rattle.recording.specs.declared.Reason.{Reason}
 use Rattle.recording.specs.declared.Reason.the-variants.{Counts, TooMany, Used, Setting, Gap, Workspace, Read}

@@ -1,7 +1,7 @@
 -- `model::banded::factor_row` meets its contract. The loop's invariant: c places of the band stand at band and
 -- nothing else changed, and the places that are left of the row give the whole. The measure is how many are left.
 -- Assumes nothing.
-use Prim.Native.Nat.{_+_, _-_, _*_, _≤_}
+use Prim.Native.Nat.{_+_, _*_, _≤_}
 use native.Mathlib.Omega.{arith}
 use mathlib.Core.Path.{_≡_, refl, sym}
 use lib.ListN.{length, length-set}

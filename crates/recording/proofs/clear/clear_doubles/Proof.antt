@@ -1,6 +1,6 @@
 -- `recording::clear::clear_doubles` meets its contract. The loop's invariant: storing +0 at what is left gives the whole.
 -- The measure is how many places are left. Assumes nothing.
-use Prim.Native.Nat.{_+_, _-_, _≤_}
+use Prim.Native.Nat.{_-_, _≤_}
 use native.Mathlib.Omega.{arith}
 use native.Mathlib.Nat.{sub-zero}
 use mathlib.Core.Path.{_≡_, refl}
