@@ -1,5 +1,5 @@
 -- What each run of a scan answers: an acceptance or a refusal from 6 to 9; none by 9 where the journal has three words for each
--- sample, and none by 6 where the workspace suffices for every gap within the limit. Assumes nothing.
+-- sample, and none by 6 where the workspace suffices for every gap within the limit. And how much that is at most. Assumes nothing.
 use mathlib.Core.Path.{_≡_, refl, sym, ap, subst, _∙_}
 use mathlib.Core.Bool.{true, false, true≢false}
 use mathlib.Core.Logic.{_⊎_, inl, inr}
@@ -11,7 +11,7 @@ use lib.ListN.{length}
 use lib.Seq.{length-sets}
 use lib.Dec.{ltb, eqb}
 use lib.Ieee.{Float}
-use borrow.Author.Tests.{ltb-true, ne-eqb, lt-leb, le-ltb}
+use borrow.Author.Tests.{ltb-true, ltb-false}
 use Rattle.leaves.specs.Floats.{inRange}
 use Rattle.recording.specs.Answers.{number}
 use Rattle.recording.specs.Recording.{State, Ended, Placed, each, span, Plan, refuse, change, places, entry, entrySize}
@@ -30,10 +30,11 @@ use Rattle.model.proofs.Passes.{both-hold}
 use Rattle.inpaint.specs.Gap.{gapWrong, needed, gapPlan, gapRepair}
 use Rattle.inpaint.specs.Auto.{limit, dropoutAt, runBegins, runAt, qualifies, nextRun, sourcePasses, scannable}
 use Rattle.inpaint.specs.Runs.{Stretch, runsAmong, runsOf, gapCalls, answers}
-use Rattle.inpaint.specs.Consequences.{EachNumber, OwnAnswers, ThreeWordsSuffice, WideSuffices}
+use Rattle.inpaint.specs.Consequences.{NeededAtMost, EachNumber, OwnAnswers, ThreeWordsSuffice, WideSuffices}
 use Rattle.inpaint.specs.declared.Run.{Run}
 use Rattle.inpaint.specs.declared.Run.the-variants.{At, Nowhere}
 use Rattle.inpaint.proofs.auto.Laws.{Found, qualifies-all, found-run, scannable-unfit}
+use Rattle.inpaint.proofs.window.Laws.{right-gap, context-most, needed-within}
 use Rattle.inpaint.proofs.Lawful.{plan-holds, gap-lawful}
 use Rattle.inpaint.proofs.Scans.{none-among, runs-behind, found-behind, answers-first}
 
@@ -79,11 +80,6 @@ unfolding fitting
 fitting-number P s p0 p1 p2 p3 =
     let Q : Answer → Type 0 = λ a. P (number a) in
     picks Q (differ s) _ _ p1 (picks Q (tooMany s) _ _ p2 (picks Q (overUsed s) _ _ p3 p0))
-
--- a gap within the samples is not turned away by 5
-not-wrong : (n start len : ℕ) → 1 ≤ len → start + len < n → gapWrong n start len ≡ false
-not-wrong n start len some inside =
-    rw (ne-eqb len 0 (λ (e : len ≡ 0). absurd (omega arith)), lt-leb n start (omega arith), le-ltb (n - start) len (omega arith)) refl
 
 -- ---- What it leaves
 
@@ -282,9 +278,15 @@ own-answers rate ms work s h = all-numbers P I (limit ms rate) (length work) s s
     step : Step P I (length (s .samples)) (limit ms rate) (length work)
     step i start len t k later some short inside =
         let left = gap-left t start len sourcePasses (length work) in
-        let right = not-wrong (length (t .samples)) start len some (rw (k .0) inside) in (
+        let right = right-gap (length (t .samples)) start len some (omega (arith, k .0)) in (
           gap-number P t start len sourcePasses (length work) (inl refl) (rw (fits-done (k .1)) (inl refl))
               (λ w. absurd (true≢false (sym w ∙ right))) (λ w. refusal 6 (omega arith) (omega arith)) (refusal 7 (omega arith) (omega arith))
               (refusal 8 (omega arith) (omega arith)) (λ w. refusal 9 (omega arith) (omega arith)),
           (left .samples ∙ k .0, left .fits (k .1)),
         )
+
+-- ---- The workspace of a gap
+
+pub needed-at-most : NeededAtMost
+needed-at-most n start len model =
+    needed-within n start len 2048 8192 128 (ltb-false 2048 len model) (omega arith) (context-most len) (omega arith)

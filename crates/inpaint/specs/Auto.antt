@@ -68,6 +68,7 @@ nextAmong samples most i (suc n) =
     let on = nextAmong samples most (i + 1) n in
     if starts samples most i then At i (runAt samples i) else on
 
+-- among all from place i on
 abbrev pub nextRun : List ℕ → ℕ → ℕ → Run
 nextRun samples most i = nextAmong samples most i (length samples - i)
 

@@ -2,6 +2,7 @@
 -- those of a gap in Plans.antt and Lawful.antt, those of a scan in Scans.antt and Rooms.antt.
 use Prim.Native.Nat.{ℕ, _*_, _≤_}
 use mathlib.Core.Path.{_≡_}
+use mathlib.Core.Bool.{false}
 use mathlib.Core.Logic.{_⊎_}
 use mathlib.Core.List.{List, [], _∷_}
 use lib.ListN.{length}
@@ -13,7 +14,7 @@ use Rattle.recording.specs.History.{LawfulRepair, Lawful}
 use Rattle.recording.specs.declared.Reason.{Reason}
 use Rattle.recording.specs.declared.Answer.{Answer}
 use Rattle.recording.specs.declared.Answer.the-variants.{Refused}
-use Rattle.inpaint.specs.Gap.{needed, gapPlan}
+use Rattle.inpaint.specs.Gap.{byLine, needed, gapPlan}
 use Rattle.inpaint.specs.Auto.{limit, scannable, automatic}
 use Rattle.inpaint.specs.Runs.{Stretch, gapCalls, runAnswers, OfEveryScan}
 
@@ -28,6 +29,10 @@ abbrev pub GapHasNoSay : Type 0
 GapHasNoSay =
     (start len passes room : ℕ) (samples words : List ℕ) → length words ≡ len
     → gapPlan start len passes room (sets samples start words) ≡ gapPlan start len passes room samples
+
+-- "At most 289,284.": the doubles of workspace that a gap by the model needs
+abbrev pub NeededAtMost : Type 0
+NeededAtMost = (n start len : ℕ) → byLine len ≡ false → needed n start len ≤ 289284
 
 -- demand 3 covers the repair of a gap
 abbrev pub GapLawful : Type 0

@@ -16,7 +16,7 @@ use Rattle.model.specs.Model.{orderFor, filled}
 
 -- 5: "gap length 0, start at or past the end, or gap past the end"
 abbrev pub gapWrong : ℕ → ℕ → ℕ → Bool
-gapWrong n start len = eqb len 0 || leb n start || ltb (n - start) len
+gapWrong n start len = eqb len 0 || leb n start || ltb n (start + len)
 
 -- "len above 2048: straight line."
 abbrev pub byLine : ℕ → Bool
@@ -35,6 +35,7 @@ from start len = start - context len
 abbrev pub to : ℕ → ℕ → ℕ → ℕ
 to n start len = min n (start + len + context len)
 
+-- how many samples it has, and their words
 abbrev pub windowSize : ℕ → ℕ → ℕ → ℕ
 windowSize n start len = to n start len - from start len
 
@@ -56,6 +57,7 @@ knownBefore samples start len = take (start - from start len) (drop (from start 
 unfoldable pub knownBehind : List ℕ → ℕ → ℕ → List ℕ
 knownBehind samples start len = take (to (length samples) start len - (start + len)) (drop (start + len) samples)
 
+-- 7: "a sample that the repair reads is not in range", before the gap first, so that the place is the lowest
 unfoldable pub allReadable : List ℕ → ℕ → ℕ → Answer
 unfolding knownBefore knownBehind readable
 allReadable samples start len =
@@ -83,6 +85,7 @@ unfolding lineAt toBits
 lineFrom left right len i zero = []
 lineFrom left right len i (suc n) = toBits binary32 (lineAt left right len i) ∷ lineFrom left right len (i + 1) n
 
+-- the words of the whole line
 unfoldable pub line : List ℕ → ℕ → ℕ → List ℕ
 unfolding leftOf rightOf lineFrom
 line samples start len = lineFrom (leftOf samples start) (rightOf samples (start + len)) len 0 len

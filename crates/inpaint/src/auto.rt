@@ -6,7 +6,7 @@ ghost use lib.ListN.{length};
 ghost use lib.Dec.{eqb};
 ghost use lib.Ieee.{toUnsigned};
 ghost use Rattle.recording.specs.Recording.{state};
-ghost use Rattle.inpaint.specs.Auto.{allowed, limit, dropout, runBegins, qualifies, nextRun, scan, scannable, automatic};
+ghost use Rattle.inpaint.specs.Auto.{allowed, limit, dropout, runBegins, qualifies, nextRun, scan, scanFrom, scannable, automatic};
 use super::Run;
 use super::Scanned;
 use super::gap::inpaint_gap;
@@ -172,8 +172,46 @@ fn first_of(number: u32, later: u32) -> u32
     if number == 0 { later } else { number }
 }
 
-// Finds the dropout runs that qualify, one behind the other, and repairs each as one gap; a refused one
-// does not end the scan.
+// Finds the dropout runs of at most `most` samples that qualify, one behind the other, and repairs each as
+// one gap; a refused one does not end the scan.
+fn repair_runs(
+    samples: &mut [u32],
+    marks: &mut [u8],
+    journal: &mut [u32],
+    used: &mut usize,
+    most: usize,
+    work: &mut [f64],
+) -> Scanned
+    ensures { λ r. ⌜ scan (r .qualified) (r .repaired) (r .refused)
+        (state (now (samples .exit)) (now (marks .exit)) (now (journal .exit)) (now (used .exit))) (now (work .exit))
+        ≡ scanFrom most 0 (length (now (samples .entry))) (scan 0 0 0
+        (state (now (samples .entry)) (now (marks .entry)) (now (journal .entry)) (now (used .entry))) (now (work .entry))) ⌝ }
+{
+    let n = samples.len();
+    let mut qualified: usize = 0;
+    let mut repaired: usize = 0;
+    let mut refused: u32 = 0;
+    let mut at: usize = 0;
+    while at < n {
+        let found = next_run(samples, most, at);
+        let Run::At(start, len) = found else {
+            break;
+        };
+        let answer = inpaint_gap(samples, marks, journal, used, start, len, PASSES, work);
+        let number = number_of(answer);
+        qualified += 1;
+        repaired += accepted(number);
+        refused = first_of(refused, number);
+        at = start + len;
+    }
+    Scanned {
+        qualified,
+        repaired,
+        refused,
+    }
+}
+
+// Repairs the dropouts within the limit, or turns the scan away as a whole and changes nothing.
 pub fn inpaint_auto(
     samples: &mut [u32],
     marks: &mut [u8],
@@ -197,26 +235,5 @@ pub fn inpaint_auto(
         };
     };
     let most = longest_run(millis, rate);
-    let n = samples.len();
-    let mut qualified: usize = 0;
-    let mut repaired: usize = 0;
-    let mut refused: u32 = 0;
-    let mut at: usize = 0;
-    while at < n {
-        let found = next_run(samples, most, at);
-        let Run::At(start, len) = found else {
-            break;
-        };
-        let answer = inpaint_gap(samples, marks, journal, used, start, len, PASSES, work);
-        let number = number_of(answer);
-        qualified += 1;
-        repaired += accepted(number);
-        refused = first_of(refused, number);
-        at = start + len;
-    }
-    Scanned {
-        qualified,
-        repaired,
-        refused,
-    }
+    repair_runs(samples, marks, journal, used, most, work)
 }

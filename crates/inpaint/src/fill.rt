@@ -22,6 +22,9 @@ use recording::Answer;
 use recording::Reason;
 use recording::commit::enter_span;
 
+// The mark of a sample that the model filled.
+const GAP_BY_MODEL: u8 = 1;
+
 // Writes the floats of words, widened, at the front of the workspace.
 fn widen_words(words: &[u32], work: &mut [f64])
     requires { ⌜ length (now words) ≤ length (now work) ⌝ }
@@ -99,7 +102,7 @@ pub fn repair_by_model(
     let Answer::Done(_) = checked else {
         return checked;
     };
-    let entered = enter_span(samples, marks, journal, used, start, len, 1);
+    let entered = enter_span(samples, marks, journal, used, start, len, GAP_BY_MODEL);
     let Answer::Done(_) = entered else {
         return entered;
     };

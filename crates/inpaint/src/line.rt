@@ -15,6 +15,9 @@ use recording::Answer;
 use recording::Reason;
 use recording::commit::enter_span;
 
+// The mark of a sample that a straight line filled.
+const GAP_BY_LINE: u8 = 2;
+
 // The sample before place `start`, or 0 where there is none.
 fn left_of(samples: &[u32], start: usize) -> f32
     requires { ⌜ start ≤ length (now samples) ⌝ }
@@ -96,7 +99,7 @@ pub fn repair_by_line(
     let Answer::Done(_) = checked else {
         return checked;
     };
-    let entered = enter_span(samples, marks, journal, used, start, len, 2);
+    let entered = enter_span(samples, marks, journal, used, start, len, GAP_BY_LINE);
     let Answer::Done(_) = entered else {
         return entered;
     };

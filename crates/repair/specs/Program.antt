@@ -56,10 +56,26 @@ unfoldable pub repairing : List Float → State → Scan
 unfolding opened automatic
 repairing work s = automatic rate limitMs work (opened s .after)
 
--- what it makes of the words of its input, with marks for as many samples, and with a journal and a workspace of its own
-unfoldable pub repairedInput : List ℕ → List ℕ → Scan
+-- what there is to report after a scan: "qualified", "repaired", "refused", and "place, mark, word" of each sample
+pub record Report : Type 0 where
+  pub qualified : ℕ
+  pub repaired : ℕ
+  pub refused : ℕ
+  pub samples : List ℕ
+  pub marks : List ℕ
+
+abbrev pub report : ℕ → ℕ → ℕ → List ℕ → List ℕ → Report
+report q r k s m = record { qualified = q; repaired = r; refused = k; samples = s; marks = m }
+
+abbrev pub reportOf : Scan → Report
+reportOf c = report (c .qualified) (c .repaired) (c .refused) (c .after .samples) (c .after .marks)
+
+-- the report of an input, with lent marks for its samples, an empty journal and an empty workspace of the program's own
+unfoldable pub reported : List ℕ → List ℕ → Report
 unfolding decoded repairing
-repairedInput bytes marks = repairing (replicate workspace nought) (fresh (decoded bytes 0 (length marks)) marks journalWords)
+reported bytes marks =
+    let words = decoded bytes 0 (length marks) in
+    reportOf (repairing (replicate workspace nought) (fresh words marks journalWords))
 
 -- ---- What suffices
 

@@ -4,10 +4,10 @@ use mathlib.Core.Path.{_≡_, refl, sym, _∙_}
 use mathlib.Core.Bool.{Bool, true, false, _||_, true≢false}
 use mathlib.Core.List.{List}
 use mathlib.Core.Logic.{inl, inr}
-use Prim.Native.Nat.{ℕ, _+_, _-_, _*_, _≤_, _<_}
+use Prim.Native.Nat.{ℕ, _+_, _-_, _*_, _≤_, _<_, min}
 use native.Mathlib.Omega.{arith}
 use native.Mathlib.Nat.{mul-le-mul}
-use borrow.Author.Tests.{lt-ltb, le-ltb, leb-false, ltb-false, eqb-false}
+use borrow.Author.Tests.{lt-ltb, le-ltb, lt-leb, ne-eqb, leb-false, ltb-true, ltb-false, eqb-false}
 use lib.Dec.{leb, ltb, eqb}
 use lib.ListN.{length, take, drop}
 use Rattle.model.specs.Model.{orderFor}
@@ -28,19 +28,29 @@ pub record Right (n start len : ℕ) : Type 0 where
 
 pub gap-right : (n start len : ℕ) → gapWrong n start len ≡ false → Right n start len
 gap-right n start len h =
-    go (eqb len 0) (leb n start) (ltb (n - start) len) (eqb-false len 0) (leb-false n start)
-    (ltb-false (n - start) len) h
+    go (eqb len 0) (leb n start) (ltb n (start + len)) (eqb-false len 0) (leb-false n start) (ltb-false n (start + len)) h
   where
-    go : (a b c : Bool) → (a ≡ false → len ≡ 0 → ⊥) → (b ≡ false → start < n) → (c ≡ false → len ≤ n - start)
+    go : (a b c : Bool) → (a ≡ false → len ≡ 0 → ⊥) → (b ≡ false → start < n) → (c ≡ false → start + len ≤ n)
         → a || b || c ≡ false → Right n start len
     go true b c some inside fits h = absurd (true≢false h)
     go false true c some inside fits h = absurd (true≢false h)
     go false false true some inside fits h = absurd (true≢false h)
     go false false false some inside fits h =
         let there : len ≡ 0 → ⊥ = some refl in
-        let within : start < n = inside refl in
-        let room : len ≤ n - start = fits refl in
-        record { some = omega arith; inside = omega arith }
+        record { some = omega arith; inside = fits refl }
+
+-- one that it does not turn away is such a gap
+pub right-gap : (n start len : ℕ) → 1 ≤ len → start + len ≤ n → gapWrong n start len ≡ false
+right-gap n start len some inside =
+    rw (ne-eqb len 0 (λ (e : len ≡ 0). absurd (omega arith)), lt-leb n start (omega arith), le-ltb n (start + len) inside) refl
+
+-- the last of its tests, as the function makes it without a sum
+pub past-end : (n start len : ℕ) → start < n → ltb (n - start) len ≡ ltb n (start + len)
+past-end n start len h = go (truth (ltb n (start + len)))
+  where
+    go : EitherWay (ltb n (start + len)) → ltb (n - start) len ≡ ltb n (start + len)
+    go (inl t) = lt-ltb (n - start) len (omega (arith, ltb-true n (start + len) t)) ∙ sym t
+    go (inr t) = le-ltb (n - start) len (omega (arith, ltb-false n (start + len) t)) ∙ sym t
 
 -- ---- The context
 
@@ -79,6 +89,17 @@ pub band-most : (len p : ℕ) → len ≤ 2048 → p ≤ 128 → len * (p + 1) �
 band-most len p h k =
     let wide : p + 1 ≤ 129 = omega arith in
     mul-le-mul h wide
+
+-- a gap of at most `most` samples, with a context of at most c and an order of at most p, needs no more than that many
+pub needed-within : (n start len most c p : ℕ) → len ≤ most → most ≤ 2048 → context len ≤ c → orderFor len ≤ p
+    → needed n start len ≤ most + 2 * c + most * (p + 1) + 3 * most + 4 * (p + 1)
+needed-within n start len most c p short model wide order =
+    rw (← needed-model n start len (from start len) (to n start len) (orderFor len) (omega arith) refl refl refl)
+    (sum (len * (orderFor len + 1)) (most * (p + 1)) (orderFor len) order (context len) wide (mul-le-mul short (omega arith)))
+  where
+    sum : (b band q : ℕ) → q ≤ p → (d : ℕ) → d ≤ c → b ≤ band
+        → min n (start + len + d) - (start - d) + b + 3 * len + 4 * (q + 1) ≤ most + 2 * c + band + 3 * most + 4 * (p + 1)
+    sum b band q hq d hd hb = omega arith
 
 -- ---- What is read
 

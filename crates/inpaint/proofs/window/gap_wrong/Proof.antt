@@ -2,6 +2,7 @@
 use mathlib.Core.Path.{refl}
 use borrow.Author.Needs.{needs}
 use borrow.Author.Tests.{eq-eqb, ne-eqb, le-leb, lt-leb}
+use Rattle.inpaint.proofs.window.Laws.{past-end}
 use Rattle.inpaint.proofs.window.gap_wrong.Statement.{statement}
 use Rattle.inpaint.proofs.window.gap_wrong.Tie as tie
 
@@ -15,7 +16,8 @@ sub-result : tie.Need-sub-result
 sub-result c = search needs
 
 returns-3 : tie.Need-returns-3
-returns-3 c = rw (ne-eqb _ _ (c .before .if1 .left), lt-leb _ _ (c .if2 .left)) refl
+returns-3 c =
+    rw (ne-eqb _ _ (c .before .if1 .left), lt-leb _ _ (c .if2 .left)) (past-end _ _ _ (c .if2 .left))
 
 pub gap-wrong-spec : {M : Type 1} → statement M
 gap-wrong-spec = tie.close (tie.spec returns returns-2 sub-result returns-3)

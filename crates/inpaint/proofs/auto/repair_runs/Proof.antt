@@ -1,0 +1,190 @@
+-- `inpaint::auto::repair_runs` meets its contract. The loop's invariant: the scan from here on gives the whole scan;
+-- each run found took two places or more, so that the runs counted are at most half of the places passed. The measure
+-- is how many places are left. Assumes nothing.
+use Prim.Native.Nat.{_-_, _*_, _≤_, _<_}
+use mathlib.Core.Path.{_≡_, refl, sym, _∙_}
+use native.Mathlib.Omega.{arith}
+use native.Mathlib.Nat.{sub-zero}
+use borrow.Author.Needs.{needs}
+use lib.ListN.{length}
+use Rattle.recording.specs.Recording.{State, state}
+use Rattle.inpaint.specs.Auto.{scan, scanFrom}
+use Rattle.inpaint.proofs.auto.Laws.{at-most-one, search-ends, found-run, Found, scan-stops, scan-turn}
+use Rattle.inpaint.proofs.auto.repair_runs.Statement.{statement}
+use Rattle.inpaint.proofs.auto.repair_runs.Tie as tie
+
+abbrev Inv-loop : tie.InvT-loop
+Inv-loop samples₀ marks₀ journal₀ used₀ most work₀ n qualified₀ repaired₀ refused₀ at₀
+    samples marks journal used work qualified repaired refused at =
+    (at ≤ n)
+    × (2 * qualified ≤ at)
+    × (repaired ≤ qualified)
+    × (length samples ≡ length samples₀)
+    × (length marks ≡ length marks₀)
+    × (length journal ≡ length journal₀)
+    × (length work ≡ length work₀)
+    × (scanFrom most at (n - qualified) (scan qualified repaired refused (state samples marks journal used) work)
+    ≡ scanFrom most 0 n (scan 0 0 0 (state samples₀ marks₀ journal₀ used₀) work₀))
+
+abbrev μ-loop : tie.MeasureT-loop
+μ-loop samples₀ marks₀ journal₀ used₀ most work₀ n qualified₀ repaired₀ refused₀ at₀
+    samples marks journal used work qualified repaired refused at =
+    n - at
+
+-- where the scan begins
+abbrev start : tie.At-loop Inv-loop μ-loop → tie.Start Inv-loop μ-loop
+start c = c .before .before .before .before .before
+
+-- the recording as a turn finds it
+abbrev turned : tie.At-loop Inv-loop μ-loop → State
+turned c = state (c .loop .samples) (c .loop .marks) (c .loop .journal) (c .loop .used)
+
+-- where the run lies that a turn finds
+run-found : (c : tie.After-found Inv-loop μ-loop)
+    → let at = c .before .before .before .before .before in
+    Found (at .loop .samples) (start at .args .most) (at .loop .at) (c .found .given .0 .0) (c .found .given .0 .1 .0)
+run-found c = found-run _ _ _ _ _ (sym (c .before .before .next-run .ensures) ∙ c .found .given .1)
+
+-- the samples fill a part of the memory
+few : (c : tie.At-loop Inv-loop μ-loop) → length (c .loop .samples) < 9223372036854775808
+few c = omega (arith, start c .good .0 .1, c .loop .inv .3)
+
+-- the turn in which a gap is repaired, once that is done
+abbrev taken : tie.After-inpaint-gap Inv-loop μ-loop → tie.After-found Inv-loop μ-loop
+taken c = c .before .before .before .before .before .before .before
+
+loop-holds : tie.Need-loop-holds Inv-loop μ-loop
+loop-holds c = (omega arith, omega arith, omega arith, refl, refl, refl, refl, simp sub-zero)
+
+next-run-requires : tie.Need-next-run-requires Inv-loop μ-loop
+next-run-requires c κs = search needs
+
+enum-known-found : tie.Need-enum-known-found Inv-loop μ-loop
+enum-known-found c = search needs
+
+enum-told : tie.Need-enum-told Inv-loop μ-loop
+enum-told c = search needs
+
+inpaint-gap-requires : tie.Need-inpaint-gap-requires Inv-loop μ-loop
+inpaint-gap-requires c κs = search needs
+
+number-of-requires : tie.Need-number-of-requires Inv-loop μ-loop
+number-of-requires c κs = search needs
+
+add-qualified : tie.Need-add-qualified Inv-loop μ-loop
+add-qualified c =
+    let turn = taken (c .before .before .before .before .before .before .before .before .before) in
+    let at = turn .before .before .before .before .before in
+    omega (arith, run-found turn, at .loop .inv .1, few at)
+
+accepted-requires : tie.Need-accepted-requires Inv-loop μ-loop
+accepted-requires c κs = search needs
+
+add-repaired : tie.Need-add-repaired Inv-loop μ-loop
+add-repaired c =
+    let turn = taken (c .before .before .before .before .before .before .before .before .before .before) in
+    let at = turn .before .before .before .before .before in
+    let once = at-most-one (c .before .number-of .result) _ (c .accepted .ensures) in
+    omega (arith, run-found turn, at .loop .inv .1, at .loop .inv .2, few at, once)
+
+first-of-requires : tie.Need-first-of-requires Inv-loop μ-loop
+first-of-requires c κs = search needs
+
+add-at : tie.Need-add-at Inv-loop μ-loop
+add-at c =
+    let turn = taken (c .before .before .before .before .before .before .before .before .before .before .before) in
+    omega (arith, run-found turn, few (turn .before .before .before .before .before))
+
+loop-less : tie.Need-loop-less Inv-loop μ-loop
+loop-less c =
+    let gap = c .before .before .before .before .before .before .before .before .before .before .before in
+    omega (arith, run-found (taken gap))
+
+loop-again : tie.Need-loop-again Inv-loop μ-loop
+loop-again c =
+    let work = c .before .before .before .before in
+    let journal = work .before .before in
+    let marks = journal .before .before in
+    let samples = marks .before .before in
+    let gap = samples .before in
+    let turn = taken gap in
+    let at = turn .before .before .before .before .before in
+    let once = at-most-one (c .before .before .number-of .result) _ (c .before .accepted .ensures) in (
+      omega (arith, run-found turn, at .loop .inv .3),
+      omega (arith, run-found turn, at .loop .inv .1),
+      omega (arith, at .loop .inv .2, once),
+      samples .samples .given ∙ at .loop .inv .3,
+      marks .marks .given ∙ at .loop .inv .4,
+      journal .journal .given ∙ at .loop .inv .5,
+      work .work .given ∙ at .loop .inv .6,
+      scan-turn _ _ _ _ _ _ _ _ (turned at) _ _ _ _ _ _ _ _
+          (omega (arith, run-found turn, at .loop .inv .1, at .loop .inv .3))
+          (sym (turn .before .before .next-run .ensures) ∙ turn .found .given .1) (gap .inpaint-gap .ensures .0)
+          (gap .inpaint-gap .ensures .1) (c .before .before .number-of .ensures) (c .before .accepted .ensures)
+          (c .first-of .ensures) (at .loop .inv .7),
+    )
+
+same-length : tie.Need-same-length Inv-loop μ-loop
+same-length c = c .before .loop .inv .3
+
+same-length-2 : tie.Need-same-length-2 Inv-loop μ-loop
+same-length-2 c = c .before .loop .inv .4
+
+same-length-3 : tie.Need-same-length-3 Inv-loop μ-loop
+same-length-3 c = c .before .loop .inv .5
+
+same-length-4 : tie.Need-same-length-4 Inv-loop μ-loop
+same-length-4 c = c .before .loop .inv .6
+
+returns : tie.Need-returns Inv-loop μ-loop
+returns c =
+    let at = c .before .loop in
+    let past : length (at .samples) ≤ at .at = omega (arith, c .loop-test .left, at .inv .3) in
+    sym (scan-stops _ _ _ _ (sym (search-ends _ _ _ _ past refl))) ∙ at .inv .7
+
+same-length-5 : tie.Need-same-length-5 Inv-loop μ-loop
+same-length-5 c = c .before .before .before .before .before .loop .inv .3
+
+same-length-6 : tie.Need-same-length-6 Inv-loop μ-loop
+same-length-6 c = c .before .before .before .before .before .loop .inv .4
+
+same-length-7 : tie.Need-same-length-7 Inv-loop μ-loop
+same-length-7 c = c .before .before .before .before .before .loop .inv .5
+
+same-length-8 : tie.Need-same-length-8 Inv-loop μ-loop
+same-length-8 c = c .before .before .before .before .before .loop .inv .6
+
+returns-2 : tie.Need-returns-2 Inv-loop μ-loop
+returns-2 c =
+    let told = c .before .before in
+    sym (scan-stops _ _ _ _ (sym (told .next-run .ensures) ∙ c .enum-told .given .1)) ∙ told .before .before .before .loop .inv .7
+
+pub repair-runs-spec : {M : Type 1} → statement M
+repair-runs-spec =
+    tie.close
+    (tie.spec
+    Inv-loop
+    μ-loop
+    loop-holds
+    next-run-requires
+    enum-known-found
+    enum-told
+    inpaint-gap-requires
+    number-of-requires
+    add-qualified
+    accepted-requires
+    add-repaired
+    first-of-requires
+    add-at
+    loop-less
+    loop-again
+    same-length
+    same-length-2
+    same-length-3
+    same-length-4
+    returns
+    same-length-5
+    same-length-6
+    same-length-7
+    same-length-8
+    returns-2)
