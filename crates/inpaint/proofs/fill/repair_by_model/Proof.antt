@@ -1,7 +1,7 @@
 -- `inpaint::fill::repair_by_model` meets its contract: the model's doubles are those of the rule, and the call is
 -- refused by the range test, refused by the entry, or entered and written. Assumes nothing.
 use borrow.Author.Needs.{needs}
-use mathlib.Core.Path.{_≡_, ap, _∙_}
+use mathlib.Core.Path.{_≡_, refl, ap, _∙_}
 use mathlib.Core.List.{List}
 use Prim.Native.Nat.{ℕ, _+_, _≤_}
 use native.Mathlib.Omega.{arith}
@@ -32,9 +32,12 @@ filling c = c .before .before .before .before .before
 abbrev tested : tie.After-enter-span → tie.After-enum-told
 tested c = c .before .before .before .before .before
 
--- where they were tested, once the entry is made
+-- where the entry was made, and where they were tested
+abbrev entering : tie.After-enum-told3 → tie.After-enter-span
+entering c = c .before .before .before .before .before .before
+
 abbrev testing : tie.After-enum-told3 → tie.After-check-results
-testing c = tested (c .before .before .before .before .before .before) .before .before
+testing c = tested (entering c) .before .before
 
 -- the recording before the call, and the gap within it
 abbrev recording : tie.After-check-results → State
@@ -146,10 +149,10 @@ enum-told-2 : tie.Need-enum-told-2
 enum-told-2 c = search needs
 
 same-length : tie.Need-same-length
-same-length c = search needs
+same-length c = refl
 
 same-length-2 : tie.Need-same-length-2
-same-length-2 c = search needs
+same-length-2 c = gave (filling (c .before .before)) .count
 
 returns : tie.Need-returns
 returns c =
@@ -167,16 +170,16 @@ enum-told-4 : tie.Need-enum-told-4
 enum-told-4 c = search needs
 
 same-length-3 : tie.Need-same-length-3
-same-length-3 c = search needs
+same-length-3 c = refl
 
 same-length-4 : tie.Need-same-length-4
-same-length-4 c = search needs
+same-length-4 c = c .before .before .before .before .before .before .enter-span .kept .1 .0
 
 same-length-5 : tie.Need-same-length-5
-same-length-5 c = search needs
+same-length-5 c = c .before .before .before .before .before .before .enter-span .kept .1 .1 .0
 
 same-length-6 : tie.Need-same-length-6
-same-length-6 c = search needs
+same-length-6 c = gave (filling (tested (c .before .before .before .before .before .before) .before .before)) .count
 
 returns-2 : tie.Need-returns-2
 returns-2 c =
@@ -231,10 +234,10 @@ same-length-7 : tie.Need-same-length-7
 same-length-7 c = search needs
 
 same-length-8 : tie.Need-same-length-8
-same-length-8 c = search needs
+same-length-8 c = entering (c .before .before .before .before .before .before) .enter-span .kept .1 .0
 
 same-length-9 : tie.Need-same-length-9
-same-length-9 c = search needs
+same-length-9 c = entering (c .before .before .before .before .before .before) .enter-span .kept .1 .1 .0
 
 same-length-10 : tie.Need-same-length-10
 same-length-10 c = gave (filling (testing (c .before .before .before .before .before .before))) .count
