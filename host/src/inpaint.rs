@@ -15,7 +15,7 @@ pub const MOST_RATE: u32 = 16_777_216;
 const MOST_PASSES: u32 = 5;
 
 /// How many passes a scan makes.
-const SCAN_PASSES: u32 = 3;
+pub const SCAN_PASSES: u32 = 3;
 
 /// The samples from `start` on, `len` of them.
 #[derive(Clone, Copy, Debug, PartialEq, Eq)]
@@ -150,14 +150,22 @@ pub fn inpaint_auto(recording: &mut Recording, rate: u32, max_gap_ms: f32, work:
     if let Some(number) = recording.refused_by_any_call() {
         return Scan::Refused(number);
     }
-    // "Rate at most 16,777,216 and finite max_gap_ms, else 4."
+    match qualified(&recording.samples, rate, max_gap_ms) {
+        None => Scan::Refused(4),
+        Some(runs) => Scan::Ran(runs.into_iter().map(|run| (run, repair(recording, run, SCAN_PASSES, work))).collect()),
+    }
+}
+
+/// The runs that a scan of these samples repairs where there is room, in their order. Nothing, where the settings
+/// are not allowed: "Rate at most 16,777,216 and finite max_gap_ms, else 4."
+pub fn qualified(samples: &[u32], rate: u32, max_gap_ms: f32) -> Option<Vec<Gap>> {
     if rate > MOST_RATE || !max_gap_ms.is_finite() {
-        return Scan::Refused(4);
+        return None;
     }
     let limit = limit(rate, max_gap_ms);
-    let mut runs = dropouts(&recording.samples);
-    runs.retain(|run| run.qualifies(recording.samples.len(), limit));
-    Scan::Ran(runs.into_iter().map(|run| (run, repair(recording, run, SCAN_PASSES, work))).collect())
+    let mut runs = dropouts(samples);
+    runs.retain(|run| run.qualifies(samples.len(), limit));
+    Some(runs)
 }
 
 /// "The limit is (max_gap_ms/1000)*rate in f32, raised to 1, cut to a whole number; a product of plus infinity

@@ -224,13 +224,22 @@ impl Lent {
     }
 
     fn wrong_parts(&self, recording: &Recording, numbers: [usize; 2], names: [&'static str; 2]) -> Vec<&'static str> {
+        let mut wrong = self.wrong_recording(recording);
+        for (number, (name, value)) in self.numbers.iter().zip(names.into_iter().zip(numbers)) {
+            if !number.holds(patterns(&[value])) {
+                wrong.push(name);
+            }
+        }
+        wrong
+    }
+
+    /// Likewise, whatever numbers the last call has handed back.
+    pub fn wrong_recording(&self, recording: &Recording) -> Vec<&'static str> {
         let parts = [
             ("samples", self.samples.holds(patterns(&recording.samples))),
             ("marks", self.marks.holds(patterns(&recording.marks))),
             ("journal", self.journal.holds(patterns(&recording.journal))),
             ("used", self.used.holds(patterns(&[recording.used]))),
-            (names[0], self.numbers[0].holds(patterns(&numbers[..1]))),
-            (names[1], self.numbers[1].holds(patterns(&numbers[1..]))),
         ];
         parts.into_iter().filter(|(_, right)| !right).map(|(name, _)| name).collect()
     }

@@ -1,12 +1,17 @@
 //! The functions of the static library, and what the tests hold them to: Rust's own operations for the
 //! float leaves, a model for the recording, and for the samples that a repair writes the original Rust.
+pub mod both;
 pub mod cathar;
+pub mod count;
+pub mod damage;
 pub mod draw;
 pub mod float;
 pub mod inpaint;
 pub mod lent;
 pub mod original;
 pub mod recording;
+pub mod room;
+pub mod settings;
 pub mod shapes;
 pub mod tally;
 mod util;

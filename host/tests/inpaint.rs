@@ -9,28 +9,27 @@ mod inpaint {
     pub mod scans;
     pub mod short;
 }
-mod shared;
 
+use cathar_host::both::Both;
+use cathar_host::count::Count;
 use cathar_host::draw::{self, Draw};
 use cathar_host::inpaint::{Gap, Scan, MOST_RATE};
-use cathar_host::lent::{Lent, LentWork};
 use cathar_host::original;
 use cathar_host::recording::{Answer, Recording};
+use cathar_host::room::{self, Room};
+use cathar_host::settings::{self, OfScan};
 use cathar_host::shapes::Shape;
 use inpaint::gaps::{self, repair, repair_with, Gaps};
 use inpaint::limits::{self, Faults, LOUD, LOUD_GAP};
-use inpaint::scans::{self, dropped, near, scan, scan_any, Scans, Settings};
+use inpaint::scans::{self, dropped, scan, scan_any, Scans};
 use inpaint::{lengths, short};
-use shared::count::Count;
-use shared::room::{self, Room};
 
 /// How many gaps are tried: in random short recordings over the alphabet, in short ones of each shape, by
-/// model and longer than 500, and by line; and how many sequences of repairs and undos.
+/// model and longer than 500, and by line.
 const RANDOM: u64 = 12_000;
 const SHAPED: u64 = 600;
 const LONG: usize = 510;
 const LINES: usize = 400;
-const SEQUENCES: u64 = 600;
 
 /// How many scans: of random short recordings over the alphabet, of each shape, and of longer ones.
 const RANDOM_SCANS: u64 = 3_000;
@@ -44,14 +43,6 @@ fn any_gap(draw: &mut Draw, n: usize) -> Gap {
     Gap { start, len: 1 + draw.below(most as u64) as usize }
 }
 
-/// Mostly 0 to 5, which the original is run with; at times the most.
-fn any_passes(draw: &mut Draw) -> u32 {
-    match draw.below(200) {
-        0 => u32::MAX,
-        _ => draw.below(6) as u32,
-    }
-}
-
 fn repair_any(count: &mut Gaps, draw: &mut Draw, samples: &[u32], gap: Gap, passes: u32) -> Answer {
     let room = [Room::any(draw), Room::any(draw)];
     repair_with(count, draw, samples, gap, passes, room)
@@ -63,7 +54,7 @@ fn repair_short(count: &mut Gaps, draw: &mut Draw) {
     short::each(&mut |samples| {
         for start in 0..samples.len() {
             for len in 1..=samples.len() - start {
-                let passes = if draw.below(8) == 0 { any_passes(draw) } else { 1 };
+                let passes = if draw.below(8) == 0 { settings::passes(draw) } else { 1 };
                 repair_any(count, draw, samples, Gap { start, len }, passes);
             }
         }
@@ -75,7 +66,7 @@ fn repair_random(count: &mut Gaps, draw: &mut Draw) {
     count.begin("random ones of 6 to 60 samples");
     for _ in 0..RANDOM {
         let samples = short::random(draw);
-        let (gap, passes) = (any_gap(draw, samples.len()), any_passes(draw));
+        let (gap, passes) = (any_gap(draw, samples.len()), settings::passes(draw));
         repair_any(count, draw, &samples, gap, passes);
     }
     count.begin("each shape, 6 to 200 samples");
@@ -83,7 +74,7 @@ fn repair_random(count: &mut Gaps, draw: &mut Draw) {
         for _ in 0..SHAPED {
             let n = 6 + draw.below(195) as usize;
             let samples = shape.samples(draw, n);
-            let (gap, passes) = (any_gap(draw, n), any_passes(draw));
+            let (gap, passes) = (any_gap(draw, n), settings::passes(draw));
             repair_any(count, draw, &samples, gap, passes);
         }
     }
@@ -93,51 +84,17 @@ fn repair_random(count: &mut Gaps, draw: &mut Draw) {
 fn repair_refused(count: &mut Gaps, draw: &mut Draw) {
     for samples in [&[][..], &LOUD[..1], &LOUD[..2], &LOUD] {
         limits::gaps(samples.len().max(1), &mut |gap| {
-            let mut model = room::recording(draw, samples.to_vec(), 100);
-            let mut lent = Lent::new(&model);
+            let model = room::recording(draw, samples.to_vec(), 100);
             let work = room::work(draw, 1000);
-            repair(count, &mut model, &mut lent, gap, 1, work);
+            repair(count, &mut Both::new(model), gap, 1, work);
         });
     }
     for faults in Faults::each() {
-        let (mut model, work) = faults.made(draw);
-        let mut lent = Lent::new(&model);
+        let (model, work) = faults.made(draw);
         let outside = [Gap { start: 6, len: 0 }, Gap { start: 13, len: 2 }, Gap { start: 14, len: 1 }];
         let gap = if faults.of_gap() { outside[draw.below(3) as usize] } else { LOUD_GAP };
-        repair(count, &mut model, &mut lent, gap, 1, work);
+        repair(count, &mut Both::new(model), gap, 1, work);
     }
-}
-
-/// Repairs and undos of one recording, and at the end undos until there is nothing to take back. Once the two
-/// sides have gone apart, there is no more to compare.
-fn repair_and_undo(count: &mut Gaps, draw: &mut Draw) {
-    let n = 6 + draw.below(150) as usize;
-    let samples = Shape::ALL[draw.below(9) as usize].samples(draw, n);
-    let mut model = room::recording(draw, samples, 200);
-    assert_eq!(model.open(), Answer::Accepted(0));
-    let opened = model.clone();
-    let mut lent = Lent::new(&model);
-    for _ in 0..2 + draw.below(8) {
-        if count.differs() {
-            return;
-        }
-        if draw.below(4) == 0 {
-            undo(&mut model, &mut lent);
-        } else {
-            let gap = any_gap(draw, n);
-            let length = Room::any(draw).of(draw, gap.needed(n));
-            let work = room::work(draw, length);
-            repair(count, &mut model, &mut lent, gap, 1, work);
-        }
-    }
-    while !count.differs() && undo(&mut model, &mut lent).number() == 0 {}
-    assert!(count.differs() || model == opened, "undone to the raw recording");
-}
-
-fn undo(model: &mut Recording, lent: &mut Lent) -> Answer {
-    let answer = model.undo();
-    assert_eq!((lent.undo(), lent.wrong(model, answer.value())), (answer.number(), vec![]), "undo among repairs");
-    answer
 }
 
 #[test]
@@ -162,28 +119,24 @@ fn repairs() {
     repair_refused(&mut count, &mut draw);
     count.begin("beside the most samples");
     repair_large(&mut count, &mut draw);
-    count.begin("among undos");
-    for _ in 0..SEQUENCES {
-        repair_and_undo(&mut count, &mut draw);
-    }
     count.close(seed);
 }
 
 /// The last gap that there is room for, in recordings of the most samples and of one more.
 fn repair_large(count: &mut Gaps, draw: &mut Draw) {
     let works: Vec<u64> = room::work(draw, 5000);
-    limits::large(draw, &mut |mut model| {
+    limits::large(draw, &mut |model| {
         let n = model.samples.len();
-        let mut lent = Lent::new(&model);
-        repair(count, &mut model, &mut lent, Gap { start: n - 4, len: 3 }, 1, works.clone());
-        repair(count, &mut model, &mut lent, Gap { start: n - 1, len: 2 }, 1, works.clone());
-        repair(count, &mut model, &mut lent, Gap { start: n - 1, len: 1 }, 1, works.clone());
+        let mut both = Both::new(model);
+        repair(count, &mut both, Gap { start: n - 4, len: 3 }, 1, works.clone());
+        repair(count, &mut both, Gap { start: n - 1, len: 2 }, 1, works.clone());
+        repair(count, &mut both, Gap { start: n - 1, len: 1 }, 1, works.clone());
     });
 }
 
 /// Rates and milliseconds at the ends of what is allowed and past them, and where the limit is 1, a few
 /// samples, many, or none.
-fn each_setting(put: &mut dyn FnMut(Settings)) {
+fn each_setting(put: &mut dyn FnMut(OfScan)) {
     for rate in [0, 1, 999, 1000, 48_000, MOST_RATE - 1, MOST_RATE, MOST_RATE + 1, u32::MAX] {
         for max_gap_ms in [0.0, -0.0, -1.0, 1e-38, 0.06, 1.0, 2.0, 2.5, 2.999, 3.0, 3.5, 4000.0, 1e30, f32::MAX] {
             put((rate, max_gap_ms));
@@ -207,7 +160,7 @@ fn scan_settings(count: &mut Scans, draw: &mut Draw) {
     });
     for length in 0..8 {
         for _ in 0..40 {
-            let settings = near(draw, length);
+            let settings = settings::near(draw, length);
             scan_any(count, draw, &samples, settings);
         }
     }
@@ -216,11 +169,9 @@ fn scan_settings(count: &mut Scans, draw: &mut Draw) {
 /// Scans to which several refusals apply.
 fn scan_refused(count: &mut Scans, draw: &mut Draw) {
     for faults in Faults::each() {
-        let (mut model, work) = faults.made(draw);
-        let mut lent = Lent::new(&model);
-        let wrong = [(MOST_RATE + 1, 1.0), (48_000, f32::NAN), (48_000, f32::INFINITY)];
-        let settings = if faults.of_gap() { wrong[draw.below(3) as usize] } else { scans::USUAL };
-        scan(count, &mut model, &mut lent, settings, work);
+        let (model, work) = faults.made(draw);
+        let settings = if faults.of_gap() { settings::NO_SCANS[draw.below(3) as usize] } else { settings::USUAL };
+        scan(count, &mut Both::new(model), settings, work);
     }
 }
 
@@ -230,7 +181,7 @@ fn scan_shapes(count: &mut Scans, draw: &mut Draw) {
         for _ in 0..SHAPED_SCANS {
             let n = 20 + draw.below(200) as usize;
             let samples = dropped(draw, shape, n, 12);
-            let settings = if draw.below(2) == 0 { scans::USUAL } else { near(draw, 6) };
+            let settings = if draw.below(2) == 0 { settings::USUAL } else { settings::near(draw, 6) };
             scan_any(count, draw, &samples, settings);
         }
     }
@@ -242,11 +193,11 @@ fn scan_long(count: &mut Scans, draw: &mut Draw) {
     for call in 0..LONG_SCANS {
         let shape = [Shape::Tone, Shape::Noise, Shape::Signs][call as usize % 3];
         let mut samples = dropped(draw, shape, 3000, 30);
-        scan_any(count, draw, &samples, scans::USUAL);
+        scan_any(count, draw, &samples, settings::USUAL);
         let line = 2049 + draw.below(100) as usize;
         samples.splice(1500..1500, [vec![0; line], vec![0x3f80_0000]].concat());
         if call % 3 != 2 {
-            scan_any(count, draw, &samples, (48_000, f32::MAX));
+            scan_any(count, draw, &samples, settings::UNLIMITED);
         }
     }
 }
@@ -258,12 +209,12 @@ fn scanned() {
     let mut count = Count::new("cathar_inpaint_auto against model and original", &[scans::CLASSES]);
     count.begin("all recordings of up to 5 samples");
     short::each(&mut |samples| {
-        scan_any(&mut count, &mut draw, samples, scans::USUAL);
+        scan_any(&mut count, &mut draw, samples, settings::USUAL);
     });
     count.begin("random ones of 6 to 60 samples");
     for _ in 0..RANDOM_SCANS {
         let samples = short::random(&mut draw);
-        scan_any(&mut count, &mut draw, &samples, scans::USUAL);
+        scan_any(&mut count, &mut draw, &samples, settings::USUAL);
     }
     count.begin("each shape with dropouts");
     scan_shapes(&mut count, &mut draw);
@@ -275,9 +226,8 @@ fn scanned() {
     scan_refused(&mut count, &mut draw);
     count.begin("beside the most samples");
     let works: Vec<u64> = room::work(&mut draw, 5000);
-    limits::large(&mut draw, &mut |mut model| {
-        let mut lent = Lent::new(&model);
-        scan(&mut count, &mut model, &mut lent, scans::USUAL, works.clone());
+    limits::large(&mut draw, &mut |model| {
+        scan(&mut count, &mut Both::new(model), settings::USUAL, works.clone());
     });
     count.close(seed);
 }
@@ -285,13 +235,10 @@ fn scanned() {
 /// The library repairs one gap of an opened recording with enough room. What it leaves: samples and marks.
 fn repaired(samples: Vec<u32>, gap: Gap) -> (Vec<u32>, Vec<u8>) {
     let n = samples.len();
-    let mut model = Recording { samples, marks: vec![0; n], journal: vec![0; 3 * gap.len + 2], used: 0 };
-    let mut lent = Lent::new(&model);
-    let mut work = vec![u64::MAX; gap.needed(n)];
-    let number = lent.inpaint_gap(gap, 3, &mut LentWork::new(&work));
-    assert_eq!(cathar_host::inpaint::inpaint_gap(&mut model, gap, 3, &mut work), Answer::Accepted(gap.len));
-    assert_eq!((number, lent.wrong(&model, gap.len)), (0, vec![]));
-    (model.samples, model.marks)
+    let model = Recording { samples, marks: vec![0; n], journal: vec![0; 3 * gap.len + 2], used: 0 };
+    let mut both = Both::new(model);
+    assert_eq!(both.inpaint_gap(gap, 3, vec![u64::MAX; gap.needed(n)]), (Answer::Accepted(gap.len), vec![]));
+    (both.model.samples, both.model.marks)
 }
 
 /// The document's sums: *quiet*; 4097 samples with ends 0 and 4096, whose places become their numbers; and the
@@ -337,9 +284,8 @@ fn where_the_original_writes_nan() {
             let before: Vec<f32> = samples.iter().map(|word| f32::from_bits(*word)).collect();
             let after = original::inpaint::inpaint_auto(&before, 48_000, 1.0);
             if before.iter().zip(&after).any(|(x, y)| !x.is_nan() && y.is_nan()) {
-                let mut model = room::recording(&mut Draw::new(1), samples, 100);
-                let mut lent = Lent::new(&model);
-                let scan = scan(&mut count, &mut model, &mut lent, scans::USUAL, vec![1; 1000]);
+                let model = room::recording(&mut Draw::new(1), samples, 100);
+                let scan = scan(&mut count, &mut Both::new(model), settings::USUAL, vec![1; 1000]);
                 found.push((before, after, scan));
             }
         }

@@ -2,37 +2,36 @@
 //! and value, and every byte of the lent memory, with what stands around each part of it.
 //!
 //! `CATHAR_SEED` sets the seed.
-mod shared;
 mod whole {
     pub mod calls;
     pub mod clipped;
     pub mod crackled;
     pub mod levels;
     pub mod limits;
-    pub mod settings;
     pub mod short;
 }
 
+use cathar_host::both::Both;
+use cathar_host::count::Count;
+use cathar_host::damage;
 use cathar_host::draw::{self, Draw};
-use cathar_host::lent::{Lent, LentWords};
 use cathar_host::recording::{entry_words, Answer, Recording};
+use cathar_host::room::Room;
+use cathar_host::settings;
 use cathar_host::shapes::Shape;
-use cathar_host::whole::{needed, repair as by_model, Repair};
-use shared::count::{Class, Count};
-use shared::room::{self, Room};
+use cathar_host::whole::{floats, needed, Repair};
 use std::ops::Range;
 use std::panic::catch_unwind;
-use whole::calls::{repair, repair_any, repair_with, words, Call, Calls, COMMON};
+use whole::calls::{repair, repair_any, repair_with, Calls, COMMON};
 use whole::limits::{self, Case, Faults};
-use whole::{clipped, crackled, levels, settings, short};
+use whole::{clipped, crackled, levels, short};
 
 /// How many recordings are tried with each repair: random short ones; of each shape, for every small number of
-/// samples, of up to 400 and of some thousand; and how many sequences of repairs and undos.
+/// samples, of up to 400 and of some thousand.
 const RANDOM: u64 = 12_000;
 const FEW: u64 = 10;
 const SHAPED: u64 = 1_200;
 const LONG: u64 = 7;
-const SEQUENCES: u64 = 2_000;
 
 /// How many recordings are declipped whose last result is rounded above 65,536 or just not.
 const LOUD: usize = 160;
@@ -85,16 +84,14 @@ fn repair_shapes(count: &mut Calls, draw: &mut Draw, settings: Settings, each: u
 fn repair_refused(count: &mut Calls, draw: &mut Draw, case: &Case) {
     count.begin("several refusals apply");
     for faults in Faults::each() {
-        if let Some((mut model, how, work)) = faults.made(draw, case) {
-            let mut lent = Lent::new(&model);
-            let answer = repair(count, &mut model, &mut lent, how, work);
+        if let Some((model, how, work)) = faults.made(draw, case) {
+            let answer = repair(count, &mut Both::new(model), how, work);
             assert_eq!(answer.number(), faults.answer(), "the lowest of those that apply to {how:?}");
         }
     }
     count.begin("beside the most samples");
-    limits::large(draw, case, &mut |mut model, how, work| {
-        let mut lent = Lent::new(&model);
-        repair(count, &mut model, &mut lent, how, work);
+    limits::large(draw, case, &mut |model, how, work| {
+        repair(count, &mut Both::new(model), how, work);
     });
 }
 
@@ -132,8 +129,8 @@ fn decrackle_clicked(count: &mut Calls, draw: &mut Draw) {
     for shape in Shape::ALL {
         for sensitivity in settings::SENSITIVITIES.into_iter().chain([f32::NAN]) {
             for n in [7, 8, 9, 30, 100, 300, 1_000] {
-                let samples = shape.samples(draw, n);
-                let samples = crackled::clicked(draw, samples);
+                let mut samples = shape.samples(draw, n);
+                damage::click(draw, &mut samples);
                 repair_any(count, draw, &samples, Repair::Decrackle { sensitivity });
             }
         }
@@ -188,82 +185,17 @@ fn cosparse() {
     count.close(seed);
 }
 
-/// What the repairs among undos have to be.
-const AMONG_UNDOS: &[Class<Call>] = &[
-    Class { name: "declip", least: 500, holds: |c| c.names() && c.repair.mark() == 3 },
-    Class { name: "decrackle", least: 500, holds: |c| c.names() && c.repair.mark() == 4 },
-    Class { name: "dequantize, either form", least: 1_000, holds: |c| c.names() && c.repair.mark() == 5 },
-    Class { name: "answered 4", least: 100, holds: |c| c.number() == 4 },
-    Class { name: "answered 6", least: 100, holds: |c| c.number() == 6 },
-    Class { name: "answered 8", least: 10, holds: |c| c.number() == 8 },
-    Class { name: "answered 9", least: 100, holds: |c| c.number() == 9 },
-];
-
-/// Repairs and undos of one recording, and at the end undos until there is nothing to take back: how many. Once the
-/// two sides have gone apart, there is no more to compare.
-fn repair_and_undo(count: &mut Calls, draw: &mut Draw) -> u64 {
-    let n = 6 + draw.below(150) as usize;
-    let samples = Shape::ALL[draw.below(9) as usize].samples(draw, n);
-    let free = entry_words(n) * (1 + draw.below(6) as usize);
-    let mut model = room::recording(draw, samples, free);
-    assert_eq!(model.open(), Answer::Accepted(0));
-    let opened = model.clone();
-    let mut lent = Lent::new(&model);
-    for _ in 0..2 + draw.below(10) {
-        if count.differs() {
-            return 0;
-        }
-        if draw.below(5) == 0 {
-            undo(&mut model, &mut lent);
-        } else {
-            let all = [settings::declip, settings::decrackle, settings::dequantize, settings::cosparse];
-            let how = all[draw.below(4) as usize](draw, &model.samples);
-            let length = Room::any(draw).of(draw, needed(n));
-            let work = words(draw, length);
-            repair(count, &mut model, &mut lent, how, work);
-        }
-    }
-    let mut undone = 0;
-    while !count.differs() && undo(&mut model, &mut lent).number() == 0 {
-        undone += 1;
-    }
-    assert!(count.differs() || model == opened, "undone to the raw recording");
-    undone
-}
-
-fn undo(model: &mut Recording, lent: &mut Lent) -> Answer {
-    let answer = model.undo();
-    assert_eq!((lent.undo(), lent.wrong(model, answer.value())), (answer.number(), vec![]), "undo among repairs");
-    answer
-}
-
-#[test]
-fn undone() {
-    let seed = draw::seed();
-    let mut draw = Draw::new(seed);
-    let mut count = Count::new("the four among undos, against model and original", &[AMONG_UNDOS]);
-    count.begin("repairs");
-    let undone: u64 = (0..SEQUENCES).map(|_| repair_and_undo(&mut count, &mut draw)).sum();
-    count.close(seed);
-    println!("  undone to the raw recordings: {undone} repairs of {SEQUENCES} sequences");
-    assert!(undone >= SEQUENCES, "fewer undone than there are sequences");
-}
-
 /// The library repairs an opened recording of these samples with just enough room. What it leaves: the samples, and
 /// the places that it names, each of which has the repair's mark.
 fn repaired(samples: &[f32], how: Repair, m: usize) -> (Vec<f32>, Vec<usize>) {
     let n = samples.len();
     let words = samples.iter().map(|x| x.to_bits()).collect();
-    let mut model = Recording { samples: words, marks: vec![0; n], journal: vec![0; entry_words(m)], used: 0 };
-    let mut lent = Lent::new(&model);
-    let mut work = vec![u32::MAX; needed(n)];
-    let mut lent_work = LentWords::new(&work);
-    let number = lent.repair(how, &mut lent_work);
-    assert_eq!(by_model(&mut model, how, &mut work), Answer::Accepted(m));
-    assert_eq!((number, lent.wrong(&model, m), lent_work.holds(&work)), (0, vec![], true));
-    let named: Vec<usize> = (0..n).filter(|place| model.marks[*place] == how.mark()).collect();
+    let model = Recording { samples: words, marks: vec![0; n], journal: vec![0; entry_words(m)], used: 0 };
+    let mut both = Both::new(model);
+    assert_eq!(both.repair(how, vec![u32::MAX; needed(n)]), (Answer::Accepted(m), vec![]));
+    let named: Vec<usize> = (0..n).filter(|place| both.model.marks[*place] == how.mark()).collect();
     assert_eq!(named.len(), m);
-    (cathar_host::whole::floats(&model.samples), named)
+    (floats(&both.model.samples), named)
 }
 
 /// The document's sums.

@@ -1,10 +1,10 @@
 //! One repair of a gap by both sides, and what is counted of it.
-use crate::shared::count::{Class, Count};
-use crate::shared::room::{self, Room};
+use cathar_host::both::Both;
+use cathar_host::count::{Class, Count};
 use cathar_host::draw::Draw;
-use cathar_host::inpaint::{inpaint_gap, Gap};
-use cathar_host::lent::{Lent, LentWork};
-use cathar_host::recording::{entry_words, Answer, Recording};
+use cathar_host::inpaint::Gap;
+use cathar_host::recording::{entry_words, Answer};
+use cathar_host::room::{self, Room};
 
 /// A call, and what the model answers.
 #[derive(Debug)]
@@ -99,26 +99,11 @@ pub const CLASSES: &[Class<Call>] = &[
 ];
 
 /// Both sides repair the gap in a workspace of these patterns. The answer is the model's.
-pub fn repair(
-    count: &mut Gaps,
-    model: &mut Recording,
-    lent: &mut Lent,
-    gap: Gap,
-    passes: u32,
-    mut work: Vec<u64>,
-) -> Answer {
-    let mut lent_work = LentWork::new(&work);
-    let free = model.journal.len().saturating_sub(model.used);
-    let answer = inpaint_gap(model, gap, passes, &mut work);
-    let number = lent.inpaint_gap(gap, passes, &mut lent_work);
-    let mut wrong = lent.wrong(model, answer.value());
-    if number != answer.number() {
-        wrong.push("answer");
-    }
-    if !lent_work.holds(&work) {
-        wrong.push("workspace");
-    }
-    count.take(&Call { samples: model.samples.len(), gap, passes, work: work.len(), free, answer }, &wrong);
+pub fn repair(count: &mut Gaps, both: &mut Both, gap: Gap, passes: u32, work: Vec<u64>) -> Answer {
+    let (samples, lent) = (both.model.samples.len(), work.len());
+    let free = both.model.journal.len().saturating_sub(both.model.used);
+    let (answer, wrong) = both.inpaint_gap(gap, passes, work);
+    count.take(&Call { samples, gap, passes, work: lent, free, answer }, &wrong);
     answer
 }
 
@@ -135,7 +120,6 @@ pub fn repair_with(
     let work = work.of(draw, needed);
     let work = room::work(draw, work);
     let free = journal.of(draw, entry_words(gap.len));
-    let mut model = room::recording(draw, samples.to_vec(), free);
-    let mut lent = Lent::new(&model);
-    repair(count, &mut model, &mut lent, gap, passes, work)
+    let model = room::recording(draw, samples.to_vec(), free);
+    repair(count, &mut Both::new(model), gap, passes, work)
 }

@@ -1,9 +1,9 @@
 //! Gaps of chosen lengths in samples of several shapes, at both ends and in the middle.
 use super::gaps::{repair_with, Gaps};
-use crate::shared::room::Room;
 use cathar_host::draw::Draw;
 use cathar_host::inpaint::Gap;
 use cathar_host::recording::Answer;
+use cathar_host::room::Room;
 use cathar_host::shapes::Shape;
 
 /// Every length up to this is tried.

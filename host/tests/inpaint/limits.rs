@@ -1,9 +1,9 @@
 //! Calls to which several refusals apply, gaps that are not within the recording, and recordings of the most
 //! samples and of one more.
-use crate::shared::room;
 use cathar_host::draw::Draw;
 use cathar_host::inpaint::Gap;
 use cathar_host::recording::{entry_words, Recording, MOST_SAMPLES};
+use cathar_host::room;
 
 /// Samples whose gap `LOUD_GAP` gets a result that is not in range, at place 7.
 pub const LOUD: [u32; 14] = [

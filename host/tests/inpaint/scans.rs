@@ -1,24 +1,20 @@
 //! One scan by both sides, and by the original where nothing is refused, and what is counted of it.
-use crate::shared::count::{Class, Count};
-use crate::shared::room::{self, Room};
+use cathar_host::both::Both;
+use cathar_host::count::{Class, Count};
+use cathar_host::damage;
 use cathar_host::draw::Draw;
-use cathar_host::inpaint::{inpaint_auto, limit, Gap, Scan};
-use cathar_host::lent::{Lent, LentWork};
+use cathar_host::inpaint::{limit, qualified, Scan};
 use cathar_host::original::inpaint as original;
-use cathar_host::recording::{entry_words, Recording};
-use cathar_host::shapes::{Shape, ALPHABET};
-
-/// A rate and a longest gap in milliseconds.
-pub type Settings = (u32, f32);
-
-/// 48 samples.
-pub const USUAL: Settings = (48_000, 1.0);
+use cathar_host::recording::entry_words;
+use cathar_host::room::{self, Room};
+use cathar_host::settings::OfScan;
+use cathar_host::shapes::Shape;
 
 /// A scan, and what the model answers.
 #[derive(Debug)]
 pub struct Call {
     pub samples: usize,
-    pub settings: Settings,
+    pub settings: OfScan,
     pub scan: Scan,
 }
 
@@ -70,40 +66,23 @@ pub const CLASSES: &[Class<Call>] = &[
 
 /// Both sides scan in a workspace of these patterns, and the original too where nothing is refused. The answer
 /// is the model's.
-pub fn scan(count: &mut Scans, model: &mut Recording, lent: &mut Lent, settings: Settings, mut work: Vec<u64>) -> Scan {
-    let (rate, max_gap_ms) = settings;
-    let mut lent_work = LentWork::new(&work);
-    let before: Vec<f32> = model.samples.iter().map(|word| f32::from_bits(*word)).collect();
-    let scan = inpaint_auto(model, rate, max_gap_ms, &mut work);
-    let number = lent.inpaint_auto(rate, max_gap_ms, &mut lent_work);
-    let mut wrong = lent.wrong_after_scan(model, [scan.qualified(), scan.repaired()]);
-    if number != scan.number() {
-        wrong.push("answer");
-    }
-    if !lent_work.holds(&work) {
-        wrong.push("workspace");
-    }
+pub fn scan(count: &mut Scans, both: &mut Both, settings: OfScan, work: Vec<u64>) -> Scan {
+    let before: Vec<f32> = both.model.samples.iter().map(|word| f32::from_bits(*word)).collect();
+    let (scan, mut wrong) = both.inpaint_auto(settings, work);
     if scan.number() == 0 {
-        let after = original::inpaint_auto(&before, rate, max_gap_ms);
-        if !after.iter().map(|x| x.to_bits()).eq(model.samples.iter().copied()) {
+        let after = original::inpaint_auto(&before, settings.0, settings.1);
+        if !after.iter().map(|x| x.to_bits()).eq(both.model.samples.iter().copied()) {
             wrong.push("the original's samples from the model's");
         }
     }
-    count.take(&Call { samples: model.samples.len(), settings, scan: scan.clone() }, &wrong);
+    count.take(&Call { samples: before.len(), settings, scan: scan.clone() }, &wrong);
     scan
-}
-
-/// The runs that would be repaired in these samples if there were room, by the model.
-fn runs(samples: &[u32], (rate, max_gap_ms): Settings) -> Vec<Gap> {
-    let marks = vec![0; samples.len()];
-    let mut recording = Recording { samples: samples.to_vec(), marks, journal: vec![], used: 0 };
-    inpaint_auto(&mut recording, rate, max_gap_ms, &mut []).runs().iter().map(|(run, _)| *run).collect()
 }
 
 /// Both sides scan these samples. The workspace is enough for all runs or one short for the longest, and the
 /// journal enough for all or one short for the last, or both are enough for any one of the runs and no more.
-pub fn scan_any(count: &mut Scans, draw: &mut Draw, samples: &[u32], settings: Settings) -> Scan {
-    let runs = runs(samples, settings);
+pub fn scan_any(count: &mut Scans, draw: &mut Draw, samples: &[u32], settings: OfScan) -> Scan {
+    let runs = qualified(samples, settings.0, settings.1).unwrap_or_default();
     let needed: Vec<usize> = runs.iter().map(|run| run.needed(samples.len())).collect();
     let entries: Vec<usize> = runs.iter().map(|run| entry_words(run.len)).collect();
     let mut work = needed.iter().copied().max().unwrap_or(1);
@@ -117,35 +96,17 @@ pub fn scan_any(count: &mut Scans, draw: &mut Draw, samples: &[u32], settings: S
     let work = Room::any(draw).of(draw, work);
     let work = room::work(draw, work);
     let free = Room::any(draw).of(draw, free);
-    let mut model = room::recording(draw, samples.to_vec(), free);
-    let mut lent = Lent::new(&model);
-    scan(count, &mut model, &mut lent, settings, work)
+    let model = room::recording(draw, samples.to_vec(), free);
+    scan(count, &mut Both::new(model), settings, work)
 }
 
-/// Samples of a shape with up to eight dropouts of at most so many samples, each of one of the three words
-/// that drop out or of all of them; and at times with a sample that is not in range.
+/// Samples of a shape with up to eight dropouts of at most so many samples, and at times with a sample that is not
+/// in range.
 pub fn dropped(draw: &mut Draw, shape: Shape, n: usize, longest: usize) -> Vec<u32> {
     let mut samples = shape.samples(draw, n);
-    for _ in 0..1 + draw.below(8) {
-        let start = draw.below(n as u64) as usize;
-        let end = (start + 1 + draw.below(longest as u64) as usize).min(n);
-        let words = [ALPHABET[0], ALPHABET[1], ALPHABET[7], 0xff80_0001];
-        let (first, others) = (draw.below(4), draw.below(2) == 0);
-        for word in &mut samples[start..end] {
-            let choice = if others { draw.below(4) } else { first };
-            *word = words[choice as usize];
-        }
-    }
+    damage::drop_out(draw, &mut samples, longest, &damage::DROPOUTS);
     if draw.below(6) == 0 {
-        let place = draw.below(n as u64) as usize;
-        samples[place] = ALPHABET[5 + draw.below(3) as usize];
+        damage::overload(draw, &mut samples);
     }
     samples
-}
-
-/// Settings whose limit is near so many samples, from below and from above: at the rate 1,000 the limit is the
-/// number of milliseconds, cut to a whole number.
-pub fn near(draw: &mut Draw, length: usize) -> Settings {
-    let beside = [-1.0, -0.5, -0.01, 0.0, 0.01, 0.5, 0.99][draw.below(7) as usize];
-    (1_000, length as f32 + beside)
 }

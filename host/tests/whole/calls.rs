@@ -1,10 +1,10 @@
 //! One repair over the whole recording by both sides, and what is counted of it.
-use crate::shared::count::{Class, Count};
-use crate::shared::room::{self, Room};
+use cathar_host::both::Both;
+use cathar_host::count::{Class, Count};
 use cathar_host::draw::Draw;
-use cathar_host::lent::{Lent, LentWords};
-use cathar_host::recording::{entry_words, in_range, Answer, Recording};
-use cathar_host::whole::{self, fills, flagged, floats, needed, Repair};
+use cathar_host::recording::{entry_words, in_range, Answer};
+use cathar_host::room::{self, Room};
+use cathar_host::whole::{fills, flagged, floats, needed, Repair};
 use std::fmt;
 use std::ops::Range;
 
@@ -123,37 +123,16 @@ pub fn names(repair: Repair, samples: &[u32]) -> usize {
 }
 
 /// Both sides make the repair in a workspace of these words. The answer is the model's.
-pub fn repair(count: &mut Calls, model: &mut Recording, lent: &mut Lent, repair: Repair, mut work: Vec<u32>) -> Answer {
-    let before = model.samples.clone();
-    let free = model.journal.len().saturating_sub(model.used);
-    let mut lent_work = LentWords::new(&work);
-    let answer = whole::repair(model, repair, &mut work);
-    let number = lent.repair(repair, &mut lent_work);
-    let mut wrong = lent.wrong(model, answer.value());
-    if number != answer.number() {
-        wrong.push("answer");
-    }
-    if !lent_work.holds(&work) {
-        wrong.push("workspace");
-    }
-    let changed = before.iter().zip(&model.samples).filter(|(old, new)| old != new).count();
+pub fn repair(count: &mut Calls, both: &mut Both, repair: Repair, work: Vec<u32>) -> Answer {
+    let before = both.model.samples.clone();
+    let free = both.model.journal.len().saturating_sub(both.model.used);
+    let lent = work.len();
+    let (answer, wrong) = both.repair(repair, work);
+    let changed = before.iter().zip(&both.model.samples).filter(|(old, new)| old != new).count();
     let (stretches, named) = (stretches(repair, &floats(&before)), names(repair, &before));
     let before = Before(before);
-    count.take(&Call { repair, before, work: work.len(), free, stretches, named, changed, answer }, &wrong);
+    count.take(&Call { repair, before, work: lent, free, stretches, named, changed, answer }, &wrong);
     answer
-}
-
-/// The words of a workspace: any, and one in four a NaN.
-pub fn words(draw: &mut Draw, length: usize) -> Vec<u32> {
-    room::work(draw, length).into_iter().map(|pattern| (pattern >> 32) as u32).collect()
-}
-
-/// How many are lent where so many are needed. Where none is, none is too few.
-fn lent_for(draw: &mut Draw, room: Room, needed: usize) -> usize {
-    match needed {
-        0 => draw.below(3) as usize,
-        _ => room.of(draw, needed),
-    }
 }
 
 /// Both sides repair these samples, with so much workspace and journal.
@@ -168,12 +147,11 @@ pub fn repair_with(
         0 => 0,
         m => entry_words(m),
     };
-    let work = lent_for(draw, work, needed(samples.len()));
-    let work = words(draw, work);
-    let free = lent_for(draw, journal, entry);
-    let mut model = room::recording(draw, samples.to_vec(), free);
-    let mut lent = Lent::new(&model);
-    repair(count, &mut model, &mut lent, how, work)
+    let work = work.of(draw, needed(samples.len()));
+    let work = room::words(draw, work);
+    let free = journal.of(draw, entry);
+    let model = room::recording(draw, samples.to_vec(), free);
+    repair(count, &mut Both::new(model), how, work)
 }
 
 /// Likewise, with enough room mostly.

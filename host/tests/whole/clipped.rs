@@ -1,6 +1,6 @@
 //! Recordings for declip: every way in which few samples can be clipped.
 use super::calls::Call;
-use crate::shared::count::Class;
+use cathar_host::count::Class;
 use cathar_host::draw::Draw;
 use cathar_host::whole::Repair;
 use std::ops::Range;

@@ -1,6 +1,6 @@
 //! Recordings for decrackle: every way in which few samples can be flagged.
 use super::calls::Call;
-use crate::shared::count::Class;
+use cathar_host::count::Class;
 use cathar_host::draw::Draw;
 use cathar_host::whole::{flagged, floats, Repair};
 use std::ops::Range;
@@ -30,20 +30,6 @@ pub fn each(draw: &mut Draw, put: &mut dyn FnMut(&mut Draw, &[u32])) {
             put(draw, &samples);
         }
     }
-}
-
-/// Samples of one shape with clicks of any magnitude, from below the least floor to the loudest.
-pub fn clicked(draw: &mut Draw, mut samples: Vec<u32>) -> Vec<u32> {
-    let n = samples.len() as u64;
-    for _ in 0..1 + draw.below(1 + n / 8) {
-        let place = draw.below(n) as usize;
-        let click = f32::from_bits((127 - 24 + draw.below(40) as u32) << 23 | (draw.below(2) as u32) << 31);
-        let x = f32::from_bits(samples[place]) + click;
-        if x.abs() <= 65536.0 {
-            samples[place] = x.to_bits();
-        }
-    }
-    samples
 }
 
 fn sensitivity(call: &Call) -> f32 {

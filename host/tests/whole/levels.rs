@@ -1,8 +1,8 @@
 //! Recordings for both forms of dequantize: samples on levels and halfway between them.
 use super::calls::Call;
-use super::settings::{self, ABOVE_THREE_TENTHS, BELOW_THREE_TENTHS, THREE_TENTHS};
-use crate::shared::count::Class;
+use cathar_host::count::Class;
 use cathar_host::draw::Draw;
+use cathar_host::settings::{self, ABOVE_THREE_TENTHS, BELOW_THREE_TENTHS, THREE_TENTHS};
 use cathar_host::whole::{floats, Repair};
 
 /// So many samples for these bits, held to 4..24: whole numbers of half steps, that wander slowly through -1 to 1.

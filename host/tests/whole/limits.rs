@@ -1,9 +1,9 @@
 //! Calls to which several refusals apply, and recordings of the most samples and of one more.
-use super::calls::{names, words};
+use super::calls::names;
 use super::clipped;
-use crate::shared::room;
 use cathar_host::draw::Draw;
 use cathar_host::recording::{entry_words, Recording, MOST_SAMPLES};
+use cathar_host::room;
 use cathar_host::whole::{needed, Repair};
 
 /// A call that is accepted and names a sample, and what is wrong in others like it.
@@ -98,7 +98,7 @@ impl Faults {
         if self.has(7) {
             samples[draw.below(n as u64) as usize] = [0x4780_0001, 0xff80_0000, 0x7fc0_0000][draw.below(3) as usize];
         }
-        let work = words(draw, needed(n) - usize::from(self.has(6)));
+        let work = room::words(draw, needed(n) - usize::from(self.has(6)));
         let mut recording = room::recording(draw, samples, free);
         if self.has(1) {
             recording.marks.push(0);
@@ -122,7 +122,7 @@ pub fn large(draw: &mut Draw, case: &Case, put: &mut dyn FnMut(Recording, Repair
     for n in [MOST_SAMPLES, MOST_SAMPLES + 1] {
         let samples = saw(n);
         let free = entry_words(names(case.repair, &samples));
-        let work = words(draw, needed(n));
+        let work = room::words(draw, needed(n));
         let mut whole = room::recording(draw, samples, free);
         for marks in [n - 1, n, n + 1] {
             let mut recording = whole.clone();

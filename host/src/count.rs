@@ -1,6 +1,6 @@
-//! The count of a comparison over many calls: what they were made on, what was answered, and where library
-//! and model differed.
-use cathar_host::tally::line;
+//! The count of a comparison over many calls, or over many sequences of them: what they were made on, what was
+//! answered, and where library and model differed.
+use crate::tally::line;
 use std::fmt::Write;
 
 /// How many differences are written out.
@@ -48,14 +48,19 @@ impl<C: std::fmt::Debug> Count<C> {
         }
     }
 
-    /// Whether a call differed.
-    pub fn differs(&self) -> bool {
-        self.differences > 0
-    }
-
     /// Prints the whole count, and panics where there are too few calls of a class or a call differed.
     pub fn close(&self, seed: u64) {
+        self.print(seed);
+        self.hold();
+    }
+
+    /// Prints the whole count.
+    pub fn print(&self, seed: u64) {
         print!("{}", self.report(seed));
+    }
+
+    /// Panics where there are too few calls of a class or a call differed.
+    pub fn hold(&self) {
         for (class, count) in &self.classes {
             assert!(*count >= class.least, "{}: {}: {count}, fewer than {}", self.title, class.name, class.least);
         }
@@ -64,7 +69,7 @@ impl<C: std::fmt::Debug> Count<C> {
 
     fn report(&self, seed: u64) -> String {
         let mut text = format!("{}, seed {:#x}\n", self.title, seed);
-        line(&mut text, "calls", self.sources.iter().map(|(_, count)| count).sum());
+        line(&mut text, "in all", self.sources.iter().map(|(_, count)| count).sum());
         for (source, count) in &self.sources {
             line(&mut text, source, *count);
         }

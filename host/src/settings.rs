@@ -1,6 +1,7 @@
 //! The settings of each repair: those on which something turns, and any.
-use cathar_host::draw::Draw;
-use cathar_host::whole::Repair;
+use crate::draw::Draw;
+use crate::inpaint::MOST_RATE;
+use crate::whole::Repair;
 
 /// Thresholds that are not allowed.
 pub const NO_THRESHOLDS: [f32; 8] = [0.0, -0.0, -1.0, -1e-45, f32::MIN, f32::INFINITY, f32::NEG_INFINITY, f32::NAN];
@@ -142,4 +143,31 @@ pub fn cosparse(draw: &mut Draw, samples: &[u32]) -> Repair {
     let choices = if few { FEW } else { ITERATIONS.len() as u64 };
     let iterations = ITERATIONS[draw.below(choices) as usize];
     Repair::Cosparse { bits: bits(draw), strength: strength(draw), iterations }
+}
+
+/// Passes over a gap: mostly 0 to 5, which the original is run with; at times the most.
+pub fn passes(draw: &mut Draw) -> u32 {
+    match draw.below(200) {
+        0 => u32::MAX,
+        _ => draw.below(6) as u32,
+    }
+}
+
+/// A rate and a longest gap in milliseconds: the settings of a scan.
+pub type OfScan = (u32, f32);
+
+/// 48 samples.
+pub const USUAL: OfScan = (48_000, 1.0);
+
+/// No limit.
+pub const UNLIMITED: OfScan = (48_000, f32::MAX);
+
+/// Settings that a scan does not allow.
+pub const NO_SCANS: [OfScan; 3] = [(MOST_RATE + 1, 1.0), (48_000, f32::NAN), (48_000, f32::INFINITY)];
+
+/// Settings whose limit is near so many samples, from below and from above: at the rate 1,000 the limit is the
+/// number of milliseconds, cut to a whole number.
+pub fn near(draw: &mut Draw, length: usize) -> OfScan {
+    let beside = [-1.0, -0.5, -0.01, 0.0, 0.01, 0.5, 0.99][draw.below(7) as usize];
+    (1_000, length as f32 + beside)
 }

@@ -1,7 +1,7 @@
 //! What a call is lent beside the samples: marks, a journal and a workspace, all of any words, and just long
 //! enough or not.
-use cathar_host::draw::Draw;
-use cathar_host::recording::Recording;
+use crate::draw::Draw;
+use crate::recording::Recording;
 
 /// How much is lent, by what is needed.
 #[derive(Clone, Copy, Debug, PartialEq, Eq)]
@@ -25,9 +25,10 @@ impl Room {
         }
     }
 
-    /// How many are lent where so many, at least one, are needed.
+    /// How many are lent where so many are needed. Where none is, none is too few.
     pub fn of(self, draw: &mut Draw, needed: usize) -> usize {
         match self {
+            _ if needed == 0 => draw.below(3) as usize,
             Room::OneShort => needed - 1,
             Room::Exact => needed,
             Room::Longer => needed + 1 + draw.below(9) as usize,
@@ -56,4 +57,9 @@ pub fn work(draw: &mut Draw, length: usize) -> Vec<u64> {
         }
     };
     (0..length).map(|_| next()).collect()
+}
+
+/// The words of a workspace of so many: any, and one in four a NaN.
+pub fn words(draw: &mut Draw, length: usize) -> Vec<u32> {
+    work(draw, length).into_iter().map(|pattern| (pattern >> 32) as u32).collect()
 }

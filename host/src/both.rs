@@ -1,0 +1,88 @@
+//! A recording on both sides: the model's, and the same words lent to the library. The two make each call, and
+//! what is then not the same is told.
+use crate::inpaint::{self, Gap, Scan};
+use crate::lent::{Lent, LentWords, LentWork, VALUE_BEFORE};
+use crate::recording::{Answer, Recording};
+use crate::settings::OfScan;
+use crate::whole::{self, Repair};
+
+/// What the library does not have as the model has it: parts of the lent memory, or the answer.
+pub type Wrong = Vec<&'static str>;
+
+pub struct Both {
+    pub model: Recording,
+    lent: Lent,
+}
+
+impl Both {
+    /// The library is lent the model's words.
+    pub fn new(model: Recording) -> Both {
+        let lent = Lent::new(&model);
+        Both { model, lent }
+    }
+
+    /// Both sides open the recording. No value is handed back.
+    pub fn open(&mut self) -> (Answer, Wrong) {
+        let answer = self.model.open();
+        let number = self.lent.open();
+        let wrong = self.lent.wrong(&self.model, VALUE_BEFORE);
+        (answer, with_answer(wrong, number, answer.number()))
+    }
+
+    /// Both sides take back the last entry.
+    pub fn undo(&mut self) -> (Answer, Wrong) {
+        let answer = self.model.undo();
+        let number = self.lent.undo();
+        let wrong = self.lent.wrong(&self.model, answer.value());
+        (answer, with_answer(wrong, number, answer.number()))
+    }
+
+    /// Both sides repair the gap in a workspace of these patterns.
+    pub fn inpaint_gap(&mut self, gap: Gap, passes: u32, mut work: Vec<u64>) -> (Answer, Wrong) {
+        let mut lent_work = LentWork::new(&work);
+        let answer = inpaint::inpaint_gap(&mut self.model, gap, passes, &mut work);
+        let number = self.lent.inpaint_gap(gap, passes, &mut lent_work);
+        let wrong = with_answer(self.lent.wrong(&self.model, answer.value()), number, answer.number());
+        (answer, with_work(wrong, lent_work.holds(&work)))
+    }
+
+    /// Both sides scan in a workspace of these patterns.
+    pub fn inpaint_auto(&mut self, (rate, max_gap_ms): OfScan, mut work: Vec<u64>) -> (Scan, Wrong) {
+        let mut lent_work = LentWork::new(&work);
+        let scan = inpaint::inpaint_auto(&mut self.model, rate, max_gap_ms, &mut work);
+        let number = self.lent.inpaint_auto(rate, max_gap_ms, &mut lent_work);
+        let wrong = self.lent.wrong_after_scan(&self.model, [scan.qualified(), scan.repaired()]);
+        let wrong = with_work(with_answer(wrong, number, scan.number()), lent_work.holds(&work));
+        (scan, wrong)
+    }
+
+    /// Both sides make a repair over the whole recording in a workspace of these words.
+    pub fn repair(&mut self, repair: Repair, mut work: Vec<u32>) -> (Answer, Wrong) {
+        let mut lent_work = LentWords::new(&work);
+        let answer = whole::repair(&mut self.model, repair, &mut work);
+        let number = self.lent.repair(repair, &mut lent_work);
+        let wrong = with_answer(self.lent.wrong(&self.model, answer.value()), number, answer.number());
+        (answer, with_work(wrong, lent_work.holds(&work)))
+    }
+
+    /// The parts of the library's recording that are not what this one has.
+    pub fn wrong_recording(&self, recording: &Recording) -> Wrong {
+        self.lent.wrong_recording(recording)
+    }
+}
+
+/// The answer is among what is wrong where the numbers differ.
+fn with_answer(mut wrong: Wrong, library: u32, model: u32) -> Wrong {
+    if library != model {
+        wrong.push("answer");
+    }
+    wrong
+}
+
+/// The workspace is, where it is not as the model leaves it.
+fn with_work(mut wrong: Wrong, right: bool) -> Wrong {
+    if !right {
+        wrong.push("workspace");
+    }
+    wrong
+}

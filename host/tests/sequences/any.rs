@@ -1,0 +1,178 @@
+//! Any recording, and any call on a recording.
+use super::calls::Call;
+use cathar_host::damage::{self, DROPOUTS, ZEROS};
+use cathar_host::draw::Draw;
+use cathar_host::inpaint::{qualified, Gap};
+use cathar_host::recording::{entry_words, in_range, Recording};
+use cathar_host::room::{self, Room};
+use cathar_host::settings::{self, NO_SCANS, UNLIMITED, USUAL};
+use cathar_host::shapes::Shape;
+use cathar_host::whole::needed;
+
+/// The longest dropout, the longest of most gaps, and the longest of nearly all that are not filled by a line.
+const DROPOUT: usize = 30;
+const SHORT: u64 = 60;
+const LONG: u64 = 300;
+
+/// The fewest samples of a gap that is filled by a line.
+const LINE: usize = 2049;
+
+/// The most samples of a recording in which a scan may find a run every few samples.
+const FULL_OF_RUNS: usize = 300;
+
+/// Whether it is that one time in so many.
+fn once_in(draw: &mut Draw, times: u64) -> bool {
+    draw.below(times) == 0
+}
+
+/// One number from the first to the last.
+fn from_to(draw: &mut Draw, first: usize, last: usize) -> usize {
+    first + draw.below((last - first + 1) as u64) as usize
+}
+
+/// A recording of n samples that is not opened yet, with a journal for so many repairs or for fewer.
+pub fn recording(draw: &mut Draw, n: usize, repairs: usize) -> Recording {
+    let mut samples = shape(draw, n).samples(draw, n);
+    if n > 0 {
+        damaged(draw, &mut samples);
+    }
+    let length = journal(draw, n, repairs);
+    unopened(draw, samples, length)
+}
+
+/// The shape of n samples. The one whose results are at times not in range is likelier than others. The one that is
+/// full of runs is left out where there are many samples, since the original takes its time for each run.
+fn shape(draw: &mut Draw, n: usize) -> Shape {
+    let any = Shape::ALL[draw.below(Shape::ALL.len() as u64) as usize];
+    if once_in(draw, 6) || any == Shape::Words && n > FULL_OF_RUNS {
+        Shape::Signs
+    } else {
+        any
+    }
+}
+
+/// A recording of these samples that is not opened yet, with so long a journal: marks, journal and used are any.
+pub fn unopened(draw: &mut Draw, samples: Vec<u32>, length: usize) -> Recording {
+    let mut recording = room::recording(draw, samples, length);
+    recording.journal.truncate(length);
+    recording
+}
+
+/// Samples that are clipped, have clicks, drop out and are not in range: each or not. Mostly what drops out is in
+/// range, so that a repair over the whole recording may follow.
+fn damaged(draw: &mut Draw, samples: &mut [u32]) {
+    if once_in(draw, 3) {
+        damage::clip(draw, samples);
+    }
+    if once_in(draw, 3) {
+        damage::click(draw, samples);
+    }
+    if !once_in(draw, 3) {
+        let words = if once_in(draw, 3) { &DROPOUTS[..] } else { &DROPOUTS[..ZEROS] };
+        let longest = from_to(draw, 2, DROPOUT);
+        damage::drop_out(draw, samples, longest, words);
+    }
+    if once_in(draw, 12) {
+        damage::overload(draw, samples);
+    }
+}
+
+/// The journal's length: a few words; room for part of a repair or for one; for some that name all samples that
+/// dequantize does, and a word more or less; and half the time for all.
+fn journal(draw: &mut Draw, n: usize, repairs: usize) -> usize {
+    match draw.below(10) {
+        0 => draw.below(12) as usize,
+        1 => draw.below(3 * n as u64 + 9) as usize,
+        2..=4 => {
+            let most = entry_words(n.saturating_sub(2));
+            most * from_to(draw, 1, 4) + 1 - draw.below(3) as usize
+        }
+        _ => entry_words(n) * repairs,
+    }
+}
+
+/// Any call: mostly a repair, and one in six times an undo.
+pub fn call(draw: &mut Draw, on: &Recording) -> Call {
+    match draw.below(96) {
+        0 => Call::Open,
+        1..=16 => Call::Undo,
+        17..=40 => gap(draw, &on.samples),
+        41..=56 => scan(draw, &on.samples),
+        _ => whole(draw, &on.samples),
+    }
+}
+
+/// The repair of any gap: one that is not within the samples, one over samples that are not in range, or any.
+fn gap(draw: &mut Draw, samples: &[u32]) -> Call {
+    let n = samples.len();
+    let passes = settings::passes(draw);
+    if n == 0 || once_in(draw, 12) {
+        let gap = outside(draw, n);
+        return Call::Gap { gap, passes, work: draw.below(3_000) as usize };
+    }
+    let over = if once_in(draw, 2) { out_of_range(draw, samples) } else { None };
+    let gap = over.unwrap_or_else(|| within(draw, n));
+    Call::Gap { gap, passes, work: Room::any(draw).of(draw, gap.needed(n)) }
+}
+
+/// A gap that is not within n samples: of no length, past the end, or at the end of what a number can be.
+fn outside(draw: &mut Draw, n: usize) -> Gap {
+    let start = draw.below(n as u64 + 1) as usize;
+    let more = 1 + draw.below(5) as usize;
+    match draw.below(4) {
+        0 => Gap { start, len: 0 },
+        1 => Gap { start, len: n - start + more },
+        2 => Gap { start: n + more - 1, len: more },
+        _ => Gap { start, len: usize::MAX - draw.below(2) as usize },
+    }
+}
+
+/// The samples that are not in range, from any one of them on and back to the first beside it; nothing, where all
+/// are.
+fn out_of_range(draw: &mut Draw, samples: &[u32]) -> Option<Gap> {
+    let places: Vec<usize> = (0..samples.len()).filter(|place| !in_range(samples[*place])).collect();
+    if places.is_empty() {
+        return None;
+    }
+    let any = places[draw.below(places.len() as u64) as usize];
+    let before = samples[..any].iter().rev().take_while(|word| !in_range(**word)).count();
+    let from = samples[any..].iter().take_while(|word| !in_range(**word)).count();
+    Some(Gap { start: any - before, len: before + from })
+}
+
+/// A gap within n samples: mostly short, at times longer, and of many samples at times by line.
+fn within(draw: &mut Draw, n: usize) -> Gap {
+    if n >= LINE && once_in(draw, 4) {
+        let len = from_to(draw, LINE, n);
+        return Gap { start: from_to(draw, 0, n - len), len };
+    }
+    let start = draw.below(n as u64) as usize;
+    let most = if once_in(draw, 40) { LONG } else { 1 + draw.below(SHORT) };
+    Gap { start, len: 1 + draw.below(most.min((n - start) as u64)) as usize }
+}
+
+/// Any scan. Its workspace is mostly enough for all runs, and at times for any one of them.
+fn scan(draw: &mut Draw, samples: &[u32]) -> Call {
+    let limit = from_to(draw, 3, 12);
+    let settings = match draw.below(16) {
+        0 => NO_SCANS[draw.below(NO_SCANS.len() as u64) as usize],
+        1..=8 => USUAL,
+        9..=13 => settings::near(draw, limit),
+        _ => UNLIMITED,
+    };
+    let runs = qualified(samples, settings.0, settings.1).unwrap_or_default();
+    let needs: Vec<usize> = runs.iter().map(|run| run.needed(samples.len())).collect();
+    let needed = match needs.len() {
+        0 => draw.below(100) as usize,
+        count if once_in(draw, 6) => needs[draw.below(count as u64) as usize],
+        _ => needs.into_iter().max().unwrap_or(0),
+    };
+    Call::Scan { settings, work: Room::any(draw).of(draw, needed) }
+}
+
+/// Any of the four repairs over the whole recording.
+fn whole(draw: &mut Draw, samples: &[u32]) -> Call {
+    let all = [settings::declip, settings::decrackle, settings::dequantize, settings::cosparse];
+    let repair = all[draw.below(4) as usize](draw, samples);
+    Call::Whole { repair, work: Room::any(draw).of(draw, needed(samples.len())) }
+}

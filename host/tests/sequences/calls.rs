@@ -1,0 +1,89 @@
+//! A call of the library on a recording, and what comes of it on both sides.
+use cathar_host::both::{Both, Wrong};
+use cathar_host::draw::Draw;
+use cathar_host::inpaint::{Gap, Scan, SCAN_PASSES};
+use cathar_host::recording::Answer;
+use cathar_host::room;
+use cathar_host::settings::OfScan;
+use cathar_host::whole::{needed, Repair};
+
+/// Any call but those of the float leaves, which have no recording. `work` is how long the workspace is.
+#[derive(Clone, Copy, Debug, PartialEq)]
+pub enum Call {
+    Open,
+    Undo,
+    Gap { gap: Gap, passes: u32, work: usize },
+    Scan { settings: OfScan, work: usize },
+    Whole { repair: Repair, work: usize },
+}
+
+/// A call that is a single repair, with just enough workspace, and how many samples it named: at least one.
+pub type Named = (Call, usize);
+
+/// What the model answers to a call.
+#[derive(Debug)]
+pub struct Outcome {
+    /// 0, or the number of the refusal; of a scan, that of the first run that was refused.
+    pub number: u32,
+    /// What an undo took back, m; 0 for all else.
+    pub undone: usize,
+    /// The single repairs that were accepted and named a sample, in their order. Of a scan those of its runs.
+    pub named: Vec<Named>,
+    /// How many runs of a scan were refused.
+    pub refused_runs: usize,
+}
+
+impl Call {
+    /// Both sides make the call, in a workspace of any words. The outcome is the model's.
+    pub fn make(self, draw: &mut Draw, both: &mut Both) -> (Outcome, Wrong) {
+        let n = both.model.samples.len();
+        match self {
+            Call::Open => {
+                let (answer, wrong) = both.open();
+                (of_answer(answer), wrong)
+            }
+            Call::Undo => {
+                let (answer, wrong) = both.undo();
+                (Outcome { undone: answer.value(), ..of_answer(answer) }, wrong)
+            }
+            Call::Gap { gap, passes, work } => {
+                let (answer, wrong) = both.inpaint_gap(gap, passes, room::work(draw, work));
+                (of_repair(answer, || of_gap(gap, passes, n)), wrong)
+            }
+            Call::Scan { settings, work } => {
+                let (scan, wrong) = both.inpaint_auto(settings, room::work(draw, work));
+                (of_runs(&scan, n), wrong)
+            }
+            Call::Whole { repair, work } => {
+                let (answer, wrong) = both.repair(repair, room::words(draw, work));
+                (of_repair(answer, || Call::Whole { repair, work: needed(n) }), wrong)
+            }
+        }
+    }
+}
+
+/// The repair of a gap within n samples, with just enough workspace.
+fn of_gap(gap: Gap, passes: u32, n: usize) -> Call {
+    Call::Gap { gap, passes, work: gap.needed(n) }
+}
+
+/// The outcome of a call that names no sample.
+fn of_answer(answer: Answer) -> Outcome {
+    Outcome { number: answer.number(), undone: 0, named: Vec::new(), refused_runs: 0 }
+}
+
+/// The outcome of a single repair, which is this one with just enough workspace.
+fn of_repair(answer: Answer, exact: impl FnOnce() -> Call) -> Outcome {
+    match answer {
+        Answer::Accepted(m) if m > 0 => Outcome { named: vec![(exact(), m)], ..of_answer(answer) },
+        _ => of_answer(answer),
+    }
+}
+
+/// The outcome of a scan of n samples: "each run is one gap repair with its own answer".
+fn of_runs(scan: &Scan, n: usize) -> Outcome {
+    let accepted = scan.runs().iter().filter(|(_, answer)| answer.number() == 0);
+    let named = accepted.map(|(run, answer)| (of_gap(*run, SCAN_PASSES, n), answer.value())).collect();
+    let refused_runs = scan.qualified() - scan.repaired();
+    Outcome { number: scan.number(), undone: 0, named, refused_runs }
+}

@@ -1,0 +1,183 @@
+//! What the calls and the sequences have to be.
+use super::calls::Call;
+use super::history::{History, Step, Survivor};
+use cathar_host::count::Class;
+use cathar_host::recording::entry_words;
+use cathar_host::whole::Repair;
+
+/// The kinds of calls.
+#[derive(Clone, Copy, PartialEq, Eq, PartialOrd, Ord)]
+enum Kind {
+    Open,
+    Undo,
+    Gap,
+    Line,
+    Scan,
+    Declip,
+    Decrackle,
+    Dequantize,
+    Cosparse,
+}
+
+/// The kind of a call: a gap is by model or by line, and each function over the whole recording is a kind.
+fn kind(call: Call) -> Kind {
+    match call {
+        Call::Open => Kind::Open,
+        Call::Undo => Kind::Undo,
+        Call::Gap { gap, .. } if gap.is_line() => Kind::Line,
+        Call::Gap { .. } => Kind::Gap,
+        Call::Scan { .. } => Kind::Scan,
+        Call::Whole { repair: Repair::Declip { .. }, .. } => Kind::Declip,
+        Call::Whole { repair: Repair::Decrackle { .. }, .. } => Kind::Decrackle,
+        Call::Whole { repair: Repair::Dequantize { .. }, .. } => Kind::Dequantize,
+        Call::Whole { repair: Repair::Cosparse { .. }, .. } => Kind::Cosparse,
+    }
+}
+
+impl Step {
+    /// Whether it is a call of this kind.
+    fn is(&self, of: Kind) -> bool {
+        kind(self.call) == of
+    }
+
+    /// Whether it is the repair of a gap, by model or by line.
+    fn is_gap(&self) -> bool {
+        matches!(self.call, Call::Gap { .. })
+    }
+
+    /// Whether it is one of the four repairs over the whole recording.
+    fn is_whole(&self) -> bool {
+        matches!(self.call, Call::Whole { .. })
+    }
+
+    /// Whether a repair was accepted and named a sample.
+    fn names(&self) -> bool {
+        !self.outcome.named.is_empty()
+    }
+
+    /// Whether it did so as a call of this kind.
+    fn names_by(&self, of: Kind) -> bool {
+        self.names() && self.is(of)
+    }
+
+    /// The number that the model answers.
+    fn number(&self) -> u32 {
+        self.outcome.number
+    }
+
+    /// Whether its entries take all the words that were free.
+    fn fills_journal(&self) -> bool {
+        self.names() && self.outcome.named.iter().map(|(_, m)| entry_words(*m)).sum::<usize>() == self.free
+    }
+
+    /// Whether it is a run of a scan that was undone.
+    fn undoes_run(&self) -> bool {
+        self.undone.map_or(false, |survivor| survivor.scan.is_some())
+    }
+}
+
+/// What the calls of the sequences have to be, all of them together.
+pub const CALLS: &[Class<Step>] = &[
+    Class { name: "opened", least: 10_000, holds: |s| s.is(Kind::Open) },
+    Class { name: "opened again, with survivors", least: 500, holds: |s| s.is(Kind::Open) && s.survivors > 0 },
+    Class { name: "a gap by model", least: 15_000, holds: |s| s.names_by(Kind::Gap) },
+    Class { name: "a gap by line", least: 20, holds: |s| s.names_by(Kind::Line) },
+    Class { name: "a scan", least: 1_200, holds: |s| s.names_by(Kind::Scan) },
+    Class { name: "of several runs", least: 400, holds: |s| s.is(Kind::Scan) && s.outcome.named.len() > 1 },
+    Class { name: "refused in part", least: 150, holds: |s| s.names_by(Kind::Scan) && s.outcome.refused_runs > 0 },
+    Class { name: "declip", least: 3_000, holds: |s| s.names_by(Kind::Declip) },
+    Class { name: "decrackle", least: 3_000, holds: |s| s.names_by(Kind::Decrackle) },
+    Class { name: "dequantize", least: 4_000, holds: |s| s.names_by(Kind::Dequantize) },
+    Class { name: "dequantize_cosparse", least: 3_000, holds: |s| s.names_by(Kind::Cosparse) },
+    Class { name: "accepted, naming none", least: 8_000, holds: |s| s.is_whole() && s.number() == 0 && !s.names() },
+    Class { name: "a gap over samples that a repair made", least: 8_000, holds: |s| s.is_gap() && s.over },
+    Class { name: "a scan over samples that a repair made", least: 150, holds: |s| s.is(Kind::Scan) && s.over },
+    Class { name: "another over samples that a repair made", least: 10_000, holds: |s| s.is_whole() && s.over },
+    Class { name: "naming a sample, after an undo", least: 15_000, holds: |s| s.names() && s.after_undo },
+    Class { name: "filling the journal", least: 250, holds: Step::fills_journal },
+    Class { name: "naming one of 4,000 samples or more", least: 80, holds: |s| s.names() && s.samples >= 4_000 },
+    Class { name: "on 0 samples", least: 1_500, holds: |s| s.samples == 0 },
+    Class { name: "undone", least: 10_000, holds: |s| s.undone.is_some() },
+    Class { name: "undone, a run of a scan", least: 400, holds: Step::undoes_run },
+    Class { name: "a scan answered 4", least: 1_000, holds: |s| s.number() == 4 && s.is(Kind::Scan) },
+    Class { name: "a repair of all samples answered 4", least: 1_000, holds: |s| s.number() == 4 && s.is_whole() },
+    Class { name: "a gap answered 5", least: 2_500, holds: |s| s.number() == 5 },
+    Class { name: "a gap answered 6", least: 2_500, holds: |s| s.number() == 6 && s.is_gap() },
+    Class { name: "a scan answered 6", least: 300, holds: |s| s.number() == 6 && s.is(Kind::Scan) },
+    Class { name: "a repair of all samples answered 6", least: 4_500, holds: |s| s.number() == 6 && s.is_whole() },
+    Class { name: "a gap answered 7", least: 2_500, holds: |s| s.number() == 7 && s.is_gap() },
+    Class { name: "a scan answered 7", least: 900, holds: |s| s.number() == 7 && s.is(Kind::Scan) },
+    Class { name: "a repair of all samples answered 7", least: 6_000, holds: |s| s.number() == 7 && s.is_whole() },
+    Class { name: "a gap answered 8", least: 15, holds: |s| s.number() == 8 && s.is_gap() },
+    Class { name: "a scan answered 8", least: 4, holds: |s| s.number() == 8 && s.is(Kind::Scan) },
+    Class { name: "a repair of all samples answered 8", least: 700, holds: |s| s.number() == 8 && s.is_whole() },
+    Class { name: "a gap answered 9", least: 3_000, holds: |s| s.number() == 9 && s.is_gap() },
+    Class { name: "a scan answered 9", least: 400, holds: |s| s.number() == 9 && s.is(Kind::Scan) },
+    Class { name: "a repair of all samples answered 9", least: 5_000, holds: |s| s.number() == 9 && s.is_whole() },
+    Class { name: "an undo answered 10", least: 7_000, holds: |s| s.number() == 10 },
+];
+
+/// What the repairs that are replayed have to be, beside the opening of each fresh copy.
+pub const REPLAYED: &[Class<Step>] = &[
+    Class { name: "gaps by model", least: 10_000, holds: |s| s.names_by(Kind::Gap) },
+    Class { name: "gaps by line", least: 15, holds: |s| s.names_by(Kind::Line) },
+    Class { name: "declip", least: 1_800, holds: |s| s.names_by(Kind::Declip) },
+    Class { name: "decrackle", least: 1_800, holds: |s| s.names_by(Kind::Decrackle) },
+    Class { name: "dequantize", least: 2_000, holds: |s| s.names_by(Kind::Dequantize) },
+    Class { name: "dequantize_cosparse", least: 1_800, holds: |s| s.names_by(Kind::Cosparse) },
+];
+
+/// What the undos at the end have to be: one for each survivor, and one more in each sequence.
+pub const UNDONE: &[Class<Step>] = &[
+    Class { name: "undone", least: 15_000, holds: |s| s.undone.is_some() },
+    Class { name: "answered 10", least: 10_000, holds: |s| s.number() == 10 },
+];
+
+/// A sequence when its calls have been made.
+#[derive(Debug)]
+pub struct Ended {
+    pub samples: usize,
+    pub calls: usize,
+    pub survivors: Vec<Survivor>,
+    /// How many repairs were undone since it was last opened, and how often it was opened.
+    pub undone: usize,
+    pub opened: usize,
+    /// Whether of a scan that repaired several runs some survive and some do not.
+    pub partly: bool,
+}
+
+impl Ended {
+    /// This recording after so many calls.
+    pub fn new(history: &History, calls: usize) -> Ended {
+        let survivors = history.survivors.clone();
+        let of = |scan: usize| survivors.iter().filter(|survivor| survivor.scan == Some(scan)).count();
+        let partly = history.scans.iter().enumerate().any(|(scan, runs)| of(scan) > 0 && of(scan) < *runs);
+        let samples = history.both.model.samples.len();
+        Ended { samples, calls, survivors, undone: history.undone, opened: history.opened, partly }
+    }
+
+    /// How many kinds of repairs there are among the survivors.
+    fn kinds(&self) -> usize {
+        let mut kinds: Vec<Kind> = self.survivors.iter().map(|survivor| kind(survivor.call)).collect();
+        kinds.sort_unstable();
+        kinds.dedup();
+        kinds.len()
+    }
+}
+
+/// What the sequences have to be, all of them together.
+pub const SEQUENCES: &[Class<Ended>] = &[
+    Class { name: "sequences", least: 10_000, holds: |_| true },
+    Class { name: "on 0 samples", least: 80, holds: |e| e.samples == 0 },
+    Class { name: "on 1 to 7 samples", least: 600, holds: |e| (1..8).contains(&e.samples) },
+    Class { name: "on 4,000 samples or more", least: 30, holds: |e| e.samples >= 4_000 },
+    Class { name: "of 20 calls or more", least: 2_000, holds: |e| e.calls >= 20 },
+    Class { name: "without a survivor", least: 1_000, holds: |e| e.survivors.is_empty() },
+    Class { name: "5 survivors or more", least: 1_500, holds: |e| e.survivors.len() >= 5 },
+    Class { name: "10 survivors or more", least: 400, holds: |e| e.survivors.len() >= 10 },
+    Class { name: "survivors of 4 kinds or more", least: 600, holds: |e| e.kinds() >= 4 },
+    Class { name: "a survivor over an earlier one", least: 2_500, holds: |e| e.survivors.iter().any(|s| s.over) },
+    Class { name: "with survivors, and with undone", least: 2_500, holds: |e| e.undone > 0 && !e.survivors.is_empty() },
+    Class { name: "a scan of several runs, undone in part", least: 100, holds: |e| e.partly },
+    Class { name: "opened again", least: 800, holds: |e| e.opened > 1 },
+];

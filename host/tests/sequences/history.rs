@@ -1,0 +1,150 @@
+//! A recording with what has been done to it since it was opened: the raw words, and the repairs that survive.
+use super::calls::{Call, Outcome};
+use cathar_host::both::{Both, Wrong};
+use cathar_host::draw::Draw;
+use cathar_host::recording::{entry_words, Recording};
+
+/// What has no place in a sequence of calls that begins with opening: marks that are too few or too many, more than
+/// the most samples, used past the journal, and a malformed entry.
+const NEVER: [u32; 4] = [1, 2, 3, 11];
+
+/// A repair that was accepted, named a sample and is not undone.
+#[derive(Clone, Copy, Debug)]
+pub struct Survivor {
+    pub call: Call,
+    pub m: usize,
+    /// Which scan it is a run of, by the number of scans before that one, if it is a run of one.
+    pub scan: Option<usize>,
+    /// Whether it named a sample that an earlier survivor had made.
+    pub over: bool,
+}
+
+/// One call of a sequence, on the recording as it was before.
+#[derive(Debug)]
+pub struct Step {
+    pub call: Call,
+    pub outcome: Outcome,
+    /// How many samples there are, how many words of the journal were free, and how many repairs survived.
+    pub samples: usize,
+    pub free: usize,
+    pub survivors: usize,
+    /// The repair that an undo took back.
+    pub undone: Option<Survivor>,
+    /// Whether a named sample had been made by an earlier repair, and whether something had been undone before.
+    pub over: bool,
+    pub after_undo: bool,
+}
+
+/// A recording on both sides, and what has been done to it.
+pub struct History {
+    pub both: Both,
+    /// The samples as they were when the recording was last opened.
+    raw: Vec<u32>,
+    /// The repairs that survive, the oldest first.
+    pub survivors: Vec<Survivor>,
+    /// How many runs each scan repaired, and how many repairs were undone, since then.
+    pub scans: Vec<usize>,
+    pub undone: usize,
+    /// How often it was opened.
+    pub opened: usize,
+}
+
+impl History {
+    /// A recording that is yet to be opened.
+    pub fn new(recording: Recording) -> History {
+        let raw = recording.samples.clone();
+        History { both: Both::new(recording), raw, survivors: Vec::new(), scans: Vec::new(), undone: 0, opened: 0 }
+    }
+
+    /// Both sides make the call, and what must hold after each is looked at.
+    pub fn make(&mut self, draw: &mut Draw, call: Call) -> (Step, Wrong) {
+        let before = self.both.model.clone();
+        let (survivors, after_undo) = (self.survivors.len(), self.undone > 0);
+        let (outcome, mut wrong) = call.make(draw, &mut self.both);
+        let undone = if call == Call::Undo { self.take_back(&outcome, &mut wrong) } else { None };
+        if call == Call::Open {
+            self.begin_anew(&before);
+        }
+        let over = self.survive(&before, call, &outcome);
+        wrong.extend(self.broken(&before, call, &outcome));
+        let (samples, free) = (before.samples.len(), before.journal.len().saturating_sub(before.used));
+        (Step { call, outcome, samples, free, survivors, undone, over, after_undo }, wrong)
+    }
+
+    /// What is raw is what there was before the recording was opened.
+    fn begin_anew(&mut self, before: &Recording) {
+        self.raw = before.samples.clone();
+        self.survivors.clear();
+        self.scans.clear();
+        self.undone = 0;
+        self.opened += 1;
+    }
+
+    /// An accepted undo takes back the last survivor, and one is accepted exactly where there is one.
+    fn take_back(&mut self, outcome: &Outcome, wrong: &mut Wrong) -> Option<Survivor> {
+        let last = self.survivors.pop();
+        if outcome.number != if last.is_some() { 0 } else { 10 } {
+            wrong.push("whether there is something to undo");
+        }
+        if outcome.undone != last.map_or(0, |survivor| survivor.m) {
+            wrong.push("how many samples the undone repair named");
+        }
+        self.undone += usize::from(last.is_some());
+        last
+    }
+
+    /// The repairs that a call has made join the survivors. Whether one is over a sample that an earlier survivor
+    /// had made: its entry then has an old mark that is not 0.
+    fn survive(&mut self, before: &Recording, call: Call, outcome: &Outcome) -> bool {
+        let mut start = before.used;
+        let scan = matches!(call, Call::Scan { .. }).then(|| self.scans.len());
+        for (call, m) in outcome.named.iter().copied() {
+            let named = &self.both.model.journal[start..start + 3 * m];
+            let over = named.chunks(3).any(|sample| sample[2] != 0);
+            self.survivors.push(Survivor { call, m, scan, over });
+            start += entry_words(m);
+        }
+        if scan.is_some() {
+            self.scans.push(outcome.named.len());
+        }
+        self.survivors[self.survivors.len() - outcome.named.len()..].iter().any(|survivor| survivor.over)
+    }
+
+    /// What is wrong whatever the model says: a sample that is marked as measured and has not its raw word, a used
+    /// that is not what the entries of the survivors take, a change by a call that names no sample and takes nothing
+    /// back, and an answer that no sequence gives.
+    fn broken(&self, before: &Recording, call: Call, outcome: &Outcome) -> Wrong {
+        let model = &self.both.model;
+        let measured = |place: &usize| model.marks[*place] == 0;
+        let raw = (0..self.raw.len()).filter(measured).all(|place| model.samples[place] == self.raw[place]);
+        let entries: usize = self.survivors.iter().map(|survivor| entry_words(survivor.m)).sum();
+        let changes = match call {
+            Call::Open => true,
+            Call::Undo => outcome.number == 0,
+            _ => !outcome.named.is_empty(),
+        };
+        let wrong = [
+            ("a measured sample from its raw word", !raw),
+            ("used from what the survivors take", model.used != entries),
+            ("the recording from what it was", !changes && model != before),
+            ("an answer that no sequence gives", NEVER.contains(&outcome.number)),
+        ];
+        wrong.into_iter().filter(|(_, wrong)| *wrong).map(|(name, _)| name).collect()
+    }
+
+    /// The raw recording, opened, with a journal as long: marks 0, all journal words 0, used 0.
+    pub fn raw(&self) -> Recording {
+        let (n, length) = (self.raw.len(), self.both.model.journal.len());
+        Recording { samples: self.raw.clone(), marks: vec![0; n], journal: vec![0; length], used: 0 }
+    }
+
+    /// What of this recording is not the same as the other, on either side.
+    pub fn differing(&self, other: &History) -> Wrong {
+        let mut wrong = self.both.wrong_recording(&other.both.model);
+        wrong.extend(other.both.wrong_recording(&self.both.model));
+        if self.both.model != other.both.model {
+            wrong.push("the model's recording");
+        }
+        wrong
+    }
+}
