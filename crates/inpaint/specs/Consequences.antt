@@ -1,5 +1,5 @@
--- What follows from the rules of a gap and of the scan. Statements only, each proved in proofs/ under the same name, written small:
--- those of a gap in Plans.antt and Lawful.antt, those of a scan in Scans.antt and Rooms.antt.
+-- What follows from the rules of a gap and of the scan. Statements only, each proved under the same name, written small, in
+-- Plans.antt, Lawful.antt, Scans.antt or Rooms.antt of proofs/, which nobody has to read.
 use Prim.Native.Nat.{ℕ, _*_, _≤_}
 use mathlib.Core.Path.{_≡_}
 use mathlib.Core.Bool.{false}

@@ -66,7 +66,7 @@ fn model_fill(gap: &mut [u32], results: &[f64])
     ensures { λ _. ⌜ now (gap .exit) ≡ map narrowWord (now (results .entry)) ⌝ }
 {
     let mut i: usize = 0;
-    while i < results.len() {
+    while i < gap.len() {
         gap[i] = word_of_double(results[i]);
         i += 1;
     }

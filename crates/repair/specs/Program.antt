@@ -1,6 +1,7 @@
--- The program: document 01's section of that name, whose sentences the comments quote. Definitions, and then two statements, which
--- are proved in proofs/Suffices.antt under the same names, written small.
+-- The program: document 01's section of that name, whose sentences the comments quote. Definitions, and then three statements,
+-- which are proved in proofs/Suffices.antt under the same names, written small.
 use Prim.Native.Nat.{ℕ, zero, suc, _+_, _*_, _%_, _≤_}
+use mathlib.Core.Path.{_≡_}
 use mathlib.Core.Bool.{Bool, not, _||_}
 use mathlib.Core.List.{List, [], _∷_}
 use lib.ListN.{length, getD, replicate}
@@ -9,7 +10,7 @@ use lib.Ieee.{Float}
 use Rattle.leaves.specs.Arithmetic.{nought, one}
 use Rattle.recording.specs.Recording.{State, opened}
 use Rattle.recording.specs.History.{fresh}
-use Rattle.inpaint.specs.Auto.{Scan, automatic}
+use Rattle.inpaint.specs.Auto.{Scan, limit, automatic}
 use Rattle.inpaint.specs.Runs.{runAnswers}
 use Rattle.inpaint.specs.Consequences.{NoneHas}
 
@@ -64,6 +65,7 @@ pub record Report : Type 0 where
   pub samples : List ℕ
   pub marks : List ℕ
 
+-- from what is counted and left, and of a scan
 abbrev pub report : ℕ → ℕ → ℕ → List ℕ → List ℕ → Report
 report q r k s m = record { qualified = q; repaired = r; refused = k; samples = s; marks = m }
 
@@ -78,6 +80,10 @@ reported bytes marks =
     reportOf (repairing (replicate workspace nought) (fresh words marks journalWords))
 
 -- ---- What suffices
+
+-- "the limit 1 ms (48 samples)"
+abbrev pub LimitIs48 : Type 0
+LimitIs48 = limit limitMs rate ≡ 48
 
 -- "which always suffices": of a recording of at most 4,096 samples no run is refused for want of room in the journal
 abbrev pub JournalSuffices : Type 0
