@@ -1,6 +1,6 @@
 -- The demands, as specs/Demands.antt states them: a call leaves what its rules leave, one after the other, so that what the crate
 -- `recording` shows of any sequence of rules holds of any sequence of calls. Assumes nothing.
-use mathlib.Core.Path.{_≡_, refl, sym, ap, _∙_}
+use mathlib.Core.Path.{_≡_, refl, sym, ap, subst, _∙_}
 use mathlib.Core.List.{List, [], _∷_, _++_, reverse}
 use mathlib.Core.Logic.{inl, inr}
 use Prim.Native.Nat.{ℕ, zero, suc, _≤_, _<_}
@@ -14,7 +14,7 @@ use Rattle.recording.specs.declared.Reason.the-variants.{Setting}
 use Rattle.recording.specs.declared.Answer.{Answer}
 use Rattle.recording.specs.declared.Answer.the-variants.{Done, Refused}
 use Rattle.recording.proofs.History as history
-use Rattle.recording.proofs.Single.{did-keeps}
+use Rattle.recording.proofs.Single.{did-keeps, accepted-as-ruled}
 use Rattle.recording.proofs.open.Laws.{EitherWay, truth}
 use Rattle.inpaint.specs.Gap.{gapPlan, gapRepair}
 use Rattle.inpaint.specs.Auto.{limit, scannable, automatic, allowed}
@@ -29,7 +29,7 @@ use Rattle.decrackle.proofs.Consequences.{decrackle-lawful}
 use Rattle.dequant.proofs.Consequences.{dequantize-lawful, cosparse-lawful}
 use Rattle.cathar.specs.Calls.{Call, gap, scan, declip, decrackle, dequantize, cosparse, undo, ran}
 use Rattle.cathar.specs.Demands.{RefusalChangesNothing, RefusedScanChangesNothing, RulesAreLawful, after, AfterAny}
-use Rattle.cathar.specs.Demands.{scanned, rules, CallIsItsRules, allRules, Demand3, SurvivorsStand}
+use Rattle.cathar.specs.Demands.{scanned, rules, CallIsItsRules, Demand2, allRules, Demand3, SurvivorsStand}
 use Rattle.cathar.specs.Demands.{UndoingAll, MeasuredIsRaw, EntriesAreSurvivors}
 
 -- ---- A call is its rules
@@ -139,6 +139,15 @@ rules-are-lawful (decrackle sensitivity work) s = (decrackle-lawful sensitivity 
 rules-are-lawful (dequantize bits strength work) s = (dequantize-lawful bits strength (length work), tt)
 rules-are-lawful (cosparse bits strength iterations work) s = (cosparse-lawful bits strength iterations (length work), tt)
 rules-are-lawful undo s = tt
+
+-- a call that counts as one lawful repair ends as that does
+pub demand-2 : Demand2
+demand-2 c s r mark cs m e p h =
+    let lawful : single.Lawful (single.repair r ∷ []) = subst single.Lawful e (rules-are-lawful c s) in
+    let after : ran c s .after ≡ single.did (single.repair r) s .after =
+    call-is-its-rules c s ∙ ap (λ (ds : List single.Call). single.run ds s) e ∙ sym (alone (single.repair r) s _ refl)
+    in
+    rw after (accepted-as-ruled r s mark cs m (lawful .0) p h)
 
 all-lawful : (cs : List Call) (s : State) → single.Lawful (allRules cs s)
 all-lawful [] s = tt

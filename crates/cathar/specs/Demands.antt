@@ -6,9 +6,9 @@ use mathlib.Core.List.{List, [], _∷_, _++_, reverse}
 use mathlib.Core.Logic.{_⊎_}
 use lib.ListN.{length, getD, replicate}
 use lib.Ieee.{Float}
-use Rattle.recording.specs.Recording.{State, opened, measured}
+use Rattle.recording.specs.Recording.{State, Placed, change, opened, measured}
 use Rattle.recording.specs.History as single
-use Rattle.recording.specs.Consequences.{AllName, closings, returned}
+use Rattle.recording.specs.Consequences.{MadeOf, AllName, closings, returned}
 use Rattle.recording.specs.declared.Reason.{Reason}
 use Rattle.recording.specs.declared.Answer.the-variants.{Done, Refused}
 use Rattle.inpaint.specs.Gap.{gapPlan}
@@ -61,10 +61,18 @@ rules undo s = single.undo ∷ []
 abbrev pub CallIsItsRules : Type 0
 CallIsItsRules = (c : Call) (s : State) → ran c s .after ≡ single.run (rules c s) s
 
--- and each of them is lawful: of every such repair the crate `recording` shows that it gives the words and marks exactly the samples that
--- its plan names (`AcceptedAsRuled`)
+-- and each of them is lawful
 abbrev pub RulesAreLawful : Type 0
 RulesAreLawful = (c : Call) (s : State) → single.Lawful (rules c s)
+
+-- The demand: a call that counts as one repair, whose rule makes this plan, leaves where it is accepted the plan's words and, at exactly the
+-- samples that the plan names, its mark; and it answers how many these are. Each single repair of a scan does the same (`AcceptedAsRuled` of
+-- the crate `recording`).
+abbrev pub Demand2 : Type 0
+Demand2 =
+    (c : Call) (s : State) (r : single.Repair) (mark : ℕ) (cs : List Placed) (m : ℕ) → rules c s ≡ single.repair r ∷ []
+    → r (s .samples) ≡ change mark cs → single.did (single.repair r) s .answer ≡ Done m
+    → MadeOf mark cs s (ran c s .after) × (m ≡ length cs)
 
 -- ---- 3. "After any sequence of repairs, refusals and undos on a freshly opened recording, samples, marks and journal equal those
 -- got by applying the rules to the raw recording, in order, for the accepted repairs that named a sample and were not undone."
