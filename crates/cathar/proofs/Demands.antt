@@ -7,7 +7,8 @@ use Prim.Native.Nat.{ℕ, zero, suc, _≤_, _<_}
 use lib.ListN.{length, getD, replicate}
 use lib.Ieee.{Float}
 use Rattle.recording.specs.Answers.{number}
-use Rattle.recording.specs.Recording.{State, Ended, measured, fitting, undone}
+use Rattle.recording.specs.Recording.{State, Ended, fitting, undone}
+use Rattle.recording.specs.Marks.{measured}
 use Rattle.recording.specs.History as single
 use Rattle.recording.specs.Consequences.{AllName, closings, returned}
 use Rattle.recording.specs.declared.Reason.the-variants.{Setting}
@@ -15,7 +16,7 @@ use Rattle.recording.specs.declared.Answer.{Answer}
 use Rattle.recording.specs.declared.Answer.the-variants.{Done, Refused}
 use Rattle.recording.proofs.History as history
 use Rattle.recording.proofs.Single.{did-keeps, accepted-as-ruled}
-use Rattle.recording.proofs.open.Laws.{EitherWay, truth}
+use Rattle.leaves.proofs.Choice.{truth, EitherWay}
 use Rattle.inpaint.specs.Gap.{gapPlan, gapRepair}
 use Rattle.inpaint.specs.Auto.{limit, scannable, automatic, allowed}
 use Rattle.inpaint.specs.Runs.{Stretch, runsOf, gapCalls}

@@ -5,57 +5,95 @@ use mathlib.Core.Path.{_≡_}
 use mathlib.Core.List.{List, [], _∷_, _++_, reverse}
 use mathlib.Core.Logic.{_⊎_}
 use lib.ListN.{length, getD, replicate}
+use lib.Dec.{eqb}
 use lib.Ieee.{Float}
-use Rattle.recording.specs.Recording.{State, Placed, change, opened, measured}
+use Rattle.leaves.specs.Choice.{if_then_else_}
+use Rattle.recording.specs.Recording.{State, Placed, change, opened}
+use Rattle.recording.specs.Marks.{measured}
 use Rattle.recording.specs.History as single
-use Rattle.recording.specs.Consequences.{MadeOf, AllName, closings, returned}
-use Rattle.recording.specs.declared.Reason.{Reason}
+use Rattle.recording.specs.Consequences.{Among, MadeOf, AllName, closings, returned}
 use Rattle.recording.specs.declared.Answer.the-variants.{Done, Refused}
 use Rattle.inpaint.specs.Gap.{gapPlan}
 use Rattle.inpaint.specs.Auto.{scannable}
-use Rattle.inpaint.specs.Runs.{scanCalls}
+use Rattle.inpaint.specs.Runs.{scanCalls, runAnswers, firstRefusal}
 use Rattle.declip.specs.Declip.{declipPlan}
 use Rattle.decrackle.specs.Decrackle.{decracklePlan}
 use Rattle.dequant.specs.Dequant.{dequantizePlan, cosparsePlan}
-use Rattle.cathar.specs.Calls.{Call, gap, scan, declip, decrackle, dequantize, cosparse, undo, ran}
+use Rattle.cathar.specs.Calls.{Call, gap, scan, declip, decrackle, dequantize, cosparse, undo, ran, opening}
+use Rattle.cathar.specs.Refusals.{turnedAway, openingTurnedAway, canGive, testedByOpening}
+
+-- ---- What a call counts as
+
+-- One repair, by its rule, which makes of the samples a plan: the mark and the named samples with their new words, or a refusal. Or an undo;
+-- or an automatic scan, which counts as one repair for each run that qualifies.
+pub data Kind : Type 0 where
+  repairs : single.Repair → Kind
+  undoes : Kind
+  scans : (rate : ℕ) (millis : Float) → List Float → Kind
+
+abbrev pub kind : Call → Kind
+kind (gap start len passes work) = repairs (gapPlan start len passes (length work))
+kind (scan rate millis work) = scans rate millis work
+kind (declip threshold work) = repairs (declipPlan threshold (length work))
+kind (decrackle sensitivity work) = repairs (decracklePlan sensitivity (length work))
+kind (dequantize bits strength work) = repairs (dequantizePlan bits strength (length work))
+kind (cosparse bits strength iterations work) = repairs (cosparsePlan bits strength iterations (length work))
+kind undo = undoes
 
 -- ---- 1. "Any samples and settings end in a repair or in a numbered refusal, given exactly when its rule says. A refusal changes
 -- nothing."
 
--- The first sentence is what the exported functions promise: none has a condition, and what each leaves equals `ran` of its call, or
--- `opening`. An equation leaves no second outcome.
+-- "end in a repair or in a numbered refusal" is what the exported functions promise: none has a condition, and what each leaves equals
+-- `ran` of its call, or `opening`. An equation leaves no second outcome.
 
--- A call with a number that is not 0 changes nothing, unless it is an automatic scan,
+-- "given exactly when its rule says": the number of a call is that of the first line of the table that applies, in the order of the tests
+-- (Refusals.antt), or 0. Of a scan that no line turns away it is that of the first of its runs that is refused, or 0.
+abbrev pub firstOfRuns : Call → State → ℕ
+firstOfRuns c s =
+    elim (kind c) [
+      | repairs r ↦ 0
+      | undoes ↦ 0
+      | scans rate millis work ↦ firstRefusal (runAnswers rate millis work s)
+    ]
+
+abbrev pub GivenExactlyWhen : Type 0
+GivenExactlyWhen =
+    (c : Call) (s : State) → ran c s .number ≡ (let k = turnedAway c s in let later = firstOfRuns c s in if eqb k 0 then later else k)
+
+abbrev pub OpeningGivenExactlyWhen : Type 0
+OpeningGivenExactlyWhen = (s : State) → opening s .number ≡ openingTurnedAway s
+
+-- which numbers a call can give at all
+abbrev pub OnlyThese : Type 0
+OnlyThese = (c : Call) (s : State) → (ran c s .number ≡ 0) ⊎ Among (ran c s .number) (canGive c)
+
+abbrev pub OpeningOnlyThese : Type 0
+OpeningOnlyThese = (s : State) → (opening s .number ≡ 0) ⊎ Among (opening s .number) testedByOpening
+
+-- "A refusal changes nothing": neither does a call that a line of the table turns away, nor an opening. Each single repair of a scan does
+-- the same (`RefusalChangesNothing` of the crate `recording`).
 abbrev pub RefusalChangesNothing : Type 0
-RefusalChangesNothing =
-    (c : Call) (s : State) → 0 < ran c s .number
-    → (ran c s .after ≡ s) ⊎ ((rate : ℕ) × (millis : Float) × (work : List Float) × (c ≡ scan rate millis work))
+RefusalChangesNothing = (c : Call) (s : State) → 0 < turnedAway c s → ran c s .after ≡ s
 
--- and neither does a scan that is itself refused, with 1 to 4. Where it is not, its number is that of the first of its single repairs that is
--- refused (`ScanCountsItsRuns` of the crate `inpaint`), each of which changes nothing (`RefusalChangesNothing` of `recording`).
-abbrev pub RefusedScanChangesNothing : Type 0
-RefusedScanChangesNothing =
-    (rate : ℕ) (millis : Float) (work : List Float) (s : State) (why : Reason) → scannable rate millis s ≡ Refused why
-    → ran (scan rate millis work) s .after ≡ s
+abbrev pub RefusedOpeningChangesNothing : Type 0
+RefusedOpeningChangesNothing = (s : State) → 0 < openingTurnedAway s → opening s .after ≡ s
 
 -- ---- 2. "An accepted repair gives, bit for bit, the samples of document 01's rules over IEEE 754, and marks exactly the samples it
 -- names."
 
--- The rules of a call: the single repairs and undos that it counts as. The rule of a repair makes of the samples a plan, which is the mark
--- and the named samples with their new words, or a refusal. An automatic scan counts as one repair for each run that qualifies, and as
--- none where it is itself refused, with 1 to 4.
+-- the rules of a call: the single repairs and undos that it counts as. An automatic scan counts as none where a line of the table turns
+-- it away.
 abbrev pub scanned : ℕ → Float → List Float → State → List single.Call
 scanned rate millis work s =
     elim (scannable rate millis s) [ Done m ↦ scanCalls rate millis work s | Refused why ↦ [] ]
 
 abbrev pub rules : Call → State → List single.Call
-rules (gap start len passes work) s = single.repair (gapPlan start len passes (length work)) ∷ []
-rules (scan rate millis work) s = scanned rate millis work s
-rules (declip threshold work) s = single.repair (declipPlan threshold (length work)) ∷ []
-rules (decrackle sensitivity work) s = single.repair (decracklePlan sensitivity (length work)) ∷ []
-rules (dequantize bits strength work) s = single.repair (dequantizePlan bits strength (length work)) ∷ []
-rules (cosparse bits strength iterations work) s = single.repair (cosparsePlan bits strength iterations (length work)) ∷ []
-rules undo s = single.undo ∷ []
+rules c s =
+    elim (kind c) [
+      | repairs r ↦ single.repair r ∷ []
+      | undoes ↦ single.undo ∷ []
+      | scans rate millis work ↦ scanned rate millis work s
+    ]
 
 -- the recording after a call is that after its rules, one after the other
 abbrev pub CallIsItsRules : Type 0
@@ -65,14 +103,14 @@ CallIsItsRules = (c : Call) (s : State) → ran c s .after ≡ single.run (rules
 abbrev pub RulesAreLawful : Type 0
 RulesAreLawful = (c : Call) (s : State) → single.Lawful (rules c s)
 
--- The demand: a call that counts as one repair, whose rule makes this plan, leaves where it is accepted the plan's words and, at exactly the
--- samples that the plan names, its mark; and it answers how many these are. Each single repair of a scan does the same (`AcceptedAsRuled` of
--- the crate `recording`).
+-- The demand: where a call that counts as one repair is accepted, its rule makes a plan; the call leaves the plan's words and, at exactly
+-- the samples that the plan names, its mark; and its one figure is how many these are. Each single repair of a scan does the same
+-- (`AcceptedAsRuled` of the crate `recording`).
 abbrev pub Demand2 : Type 0
 Demand2 =
-    (c : Call) (s : State) (r : single.Repair) (mark : ℕ) (cs : List Placed) (m : ℕ) → rules c s ≡ single.repair r ∷ []
-    → r (s .samples) ≡ change mark cs → single.did (single.repair r) s .answer ≡ Done m
-    → MadeOf mark cs s (ran c s .after) × (m ≡ length cs)
+    (c : Call) (s : State) (r : single.Repair) → kind c ≡ repairs r → ran c s .number ≡ 0
+    → (mark : ℕ) × (cs : List Placed) × (r (s .samples) ≡ change mark cs)
+    × MadeOf mark cs s (ran c s .after) × (ran c s .figures ≡ length cs ∷ [])
 
 -- ---- 3. "After any sequence of repairs, refusals and undos on a freshly opened recording, samples, marks and journal equal those
 -- got by applying the rules to the raw recording, in order, for the accepted repairs that named a sample and were not undone."

@@ -1,4 +1,5 @@
 -- The calls, and the demands of them.
 pub mod Calls
+pub mod Refusals
 pub mod Demands
 pub mod Table

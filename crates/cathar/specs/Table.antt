@@ -10,7 +10,8 @@ use Rattle.leaves.specs.Arithmetic.{one, near}
 use Rattle.leaves.specs.Floats.{narrowed, rounded}
 use Rattle.leaves.specs.Root.{root}
 use Rattle.recording.specs.Answers.{number, value}
-use Rattle.recording.specs.Recording.{State, Ended, undone, measured}
+use Rattle.recording.specs.Recording.{State, Ended, undone}
+use Rattle.recording.specs.Marks.{measured}
 use Rattle.recording.specs.History.{fresh}
 use Rattle.inpaint.specs.Gap.{gapRepair}
 use Rattle.declip.specs.Declip.{declipRepair}

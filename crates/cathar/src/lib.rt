@@ -5,9 +5,9 @@ ghost use mathlib.Core.Path.{_≡_};
 ghost use mathlib.Core.List.{[], _∷_};
 ghost use Rattle.leaves.specs.Floats.{narrowed, rounded};
 ghost use Rattle.leaves.specs.Root.{Rooted};
-ghost use Rattle.recording.specs.Recording.{state};
 ghost use Rattle.cathar.specs.Calls.{gap, scan, declip, decrackle, dequantize, cosparse, undo};
 ghost use Rattle.cathar.specs.Calls.{none, doubles, words, outcome, ran, opening};
+ghost use Rattle.recording.specs.Lent.{left, lent, leftReading};
 use recording::numbers::number_of;
 use recording::numbers::value_of;
 
@@ -20,10 +20,7 @@ pub extern "C" fn cathar_open(
     journal: &mut [u32],
     used: &mut usize,
 ) -> u32
-    ensures { λ r. ⌜ outcome r []
-        (state (now (samples .entry)) (now (marks .exit)) (now (journal .exit)) (now (used .exit))) none
-        ≡ opening
-        (state (now (samples .entry)) (now (marks .entry)) (now (journal .entry)) (now (used .entry))) ⌝ }
+    ensures { λ r. ⌜ outcome r [] (leftReading samples marks journal used) none ≡ opening (lent samples marks journal used) ⌝ }
 {
     let answer = recording::open::open(samples, marks, journal, used);
     number_of(answer)
@@ -44,10 +41,8 @@ pub extern "C" fn cathar_inpaint_gap(
     work: &mut [f64],
     value: &mut usize,
 ) -> u32
-    ensures { λ r. ⌜ outcome r (now (value .exit) ∷ [])
-        (state (now (samples .exit)) (now (marks .exit)) (now (journal .exit)) (now (used .exit))) (doubles (now (work .exit)))
-        ≡ ran (gap start len passes (now (work .entry)))
-        (state (now (samples .entry)) (now (marks .entry)) (now (journal .entry)) (now (used .entry))) ⌝ }
+    ensures { λ r. ⌜ outcome r (now (value .exit) ∷ []) (left samples marks journal used) (doubles (now (work .exit)))
+        ≡ ran (gap start len passes (now (work .entry))) (lent samples marks journal used) ⌝ }
 {
     let answer = inpaint::gap::inpaint_gap(samples, marks, journal, used, start, len, passes, work);
     *value = value_of(answer);
@@ -69,10 +64,8 @@ pub extern "C" fn cathar_inpaint_auto(
     qualified: &mut usize,
     repaired: &mut usize,
 ) -> u32
-    ensures { λ r. ⌜ outcome r (now (qualified .exit) ∷ now (repaired .exit) ∷ [])
-        (state (now (samples .exit)) (now (marks .exit)) (now (journal .exit)) (now (used .exit))) (doubles (now (work .exit)))
-        ≡ ran (scan rate millis (now (work .entry)))
-        (state (now (samples .entry)) (now (marks .entry)) (now (journal .entry)) (now (used .entry))) ⌝ }
+    ensures { λ r. ⌜ outcome r (now (qualified .exit) ∷ now (repaired .exit) ∷ []) (left samples marks journal used) (doubles (now (work .exit)))
+        ≡ ran (scan rate millis (now (work .entry))) (lent samples marks journal used) ⌝ }
 {
     let scanned = inpaint::auto::inpaint_auto(samples, marks, journal, used, rate, millis, work);
     *qualified = scanned.qualified;
@@ -93,10 +86,8 @@ pub extern "C" fn cathar_declip(
     work: &mut [u32],
     value: &mut usize,
 ) -> u32
-    ensures { λ r. ⌜ outcome r (now (value .exit) ∷ [])
-        (state (now (samples .exit)) (now (marks .exit)) (now (journal .exit)) (now (used .exit))) (words (now (work .exit)))
-        ≡ ran (declip threshold (now (work .entry)))
-        (state (now (samples .entry)) (now (marks .entry)) (now (journal .entry)) (now (used .entry))) ⌝ }
+    ensures { λ r. ⌜ outcome r (now (value .exit) ∷ []) (left samples marks journal used) (words (now (work .exit)))
+        ≡ ran (declip threshold (now (work .entry))) (lent samples marks journal used) ⌝ }
 {
     let answer = declip::declip(samples, marks, journal, used, threshold, work);
     *value = value_of(answer);
@@ -114,10 +105,8 @@ pub extern "C" fn cathar_decrackle(
     work: &mut [u32],
     value: &mut usize,
 ) -> u32
-    ensures { λ r. ⌜ outcome r (now (value .exit) ∷ [])
-        (state (now (samples .exit)) (now (marks .exit)) (now (journal .exit)) (now (used .exit))) (words (now (work .exit)))
-        ≡ ran (decrackle sensitivity (now (work .entry)))
-        (state (now (samples .entry)) (now (marks .entry)) (now (journal .entry)) (now (used .entry))) ⌝ }
+    ensures { λ r. ⌜ outcome r (now (value .exit) ∷ []) (left samples marks journal used) (words (now (work .exit)))
+        ≡ ran (decrackle sensitivity (now (work .entry))) (lent samples marks journal used) ⌝ }
 {
     let answer = decrackle::decrackle(samples, marks, journal, used, sensitivity, work);
     *value = value_of(answer);
@@ -137,10 +126,8 @@ pub extern "C" fn cathar_dequantize(
     work: &mut [u32],
     value: &mut usize,
 ) -> u32
-    ensures { λ r. ⌜ outcome r (now (value .exit) ∷ [])
-        (state (now (samples .exit)) (now (marks .exit)) (now (journal .exit)) (now (used .exit))) (words (now (work .exit)))
-        ≡ ran (dequantize bits strength (now (work .entry)))
-        (state (now (samples .entry)) (now (marks .entry)) (now (journal .entry)) (now (used .entry))) ⌝ }
+    ensures { λ r. ⌜ outcome r (now (value .exit) ∷ []) (left samples marks journal used) (words (now (work .exit)))
+        ≡ ran (dequantize bits strength (now (work .entry))) (lent samples marks journal used) ⌝ }
 {
     let answer = dequant::passes::dequantize(samples, marks, journal, used, bits, strength, work);
     *value = value_of(answer);
@@ -161,10 +148,8 @@ pub extern "C" fn cathar_dequantize_cosparse(
     work: &mut [u32],
     value: &mut usize,
 ) -> u32
-    ensures { λ r. ⌜ outcome r (now (value .exit) ∷ [])
-        (state (now (samples .exit)) (now (marks .exit)) (now (journal .exit)) (now (used .exit))) (words (now (work .exit)))
-        ≡ ran (cosparse bits strength iterations (now (work .entry)))
-        (state (now (samples .entry)) (now (marks .entry)) (now (journal .entry)) (now (used .entry))) ⌝ }
+    ensures { λ r. ⌜ outcome r (now (value .exit) ∷ []) (left samples marks journal used) (words (now (work .exit)))
+        ≡ ran (cosparse bits strength iterations (now (work .entry))) (lent samples marks journal used) ⌝ }
 {
     let answer = dequant::cosparse::dequantize_cosparse(
         samples,
@@ -190,10 +175,8 @@ pub extern "C" fn cathar_undo(
     used: &mut usize,
     value: &mut usize,
 ) -> u32
-    ensures { λ r. ⌜ outcome r (now (value .exit) ∷ [])
-        (state (now (samples .exit)) (now (marks .exit)) (now (journal .exit)) (now (used .exit))) none
-        ≡ ran undo
-        (state (now (samples .entry)) (now (marks .entry)) (now (journal .entry)) (now (used .entry))) ⌝ }
+    ensures { λ r. ⌜ outcome r (now (value .exit) ∷ []) (left samples marks journal used) none
+        ≡ ran undo (lent samples marks journal used) ⌝ }
 {
     let answer = recording::undo::undo(samples, marks, journal, used);
     *value = value_of(answer);

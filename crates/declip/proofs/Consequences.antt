@@ -8,8 +8,8 @@ use borrow.Author.Tests.{le-ltb, ltb-true}
 use lib.Dec.{ltb}
 use lib.ListN.{length, length-set}
 use lib.Ieee.{Float}
-use Rattle.recording.specs.Recording.{cubicDeclip}
-use Rattle.recording.proofs.Picks.{picks}
+use Rattle.recording.specs.Marks.{cubicDeclip}
+use Rattle.leaves.proofs.Choice.{picks}
 use Rattle.redraw.specs.Whole.{Drawn, sample, untouched}
 use Rattle.redraw.proofs.Runs.{over-keeps}
 use Rattle.redraw.proofs.Ending.{whole-lawful}

@@ -13,7 +13,8 @@ use lib.Ieee.Scale.{finite}
 use Rattle.leaves.specs.Arithmetic.{_+₃₂_, _-₃₂_, _*₃₂_, _/₃₂_, nought, float, count}
 use Rattle.leaves.specs.Floats.{magnitude}
 use Rattle.leaves.proofs.Literals.{nought-word, one-word, two-word, three-word, unbounded, plus-infinity}
-use Rattle.recording.specs.Recording.{State, cubicDeclip, called}
+use Rattle.recording.specs.Recording.{State, called}
+use Rattle.recording.specs.Marks.{cubicDeclip}
 use Rattle.recording.specs.Inner.{flags}
 use Rattle.recording.specs.Runs.{begins, runLength}
 use Rattle.redraw.specs.Whole.{Drawn, drawn, sample, untouched, wholePlan}

@@ -8,7 +8,9 @@ use lib.Ieee.{Float, le, lt, add, sub, mul, div}
 use lib.Ieee.Scale.{finite}
 use Rattle.leaves.specs.Arithmetic.{_+₃₂_, _-₃₂_, _*₃₂_, _/₃₂_, nought, one, float, count}
 use Rattle.leaves.specs.Floats.{magnitude}
-use Rattle.recording.specs.Recording.{State, Ended, Plan, called, cubicDeclip, if_then_else_}
+use Rattle.recording.specs.Recording.{State, Ended, Plan, called}
+use Rattle.recording.specs.Marks.{cubicDeclip}
+use Rattle.leaves.specs.Choice.{if_then_else_}
 use Rattle.redraw.specs.Whole.{sample, store, Drawn, drawn, untouched, wholePlan}
 use Rattle.redraw.specs.Runs.{overRuns}
 

@@ -4,23 +4,22 @@ ghost use mathlib.Core.Path.{_≡_};
 ghost use Prim.Native.Nat.{_+_, _-_, _*_, _≤_, _<_};
 ghost use lib.ListN.{length};
 ghost use lib.Ieee.{binary32, toBits};
-ghost use Rattle.recording.specs.Recording.{state, ended, mostSamples, workAfter};
+ghost use Rattle.recording.specs.Recording.{ended, mostSamples, workAfter};
+ghost use Rattle.recording.specs.Lent.{left, lent};
 ghost use Rattle.recording.specs.Runs.{begins, runLength};
 ghost use Rattle.redraw.specs.Whole.{untouched, needed};
 ghost use Rattle.redraw.specs.Inner.{drawnIn, Holds, Room};
 ghost use Rattle.declip.specs.Declip.{allowed, clipped, clippedAt, cubicAt, cubicFill, bridged, declipped, declipRepair};
-use leaves::counts::above;
-use leaves::counts::least;
+use leaves::counts::difference_or_zero;
+use leaves::counts::smaller_of;
 use leaves::order::magnitude32;
 use leaves::words::count_as_f32;
 use leaves::words::f32_of_word;
 use leaves::words::word_of_f32;
 use recording::Answer;
+use recording::marks::CUBIC_DECLIP;
 use redraw::begin;
 use redraw::finish;
-
-// The mark that a cubic declip sets.
-const CUBIC_DECLIP: u8 = 3;
 
 // How far a fill reaches to either side of a run.
 const SHOULDER: usize = 4;
@@ -105,8 +104,8 @@ fn bridge(work: &mut [u32], n: usize, start: usize, end: usize)
     requires { ⌜ Room n (now work) × (start < n) ⌝ }
     ensures { λ _. ⌜ Holds n (bridged n start end (drawnIn n (now (work .entry)))) (now (work .entry)) (now (work .exit)) ⌝ }
 {
-    let a = above(start, SHOULDER);
-    let z = least(least(end, n - 1) + SHOULDER, n - 1);
+    let a = difference_or_zero(start, SHOULDER);
+    let z = smaller_of(smaller_of(end, n - 1) + SHOULDER, n - 1);
     if a + SHOULDER < z {
         cubic_fill(work, n, a, z);
     }
@@ -137,9 +136,8 @@ pub fn declip(
     threshold: f32,
     work: &mut [u32],
 ) -> Answer
-    ensures { λ r. ⌜ (ended r (state (now (samples .exit)) (now (marks .exit)) (now (journal .exit)) (now (used .exit)))
-        ≡ declipRepair threshold (length (now (work .entry)))
-        (state (now (samples .entry)) (now (marks .entry)) (now (journal .entry)) (now (used .entry))))
+    ensures { λ r. ⌜ (ended r (left samples marks journal used)
+        ≡ declipRepair threshold (length (now (work .entry))) (lent samples marks journal used))
         × (now (work .exit) ≡ workAfter 0 (needed (length (now (samples .entry)))) r (now (work .entry))) ⌝ }
 {
     let begun = begin(

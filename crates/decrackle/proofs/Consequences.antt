@@ -6,8 +6,8 @@ use Prim.Native.Nat.{ℕ}
 use lib.Dec.{ltb}
 use lib.ListN.{length, getD}
 use lib.Ieee.{Float}
-use Rattle.recording.specs.Recording as recording
-use Rattle.recording.proofs.Picks.{picks}
+use Rattle.recording.specs.Marks as marks
+use Rattle.leaves.proofs.Choice.{picks}
 use Rattle.redraw.specs.Whole.{Drawn, drawn, untouched}
 use Rattle.redraw.proofs.Runs.{over-keeps}
 use Rattle.redraw.proofs.Ending.{whole-lawful}
@@ -31,4 +31,4 @@ decrackle-counts sensitivity samples =
 pub decrackle-lawful : DecrackleIsLawful
 unfolding decracklePlan
 decrackle-lawful sensitivity room =
-    whole-lawful (allowed sensitivity) room recording.decrackle (decrackled sensitivity) refl (decrackle-counts sensitivity)
+    whole-lawful (allowed sensitivity) room marks.decrackle (decrackled sensitivity) refl (decrackle-counts sensitivity)

@@ -12,7 +12,7 @@ use lib.ListN.{length, getD, drop, length-map}
 use lib.Ieee.{Float, eq}
 use Rattle.leaves.proofs.words.Laws.{number-test}
 use Rattle.recording.specs.Recording.{State, called}
-use Rattle.recording.specs.Recording as recording
+use Rattle.recording.specs.Marks as marks
 use Rattle.recording.specs.Inner.{flags}
 use Rattle.recording.specs.Runs.{begins, runLength}
 use Rattle.recording.proofs.Runs.{begins-there, run-short}
@@ -145,7 +145,7 @@ module _ (sensitivity : Float) (samples w v : List ℕ) (laid : drawnIn (length 
 
 -- its whole rule, with the code's test of its sensitivity
 pub decrackle-is : (sensitivity : Float) (room : ℕ) (s : State)
-    → called (wholePlan (eq sensitivity sensitivity) room recording.decrackle (decrackled sensitivity)) s ≡ decrackleRepair sensitivity room s
+    → called (wholePlan (eq sensitivity sensitivity) room marks.decrackle (decrackled sensitivity)) s ≡ decrackleRepair sensitivity room s
 unfolding decrackleRepair decracklePlan
 decrackle-is sensitivity room s =
-    ap (λ (b : Bool). called (wholePlan b room recording.decrackle (decrackled sensitivity)) s) (number-test sensitivity)
+    ap (λ (b : Bool). called (wholePlan b room marks.decrackle (decrackled sensitivity)) s) (number-test sensitivity)

@@ -7,8 +7,9 @@ use lib.Dec.{leb, ltb, eqb}
 use lib.Ieee.{Float, binary32, lt, isNan, add, sub, mul, div, neg}
 use Rattle.leaves.specs.Arithmetic.{_+₃₂_, _-₃₂_, _*₃₂_, _/₃₂_, nought, one, half, near, float, count}
 use Rattle.leaves.specs.Floats.{magnitude, larger, held}
-use Rattle.recording.specs.Recording.{State, Ended, Plan, called, if_then_else_}
-use Rattle.recording.specs.Recording as recording
+use Rattle.recording.specs.Recording.{State, Ended, Plan, called}
+use Rattle.leaves.specs.Choice.{if_then_else_}
+use Rattle.recording.specs.Marks as marks
 use Rattle.redraw.specs.Whole.{sample, store, Drawn, drawn, untouched, wholePlan}
 use Rattle.redraw.specs.Runs.{overRuns}
 
@@ -125,7 +126,7 @@ decrackled sensitivity samples =
 -- its plan: refusals 4, 6 and 7, or the mark and the named samples
 unfoldable pub decracklePlan : Float → ℕ → List ℕ → Plan
 unfolding wholePlan decrackled isNan
-decracklePlan sensitivity room = wholePlan (allowed sensitivity) room recording.decrackle (decrackled sensitivity)
+decracklePlan sensitivity room = wholePlan (allowed sensitivity) room marks.decrackle (decrackled sensitivity)
 
 -- the call
 unfoldable pub decrackleRepair : Float → ℕ → State → Ended

@@ -5,7 +5,8 @@ ghost use mathlib.Core.Bool.{false};
 ghost use Prim.Native.Nat.{_+_, _-_, _*_, _≤_, _<_};
 ghost use lib.ListN.{length, drop};
 ghost use lib.Ieee.{binary32, toBits};
-ghost use Rattle.recording.specs.Recording.{state, ended, mostSamples, workAfter};
+ghost use Rattle.recording.specs.Recording.{ended, mostSamples, workAfter};
+ghost use Rattle.recording.specs.Lent.{left, lent};
 ghost use Rattle.recording.specs.Inner.{flags};
 ghost use Rattle.recording.specs.Runs.{begins, runLength};
 ghost use Rattle.redraw.specs.Whole.{drawn, untouched, needed};
@@ -19,11 +20,9 @@ use leaves::words::count_as_f32;
 use leaves::words::f32_of_word;
 use leaves::words::word_of_f32;
 use recording::Answer;
+use recording::marks::DECRACKLE;
 use redraw::begin;
 use redraw::finish;
-
-// The mark that decrackle sets.
-const DECRACKLE: u8 = 4;
 
 // A shorter recording has nothing named.
 const LEAST_SAMPLES: usize = 8;
@@ -219,9 +218,8 @@ pub fn decrackle(
     sensitivity: f32,
     work: &mut [u32],
 ) -> Answer
-    ensures { λ r. ⌜ (ended r (state (now (samples .exit)) (now (marks .exit)) (now (journal .exit)) (now (used .exit)))
-        ≡ decrackleRepair sensitivity (length (now (work .entry)))
-        (state (now (samples .entry)) (now (marks .entry)) (now (journal .entry)) (now (used .entry))))
+    ensures { λ r. ⌜ (ended r (left samples marks journal used)
+        ≡ decrackleRepair sensitivity (length (now (work .entry))) (lent samples marks journal used))
         × (now (work .exit) ≡ workAfter 0 (needed (length (now (samples .entry)))) r (now (work .entry))) ⌝ }
 {
     let begun = begin(

@@ -5,8 +5,8 @@ use mathlib.Core.List.{List}
 use Prim.Native.Nat.{ℕ, zero, suc, _+_, _-_}
 use lib.ListN.{length, length-set}
 use lib.Ieee.{Float}
-use Rattle.recording.specs.Recording as recording
-use Rattle.recording.proofs.Picks.{picks}
+use Rattle.recording.specs.Marks as marks
+use Rattle.leaves.proofs.Choice.{picks}
 use Rattle.redraw.specs.Whole.{Drawn, sample, store}
 use Rattle.redraw.proofs.Ending.{whole-lawful}
 use Rattle.dequant.specs.Dequant.{allowed, strengthOf, stepOf, firstAt, firstPass, secondAt, secondPass, wide, widened}
@@ -42,9 +42,9 @@ dequantized-count bits strength samples =
 pub dequantize-lawful : DequantizeIsLawful
 unfolding dequantizePlan
 dequantize-lawful bits strength room =
-    whole-lawful (allowed strength) room recording.dequantize (dequantized bits strength) refl (dequantized-count bits strength)
+    whole-lawful (allowed strength) room marks.dequantize (dequantized bits strength) refl (dequantized-count bits strength)
 
 pub cosparse-lawful : CosparseIsLawful
 unfolding cosparsePlan
 cosparse-lawful bits strength iterations room =
-    whole-lawful (allowed strength) room recording.dequantize (cosparse bits strength iterations) refl (length-cosparse bits strength iterations)
+    whole-lawful (allowed strength) room marks.dequantize (cosparse bits strength iterations) refl (length-cosparse bits strength iterations)

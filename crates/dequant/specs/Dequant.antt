@@ -9,8 +9,9 @@ use lib.IntN.{negsuc}
 use lib.Ieee.{Float, fin, binary32, lt, isNan, add, sub, mul, div, neg}
 use Rattle.leaves.specs.Arithmetic.{_+₃₂_, _-₃₂_, _*₃₂_, _/₃₂_, nought, one, half, near, float, count}
 use Rattle.leaves.specs.Floats.{magnitude, held, rounded}
-use Rattle.recording.specs.Recording.{State, Ended, Plan, called, if_then_else_}
-use Rattle.recording.specs.Recording as recording
+use Rattle.recording.specs.Recording.{State, Ended, Plan, called}
+use Rattle.leaves.specs.Choice.{if_then_else_}
+use Rattle.recording.specs.Marks as marks
 use Rattle.redraw.specs.Whole.{sample, store, Drawn, drawn, untouched, wholePlan}
 
 -- ---- The settings
@@ -107,7 +108,7 @@ dequantized bits strength samples =
 -- its plan: refusals 4, 6 and 7, or the mark and the named samples
 unfoldable pub dequantizePlan : ℕ → Float → ℕ → List ℕ → Plan
 unfolding wholePlan dequantized isNan
-dequantizePlan bits strength room = wholePlan (allowed strength) room recording.dequantize (dequantized bits strength)
+dequantizePlan bits strength room = wholePlan (allowed strength) room marks.dequantize (dequantized bits strength)
 
 -- the call
 unfoldable pub dequantizeRepair : ℕ → Float → ℕ → State → Ended
@@ -184,7 +185,7 @@ cosparse bits strength iterations samples =
 unfoldable pub cosparsePlan : ℕ → Float → ℕ → ℕ → List ℕ → Plan
 unfolding wholePlan cosparse isNan
 cosparsePlan bits strength iterations room =
-    wholePlan (allowed strength) room recording.dequantize (cosparse bits strength iterations)
+    wholePlan (allowed strength) room marks.dequantize (cosparse bits strength iterations)
 
 -- the call
 unfoldable pub cosparseRepair : ℕ → Float → ℕ → ℕ → State → Ended

@@ -4,23 +4,24 @@ ghost use mathlib.Core.Path.{_≡_};
 ghost use Prim.Native.Nat.{_+_, _-_, _*_, _≤_, _<_};
 ghost use lib.ListN.{length, drop};
 ghost use lib.Ieee.{binary32, toBits};
-ghost use Rattle.recording.specs.Recording.{state, ended, workAfter};
+ghost use Rattle.recording.specs.Recording.{ended, workAfter};
+ghost use Rattle.recording.specs.Lent.{left, lent};
 ghost use Rattle.redraw.specs.Whole.{untouched, needed};
-ghost use Rattle.redraw.specs.Inner.{wordsIn, flagsIn, restOf, drawnIn, Holds, Room};
+ghost use Rattle.redraw.specs.Inner.{wordsIn, snapshotIn, restOf, drawnIn, Holds, Room};
 ghost use Rattle.dequant.specs.Dequant.{cubicWeight, candidate, localStrength, sparseAt, sparsePass, sparsePasses, cosparse, cosparseRepair};
-use super::lattice::DEQUANTIZE;
 use super::lattice::name_inner;
 use super::lattice::reaches;
 use super::lattice::snapshot;
 use super::lattice::step_of;
 use super::lattice::strength_of;
 use super::lattice::target_of;
-use leaves::counts::least;
+use leaves::counts::smaller_of;
 use leaves::order::clamp32;
 use leaves::order::magnitude32;
 use leaves::words::f32_of_word;
 use leaves::words::word_of_f32;
 use recording::Answer;
+use recording::marks::DEQUANTIZE;
 use redraw::begin;
 use redraw::finish;
 
@@ -61,7 +62,7 @@ fn local_strength(strength: f32, b: f32, c: f32) -> f32
 // An iteration's word at place i, from the snapshot that stands behind the n words.
 fn sparse_word(work: &[u32], n: usize, i: usize, step: f32, strength: f32) -> u32
     requires { ⌜ Room n (now work) × (2 ≤ i) × (i + 2 < n) ⌝ }
-    ensures { λ r. ⌜ r ≡ toBits binary32 (sparseAt step strength (flagsIn n (now (work .entry))) i) ⌝ }
+    ensures { λ r. ⌜ r ≡ toBits binary32 (sparseAt step strength (snapshotIn n (now (work .entry))) i) ⌝ }
 {
     let at = n + i;
     let b = f32_of_word(work[at - 1]);
@@ -75,7 +76,7 @@ fn sparse_word(work: &[u32], n: usize, i: usize, step: f32, strength: f32) -> u3
 // One iteration over n words: all but two at either end, from the snapshot.
 fn sparse_pass(work: &mut [u32], n: usize, step: f32, strength: f32)
     requires { ⌜ Room n (now work) × (5 ≤ n) ⌝ }
-    ensures { λ _. ⌜ (wordsIn n (now (work .exit)) ≡ sparsePass step strength (flagsIn n (now (work .entry))) 2 (n - 4) (wordsIn n (now (work .entry))))
+    ensures { λ _. ⌜ (wordsIn n (now (work .exit)) ≡ sparsePass step strength (snapshotIn n (now (work .entry))) 2 (n - 4) (wordsIn n (now (work .entry))))
         × (drop n (now (work .exit)) ≡ drop n (now (work .entry))) ⌝ }
 {
     let mut i: usize = 2;
@@ -118,7 +119,7 @@ fn draw(work: &mut [u32], n: usize, bits: u32, strength: f32, iterations: u32)
         n,
         step,
         held,
-        least(iterations as usize, MOST_ITERATIONS),
+        smaller_of(iterations as usize, MOST_ITERATIONS),
     );
     name_inner(work, n, EDGE);
 }
@@ -135,9 +136,8 @@ pub fn dequantize_cosparse(
     iterations: u32,
     work: &mut [u32],
 ) -> Answer
-    ensures { λ r. ⌜ (ended r (state (now (samples .exit)) (now (marks .exit)) (now (journal .exit)) (now (used .exit)))
-        ≡ cosparseRepair bits strength iterations (length (now (work .entry)))
-        (state (now (samples .entry)) (now (marks .entry)) (now (journal .entry)) (now (used .entry))))
+    ensures { λ r. ⌜ (ended r (left samples marks journal used)
+        ≡ cosparseRepair bits strength iterations (length (now (work .entry))) (lent samples marks journal used))
         × (now (work .exit) ≡ workAfter 0 (needed (length (now (samples .entry)))) r (now (work .entry))) ⌝ }
 {
     let begun = begin(samples, marks, journal, *used, strength == strength, work);

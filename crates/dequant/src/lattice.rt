@@ -12,9 +12,6 @@ use leaves::order::clamp32;
 use leaves::whole::round_to_whole;
 use leaves::words::count_as_f32;
 
-// The mark that either form sets.
-pub const DEQUANTIZE: u8 = 5;
-
 // The fewest and the most bits that a sample is taken to have been recorded with.
 const LEAST_BITS: u32 = 4;
 

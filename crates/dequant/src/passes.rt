@@ -3,11 +3,11 @@ ghost use mathlib.Core.Path.{_≡_};
 ghost use Prim.Native.Nat.{_+_, _-_, _*_, _≤_, _<_};
 ghost use lib.ListN.{length, drop};
 ghost use lib.Ieee.{binary32, toBits};
-ghost use Rattle.recording.specs.Recording.{state, ended, workAfter};
+ghost use Rattle.recording.specs.Recording.{ended, workAfter};
+ghost use Rattle.recording.specs.Lent.{left, lent};
 ghost use Rattle.redraw.specs.Whole.{sample, untouched, needed};
-ghost use Rattle.redraw.specs.Inner.{wordsIn, flagsIn, drawnIn, Holds, Room};
+ghost use Rattle.redraw.specs.Inner.{wordsIn, snapshotIn, drawnIn, Holds, Room};
 ghost use Rattle.dequant.specs.Dequant.{firstAt, firstPass, secondAt, secondPass, wide, dequantized, dequantizeRepair};
-use super::lattice::DEQUANTIZE;
 use super::lattice::name_inner;
 use super::lattice::reaches;
 use super::lattice::snapshot;
@@ -17,6 +17,7 @@ use super::lattice::target_of;
 use leaves::words::f32_of_word;
 use leaves::words::word_of_f32;
 use recording::Answer;
+use recording::marks::DEQUANTIZE;
 use redraw::begin;
 use redraw::finish;
 
@@ -56,7 +57,7 @@ fn first_pass(work: &mut [u32], n: usize, step: f32, strength: f32)
 // The second pass's word at place i: its neighbours, and what it stood at, are those of the snapshot.
 fn second_word(work: &[u32], n: usize, i: usize, step: f32, strength: f32) -> u32
     requires { ⌜ Room n (now work) × (2 ≤ i) × (i + 2 < n) ⌝ }
-    ensures { λ r. ⌜ r ≡ toBits binary32 (secondAt step strength (flagsIn n (now (work .entry))) (sample (wordsIn n (now (work .entry))) i) i) ⌝ }
+    ensures { λ r. ⌜ r ≡ toBits binary32 (secondAt step strength (snapshotIn n (now (work .entry))) (sample (wordsIn n (now (work .entry))) i) i) ⌝ }
 {
     let at = n + i;
     let before = f32_of_word(work[at - 2]) + f32_of_word(work[at - 1]);
@@ -69,7 +70,7 @@ fn second_word(work: &[u32], n: usize, i: usize, step: f32, strength: f32) -> u3
 // The second pass over n words: all but two at either end, from the snapshot that stands behind them.
 fn second_pass(work: &mut [u32], n: usize, step: f32, strength: f32)
     requires { ⌜ Room n (now work) × (5 ≤ n) ⌝ }
-    ensures { λ _. ⌜ (wordsIn n (now (work .exit)) ≡ secondPass step strength (flagsIn n (now (work .entry))) 2 (n - 4) (wordsIn n (now (work .entry))))
+    ensures { λ _. ⌜ (wordsIn n (now (work .exit)) ≡ secondPass step strength (snapshotIn n (now (work .entry))) 2 (n - 4) (wordsIn n (now (work .entry))))
         × (drop n (now (work .exit)) ≡ drop n (now (work .entry))) ⌝ }
 {
     let mut i: usize = 2;
@@ -117,9 +118,8 @@ pub fn dequantize(
     strength: f32,
     work: &mut [u32],
 ) -> Answer
-    ensures { λ r. ⌜ (ended r (state (now (samples .exit)) (now (marks .exit)) (now (journal .exit)) (now (used .exit)))
-        ≡ dequantizeRepair bits strength (length (now (work .entry)))
-        (state (now (samples .entry)) (now (marks .entry)) (now (journal .entry)) (now (used .entry))))
+    ensures { λ r. ⌜ (ended r (left samples marks journal used)
+        ≡ dequantizeRepair bits strength (length (now (work .entry))) (lent samples marks journal used))
         × (now (work .exit) ≡ workAfter 0 (needed (length (now (samples .entry)))) r (now (work .entry))) ⌝ }
 {
     let begun = begin(samples, marks, journal, *used, strength == strength, work);

@@ -9,13 +9,14 @@ use borrow.Author.Tests.{ltb-true}
 use lib.Dec.{ltb}
 use lib.ListN.{length}
 use Rattle.leaves.specs.Floats.{inRange}
-use Rattle.recording.specs.Recording.{Plan, refuse, change, span, made, gapByModel, gapByLine, orElse, readable, unlessRead}
+use Rattle.recording.specs.Recording.{Plan, refuse, change, span, orElse, readable, unlessRead}
+use Rattle.recording.specs.Marks.{gapByModel, gapByLine, made}
 use Rattle.recording.specs.History.{Keeps}
 use Rattle.recording.specs.declared.Reason.the-variants.{Gap, Workspace, Read}
 use Rattle.recording.specs.declared.Answer.{Answer}
 use Rattle.recording.specs.declared.Answer.the-variants.{Done, Refused}
 use Rattle.recording.proofs.Performing.{span-ascends}
-use Rattle.recording.proofs.Picks.{picks, picks-by}
+use Rattle.leaves.proofs.Choice.{picks, picks-by}
 use Rattle.inpaint.specs.Gap.{gapWrong, byLine, from, needed, knownBefore, knownBehind, allReadable, line, model}
 use Rattle.inpaint.specs.Gap.{repaired, gapPlan}
 use Rattle.inpaint.specs.Consequences.{GapLawful}

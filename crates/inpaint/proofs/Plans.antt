@@ -11,12 +11,13 @@ use lib.Dec.{ltb, eqb}
 use borrow.Author.Tests.{eqb-false}
 use Rattle.leaves.specs.Arithmetic.{float}
 use Rattle.leaves.proofs.Lists.{read-before, read-after}
-use Rattle.recording.proofs.open.Laws.{truth}
+use Rattle.leaves.proofs.Choice.{truth}
 use Rattle.model.specs.Model.{orderFor}
 use Rattle.leaves.proofs.Parts.{part-before-sets, part-behind-sets}
 use Rattle.model.proofs.Passes.{stored-same, solved-same, one-pass}
 use Rattle.inpaint.specs.Gap.{gapWrong, context, from, to, windowSize, window, narrowWord, needed}
-use Rattle.recording.specs.Recording.{Plan, refuse, if_then_else_, unlessRead}
+use Rattle.recording.specs.Recording.{Plan, refuse, unlessRead}
+use Rattle.leaves.specs.Choice.{if_then_else_}
 use Rattle.recording.specs.declared.Reason.the-variants.{Gap, Workspace}
 use Rattle.recording.specs.declared.Answer.{Answer}
 use Rattle.inpaint.specs.Gap.{knownBefore, knownBehind, allReadable, leftOf, rightOf, line, model}

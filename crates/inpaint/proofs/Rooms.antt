@@ -23,10 +23,9 @@ use Rattle.recording.specs.declared.Answer.the-variants.{Done, Refused}
 use Rattle.recording.proofs.commit.Laws.{length-span}
 use Rattle.recording.proofs.open.Laws.{fits-done, accepted-fits}
 use Rattle.recording.proofs.Entering.{Enters, Ending, unnamed, turned-away, enters, ending, enters-ends}
-use Rattle.recording.proofs.Picks.{picks, picks-by}
+use Rattle.leaves.proofs.Choice.{picks, picks-by, both-hold}
 use Rattle.recording.proofs.Put.{length-put}
 use Rattle.recording.proofs.Runs.{begins-not}
-use Rattle.model.proofs.Passes.{both-hold}
 use Rattle.inpaint.specs.Gap.{gapWrong, needed, gapPlan, gapRepair}
 use Rattle.inpaint.specs.Auto.{limit, dropoutAt, runBegins, runAt, qualifies, nextRun, sourcePasses, scannable}
 use Rattle.inpaint.specs.Runs.{Stretch, runsAmong, runsOf, gapCalls, answers}

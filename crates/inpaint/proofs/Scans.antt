@@ -25,8 +25,7 @@ use Rattle.recording.specs.declared.Reason.the-variants.{Counts, TooMany, Used,
 use Rattle.recording.specs.declared.Reason.the-variants.{Result, Room, Nothing, Malformed}
 use Rattle.recording.specs.declared.Answer.{Answer}
 use Rattle.recording.specs.declared.Answer.the-variants.{Done, Refused}
-use Rattle.recording.proofs.open.Laws.{EitherWay, truth}
-use Rattle.recording.proofs.Picks.{picks}
+use Rattle.leaves.proofs.Choice.{picks, truth, EitherWay}
 use Rattle.recording.proofs.Put.{length-put, put-elsewhere}
 use Rattle.recording.proofs.Runs.{begins-not, begins-same, begins-not-behind, length-same, run-met, run-behind}
 use Rattle.inpaint.specs.Gap.{needed, gapPlan, gapRepair}

@@ -1,6 +1,6 @@
 -- The automatic scan: document 01's `inpaint_auto` paragraph, whose sentences the comments quote. Definitions only.
 use Prim.Native.Nat.{ℕ, zero, suc, _+_, _-_}
-use mathlib.Core.Bool.{Bool, _&&_, _||_, cond}
+use mathlib.Core.Bool.{Bool, _&&_, _||_}
 use mathlib.Core.List.{List}
 use lib.ListN.{length, getD}
 use lib.Dec.{leb, ltb, eqb}
@@ -9,7 +9,8 @@ use lib.Ieee.Scale.{finite}
 use Rattle.leaves.specs.Arithmetic.{_*₃₂_, _/₃₂_, nought, one, float, count}
 use Rattle.leaves.specs.Floats.{larger}
 use Rattle.recording.specs.Answers.{number, reasonNumber}
-use Rattle.recording.specs.Recording.{State, fitting, orElse, workAfter, if_then_else_}
+use Rattle.recording.specs.Recording.{State, fitting, orElse, workAfter}
+use Rattle.leaves.specs.Choice.{if_then_else_}
 use Rattle.recording.specs.Runs.{begins, runLength}
 use Rattle.recording.specs.declared.Reason.the-variants.{Setting}
 use Rattle.recording.specs.declared.Answer.{Answer}
@@ -95,7 +96,7 @@ abbrev pub repairAt : Scan → ℕ → ℕ → Scan
 repairAt c start len =
     let e = gapRepair start len sourcePasses (length (c .work)) (c .after) in
     let k = number (e .answer) in
-    scan (c .qualified + 1) (c .repaired + cond (eqb k 0) 1 0) (cond (eqb (c .refused) 0) k (c .refused)) (e .after)
+    scan (c .qualified + 1) (c .repaired + (if eqb k 0 then 1 else 0)) (if eqb (c .refused) 0 then k else c .refused) (e .after)
     (workAfter nought (needed (length (c .after .samples)) start len) (e .answer) (c .work))
 
 -- "The scan takes each such answer apart into start and length, or stops"; "the scan goes on after a refused one". From place i

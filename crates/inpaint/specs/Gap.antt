@@ -8,11 +8,13 @@ use lib.Dec.{leb, ltb, eqb}
 use lib.Ieee.{Float, binary32, toBits, add, sub, mul, div}
 use Rattle.leaves.specs.Arithmetic.{_+₃₂_, _-₃₂_, _*₃₂_, _/₃₂_, nought, one, float, count}
 use Rattle.leaves.specs.Floats.{narrowed}
-use Rattle.recording.specs.Recording.{State, Ended, Plan, refuse, change, span, called, if_then_else_, gapByModel}
-use Rattle.recording.specs.Recording.{gapByLine, orElse, readable, unlessRead}
+use Rattle.recording.specs.Recording.{State, Ended, Plan, refuse, change, span, called}
+use Rattle.recording.specs.Marks.{gapByModel, gapByLine}
+use Rattle.leaves.specs.Choice.{if_then_else_}
+use Rattle.recording.specs.Recording.{orElse, readable, unlessRead}
 use Rattle.recording.specs.declared.Reason.the-variants.{Gap, Workspace}
 use Rattle.recording.specs.declared.Answer.{Answer}
-use Rattle.model.specs.Model.{orderFor, filled}
+use Rattle.model.specs.Model.{orderFor, doublesFor, filled}
 
 -- 5: "gap length 0, start at or past the end, or gap past the end"
 abbrev pub gapWrong : ℕ → ℕ → ℕ → Bool
@@ -45,8 +47,7 @@ window samples start len = take (windowSize (length samples) start len) (drop (f
 -- "Workspace, in doubles: window + len*(p+1) + 3*len + 4*(p+1)", and of a line "len doubles"
 unfoldable pub needed : ℕ → ℕ → ℕ → ℕ
 needed n start len =
-    let p = orderFor len in
-    if byLine len then len else windowSize n start len + len * (p + 1) + 3 * len + 4 * (p + 1)
+    if byLine len then len else doublesFor (windowSize n start len) len (orderFor len)
 
 -- ---- What is read
 

@@ -7,7 +7,8 @@ use mathlib.Core.Path.{_≡_}
 use mathlib.Core.List.{List, [], _∷_}
 use lib.ListN.{length}
 use lib.Ieee.{Float}
-use Rattle.recording.specs.Recording.{State, if_then_else_}
+use Rattle.recording.specs.Recording.{State}
+use Rattle.leaves.specs.Choice.{if_then_else_}
 use Rattle.recording.specs.Runs.{begins, runLength}
 use Rattle.recording.specs.Answers.{reasonNumber}
 use Rattle.recording.specs.History.{Call, repair, did, run}

@@ -1,12 +1,12 @@
 // The automatic scan for dropouts.
 ghost use mathlib.Core.Path.{_≡_};
-ghost use mathlib.Core.Bool.{cond};
 ghost use Prim.Native.Nat.{_+_, _≤_, _<_};
 ghost use lib.ListN.{length};
 ghost use lib.Dec.{eqb};
 ghost use lib.Ieee.{toUnsigned};
-ghost use Rattle.recording.specs.Recording.{state};
+ghost use Rattle.leaves.specs.Choice.{if_then_else_};
 ghost use Rattle.inpaint.specs.Auto.{allowed, limit, dropout, runBegins, qualifies, nextRun, scan, scanFrom, scannable, automatic};
+ghost use Rattle.recording.specs.Lent.{left, lent, seen};
 use super::Run;
 use super::Scanned;
 use super::gap::inpaint_gap;
@@ -145,7 +145,7 @@ fn check_scan(
     rate: u32,
     millis: f32,
 ) -> Answer
-    ensures { λ r. ⌜ r ≡ scannable rate millis (state (now (samples .entry)) (now (marks .entry)) (now (journal .entry)) used) ⌝ }
+    ensures { λ r. ⌜ r ≡ scannable rate millis (seen samples marks journal used) ⌝ }
 {
     let sized = check_sizes(samples, marks, journal, used);
     let Answer::Done(_) = sized else {
@@ -160,14 +160,14 @@ fn check_scan(
 
 // 1 for the number of an acceptance, and 0 for that of a refusal.
 fn accepted(number: u32) -> usize
-    ensures { λ r. ⌜ r ≡ cond (eqb number 0) 1 0 ⌝ }
+    ensures { λ r. ⌜ r ≡ (if eqb number 0 then 1 else 0) ⌝ }
 {
     if number == 0 { 1 } else { 0 }
 }
 
 // The first of two numbers that is not 0, or 0.
 fn first_of(number: u32, later: u32) -> u32
-    ensures { λ r. ⌜ r ≡ cond (eqb number 0) later number ⌝ }
+    ensures { λ r. ⌜ r ≡ (if eqb number 0 then later else number) ⌝ }
 {
     if number == 0 { later } else { number }
 }
@@ -182,10 +182,8 @@ fn repair_runs(
     most: usize,
     work: &mut [f64],
 ) -> Scanned
-    ensures { λ r. ⌜ scan (r .qualified) (r .repaired) (r .refused)
-        (state (now (samples .exit)) (now (marks .exit)) (now (journal .exit)) (now (used .exit))) (now (work .exit))
-        ≡ scanFrom most 0 (length (now (samples .entry))) (scan 0 0 0
-        (state (now (samples .entry)) (now (marks .entry)) (now (journal .entry)) (now (used .entry))) (now (work .entry))) ⌝ }
+    ensures { λ r. ⌜ scan (r .qualified) (r .repaired) (r .refused) (left samples marks journal used) (now (work .exit))
+        ≡ scanFrom most 0 (length (now (samples .entry))) (scan 0 0 0 (lent samples marks journal used) (now (work .entry))) ⌝ }
 {
     let n = samples.len();
     let mut qualified: usize = 0;
@@ -221,10 +219,8 @@ pub fn inpaint_auto(
     millis: f32,
     work: &mut [f64],
 ) -> Scanned
-    ensures { λ r. ⌜ scan (r .qualified) (r .repaired) (r .refused)
-        (state (now (samples .exit)) (now (marks .exit)) (now (journal .exit)) (now (used .exit))) (now (work .exit))
-        ≡ automatic rate millis (now (work .entry))
-        (state (now (samples .entry)) (now (marks .entry)) (now (journal .entry)) (now (used .entry))) ⌝ }
+    ensures { λ r. ⌜ scan (r .qualified) (r .repaired) (r .refused) (left samples marks journal used) (now (work .exit))
+        ≡ automatic rate millis (now (work .entry)) (lent samples marks journal used) ⌝ }
 {
     let checked = check_scan(samples, marks, journal, *used, rate, millis);
     let Answer::Done(_) = checked else {

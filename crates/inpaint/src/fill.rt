@@ -6,7 +6,9 @@ ghost use Prim.Native.Nat.{_+_, _≤_};
 ghost use lib.ListN.{length, drop};
 ghost use lib.Seq.{sets};
 ghost use Rattle.leaves.specs.Arithmetic.{float};
-ghost use Rattle.recording.specs.Recording.{state, ended, mostSamples, change, span, ranged, carried, gapByModel};
+ghost use Rattle.recording.specs.Recording.{ended, mostSamples, change, span, ranged, carried};
+ghost use Rattle.recording.specs.Lent.{left, lent, given};
+ghost use Rattle.recording.specs.Marks.{gapByModel};
 ghost use Rattle.recording.specs.Inner.{Fits};
 ghost use Rattle.inpaint.specs.Gap.{narrowWord, needed, model};
 use super::window::order_for;
@@ -18,12 +20,11 @@ use leaves::words::in_range;
 use leaves::words::widen;
 use leaves::words::word_of_f32;
 use model::fill::fill_by_model;
+use model::fill::results_at;
 use recording::Answer;
 use recording::Reason;
 use recording::commit::enter_span;
-
-// The mark of a sample that the model filled.
-const GAP_BY_MODEL: u8 = 1;
+use recording::marks::GAP_BY_MODEL;
 
 // Writes the floats of words, widened, at the front of the workspace.
 fn widen_words(words: &[u32], work: &mut [f64])
@@ -83,11 +84,9 @@ pub fn repair_by_model(
     len: usize,
     work: &mut [f64],
 ) -> Answer
-    requires { ⌜ Fits (state (now samples) (now marks) (now journal) (now used)) × (start + len ≤ length (now samples))
+    requires { ⌜ Fits (given samples marks journal used) × (start + len ≤ length (now samples))
         × (1 ≤ len) × (len ≤ 2048) × (needed (length (now samples)) start len ≤ length (now work)) ⌝ }
-    ensures { λ r. ⌜ (ended r (state (now (samples .exit)) (now (marks .exit)) (now (journal .exit)) (now (used .exit)))
-        ≡ carried (state (now (samples .entry)) (now (marks .entry)) (now (journal .entry)) (now (used .entry)))
-        (change gapByModel (span start (model 1 (now (samples .entry)) start len))))
+    ensures { λ r. ⌜ (ended r (left samples marks journal used) ≡ carried (lent samples marks journal used) (change gapByModel (span start (model 1 (now (samples .entry)) start len))))
         × (length (now (work .exit)) ≡ length (now (work .entry)))
         × (drop (needed (length (now (samples .entry))) start len) (now (work .exit))
         ≡ drop (needed (length (now (samples .entry))) start len) (now (work .entry))) ⌝ }
@@ -97,7 +96,7 @@ pub fn repair_by_model(
     widen_words(known, work);
     let p = order_for(len);
     fill_by_model(work, size, start - window_from(start, len), len, p);
-    let at = size + 4 * (p + 1) + len * (p + 1) + 2 * len;
+    let at = results_at(size, len, p);
     let checked = check_results(&work[at..at + len], start);
     let Answer::Done(_) = checked else {
         return checked;

@@ -2,7 +2,8 @@
 ghost use mathlib.Core.Path.{_≡_};
 ghost use lib.ListN.{length};
 ghost use Rattle.leaves.specs.Arithmetic.{nought};
-ghost use Rattle.recording.specs.Recording.{state, ended, workAfter};
+ghost use Rattle.recording.specs.Recording.{ended, workAfter};
+ghost use Rattle.recording.specs.Lent.{left, lent};
 ghost use Rattle.inpaint.specs.Gap.{needed, gapRepair};
 use super::fill::repair_by_model;
 use super::line::repair_by_line;
@@ -27,9 +28,8 @@ pub fn inpaint_gap(
     passes: u32,
     work: &mut [f64],
 ) -> Answer
-    ensures { λ r. ⌜ (ended r (state (now (samples .exit)) (now (marks .exit)) (now (journal .exit)) (now (used .exit)))
-        ≡ gapRepair start len passes (length (now (work .entry)))
-        (state (now (samples .entry)) (now (marks .entry)) (now (journal .entry)) (now (used .entry))))
+    ensures { λ r. ⌜ (ended r (left samples marks journal used)
+        ≡ gapRepair start len passes (length (now (work .entry))) (lent samples marks journal used))
         × (now (work .exit) ≡ workAfter nought (needed (length (now (samples .entry))) start len) r (now (work .entry))) ⌝ }
 {
     let sized = check_sizes(samples, marks, journal, *used);

@@ -1,10 +1,10 @@
 // Gaps: the window around one, the straight line and the model that fill it, the repair of one gap, and
 // the automatic scan that finds dropouts and repairs each.
 pub mod auto;
-pub mod fill;
+mod fill;
 pub mod gap;
-pub mod line;
-pub mod window;
+mod line;
+mod window;
 
 // What the search for a dropout run answers: a run, by its start and its length, or that there is none.
 pub enum Run {

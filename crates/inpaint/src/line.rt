@@ -4,7 +4,9 @@ ghost use mathlib.Core.Path.{_≡_};
 ghost use Prim.Native.Nat.{_+_, _≤_, _<_};
 ghost use lib.ListN.{length};
 ghost use lib.Ieee.{binary32, toBits};
-ghost use Rattle.recording.specs.Recording.{state, ended, mostSamples, change, span, ranged, carried, gapByLine};
+ghost use Rattle.recording.specs.Recording.{ended, mostSamples, change, span, ranged, carried};
+ghost use Rattle.recording.specs.Lent.{left, lent, given};
+ghost use Rattle.recording.specs.Marks.{gapByLine};
 ghost use Rattle.recording.specs.Inner.{Fits};
 ghost use Rattle.inpaint.specs.Gap.{leftOf, rightOf, lineAt, lineFrom, line};
 use leaves::words::count_as_f32;
@@ -14,9 +16,7 @@ use leaves::words::word_of_f32;
 use recording::Answer;
 use recording::Reason;
 use recording::commit::enter_span;
-
-// The mark of a sample that a straight line filled.
-const GAP_BY_LINE: u8 = 2;
+use recording::marks::GAP_BY_LINE;
 
 // The sample before place `start`, or 0 where there is none.
 fn left_of(samples: &[u32], start: usize) -> f32
@@ -87,10 +87,8 @@ pub fn repair_by_line(
     start: usize,
     len: usize,
 ) -> Answer
-    requires { ⌜ Fits (state (now samples) (now marks) (now journal) (now used)) × (start + len ≤ length (now samples)) ⌝ }
-    ensures { λ r. ⌜ ended r (state (now (samples .exit)) (now (marks .exit)) (now (journal .exit)) (now (used .exit)))
-        ≡ carried (state (now (samples .entry)) (now (marks .entry)) (now (journal .entry)) (now (used .entry)))
-        (change gapByLine (span start (line (now (samples .entry)) start len))) ⌝ }
+    requires { ⌜ Fits (given samples marks journal used) × (start + len ≤ length (now samples)) ⌝ }
+    ensures { λ r. ⌜ ended r (left samples marks journal used) ≡ carried (lent samples marks journal used) (change gapByLine (span start (line (now (samples .entry)) start len))) ⌝ }
 {
     let end = start + len;
     let left = left_of(samples, start);

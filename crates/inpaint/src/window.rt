@@ -5,8 +5,9 @@ ghost use Rattle.recording.specs.Recording.{mostSamples};
 ghost use Rattle.model.specs.Model.{orderFor};
 ghost use Rattle.inpaint.specs.Gap.{gapWrong, context, from, to, window, needed, allReadable};
 ghost use Rattle.inpaint.specs.Inner.{Within};
-use leaves::counts::above;
-use leaves::counts::least;
+use leaves::counts::difference_or_zero;
+use leaves::counts::smaller_of;
+use model::fill::doubles_for;
 use recording::Answer;
 use recording::read::check_words;
 
@@ -41,7 +42,7 @@ pub fn order_for(len: usize) -> usize
     if len <= AR_ORDER {
         AR_ORDER
     } else {
-        least(len, MAX_ORDER)
+        smaller_of(len, MAX_ORDER)
     }
 }
 
@@ -65,7 +66,7 @@ pub fn window_from(start: usize, len: usize) -> usize
     requires { ⌜ len ≤ mostSamples ⌝ }
     ensures { λ r. ⌜ r ≡ from start len ⌝ }
 {
-    above(start, context_of(len))
+    difference_or_zero(start, context_of(len))
 }
 
 // Where it ends.
@@ -73,7 +74,7 @@ pub fn window_to(n: usize, start: usize, len: usize) -> usize
     requires { ⌜ (n ≤ mostSamples) × (start + len ≤ n) ⌝ }
     ensures { λ r. ⌜ r ≡ to n start len ⌝ }
 {
-    least(n, start + len + context_of(len))
+    smaller_of(n, start + len + context_of(len))
 }
 
 // The window, as a part of the caller's samples.
@@ -96,7 +97,7 @@ pub fn needed_for(n: usize, start: usize, len: usize) -> usize
     }
     let size = window_to(n, start, len) - window_from(start, len);
     let p = order_for(len);
-    size + len * (p + 1) + 3 * len + 4 * (p + 1)
+    doubles_for(size, len, p)
 }
 
 // Refusal 7 for what the repair of a gap reads: the window before the gap, and then behind it.

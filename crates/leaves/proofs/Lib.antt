@@ -1,4 +1,5 @@
 -- Laws on numbers, lists and floats that several proofs, here and in the crates above, cite.
+pub mod Choice
 pub mod Numbers
 pub mod Lists
 pub mod Parts

@@ -1,11 +1,12 @@
--- Runs of stores: one that covers a whole list, and a loop that stores the image of what stands in another list.
+-- Runs of stores: one that covers a whole list, a loop that stores one value after the other, and one that stores the image of what
+-- stands in another list: what is left to store, stored from the present place on, gives the whole.
 -- Assumes nothing.
 use mathlib.Core.Path.{_≡_, refl, sym, ap, _∙_}
 use mathlib.Core.List.{List, map, append-nil}
-use Prim.Native.Nat.{ℕ, suc, _+_, _≤_, _<_}
+use Prim.Native.Nat.{ℕ, suc, _+_, _-_, _≤_, _<_}
 use native.Mathlib.Omega.{arith}
 use native.Mathlib.Nat.{zero-add}
-use lib.ListN.{length, set, getD, drop, drop-of-length-le}
+use lib.ListN.{length, set, getD, drop, drop-of-length-le, replicate}
 use lib.Seq.{sets, sets-eq, drop-cons, drop-length}
 
 -- as many values as the list has, stored from its first place on
@@ -38,3 +39,18 @@ copy-more l whole vs a next i d h e rest =
 
 pub all-copied : {A : Type 0} (l whole vs : List A) (a i : ℕ) → length vs ≤ i → sets l a (drop i vs) ≡ whole → l ≡ whole
 all-copied l whole vs a i h rest = sym (ap (λ (xs : List _). sets l a xs) (drop-of-length-le vs h)) ∙ rest
+
+-- one turn of a loop that stores v at `count` places
+pub run-more : {A : Type 0} (l whole : List A) (a next count i : ℕ) (v : A) → i < count → next ≡ a + 1
+    → sets l a (replicate (count - i) v) ≡ whole
+    → sets (set l a v) next (replicate (count - (i + 1)) v) ≡ whole
+run-more l whole a next count i v h e rest =
+    let left : count - i ≡ suc (count - (i + 1)) = omega arith in
+    let there : next ≡ suc a = omega arith in
+    rw there (sym (ap (λ (n : ℕ). sets l a (replicate n v)) left) ∙ rest)
+
+-- where nothing is left to store, the whole is there
+pub all-stored : {A : Type 0} (l whole : List A) (a count i : ℕ) (v : A) → count ≤ i → sets l a (replicate (count - i) v) ≡ whole → l ≡ whole
+all-stored l whole a count i v h rest =
+    let none : count - i ≡ 0 = omega arith in
+    sym (ap (λ (n : ℕ). sets l a (replicate n v)) none) ∙ rest

@@ -4,10 +4,11 @@
 -- even one; `finite` is true of all but `nan` and the infinities. One definition serves both formats. Widening has none:
 -- the number stays what it is. Definitions only.
 use Prim.Native.Nat.{ℕ, _+_, _*_, _/_}
-use mathlib.Core.Bool.{Bool, false, cond, _&&_}
+use mathlib.Core.Bool.{Bool, false, _&&_}
 use lib.IntN.{pos}
 use lib.Ieee.{Float, nan, inf, fin, binary32, round, up, down, lt, le, isNan, ofBits}
 use lib.Ieee.Scale.{finite}
+use Rattle.leaves.specs.Choice.{if_then_else_}
 
 -- "magnitude": the number without its sign
 abbrev pub magnitude : Float → Float
@@ -43,13 +44,13 @@ rounded (fin s m e) = round binary32 s ((2 * (m * up e) + down e) / (2 * down e)
 -- "larger and smaller of two as in Rust (a NaN loses to a number; of two equals the first is given)"
 unfoldable pub larger : Float → Float → Float
 unfolding lt isNan
-larger a b = cond (isNan a) b (cond (lt a b) b a)
+larger a b = if isNan a then b else if lt a b then b else a
 
 unfoldable pub smaller : Float → Float → Float
 unfolding lt isNan
-smaller a b = cond (isNan a) b (cond (lt b a) b a)
+smaller a b = if isNan a then b else if lt b a then b else a
 
 -- "held to" low .. high, as Rust's `clamp`: x, or the end that it lies beyond. A NaN lies beyond neither.
 unfoldable pub held : Float → Float → Float → Float
 unfolding lt
-held low high x = cond (lt x low) low (cond (lt high x) high x)
+held low high x = if lt x low then low else if lt high x then high else x

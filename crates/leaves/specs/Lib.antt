@@ -1,3 +1,4 @@
+pub mod Choice
 pub mod Arithmetic
 pub mod Floats
 pub mod Root

@@ -4,10 +4,11 @@
 -- double has it. Definitions only.
 use Prim.Native.Nat.{ℕ, zero, suc, _+_, _-_, _*_, _/_, _^_, _≤_, _<_}
 use mathlib.Core.Path.{_≡_}
-use mathlib.Core.Bool.{true, false, cond}
+use mathlib.Core.Bool.{true, false}
 use lib.Dec.{leb, ltb}
 use lib.Ieee.{Float, nan, inf, fin, binary64, round, up, down, size}
 use lib.Ieee.Exact.{HasValue}
+use Rattle.leaves.specs.Choice.{if_then_else_}
 
 -- ---- the meaning
 
@@ -46,7 +47,7 @@ SquareRoot (fin false (suc m) e) r = NearestRoot (fin false (suc m) e) r
 -- s with the k binary digits below it, from the highest down: each is 1 where the square is then still at most n
 unfoldable pub extend : ℕ → ℕ → ℕ → ℕ
 extend zero s n = s
-extend (suc k) s n = let t = s + 2 ^ k in extend k (cond (leb (t * t) n) t s) n
+extend (suc k) s n = let t = s + 2 ^ k in extend k (if leb (t * t) n then t else s) n
 
 -- the whole root of an n below 4 ^ 53: the largest s with s * s ≤ n, which has 53 digits at most
 unfoldable pub wholeRoot : ℕ → ℕ
@@ -56,7 +57,7 @@ wholeRoot n = extend 53 0 n
 -- the whole number nearest to the root of n: s + 1 where n is above s * s + s, which is 1/4 less than the square of s + 1/2
 unfoldable pub nearestRoot : ℕ → ℕ
 unfolding wholeRoot
-nearestRoot n = let s = wholeRoot n in cond (ltb s (n - s * s)) (s + 1) s
+nearestRoot n = let s = wholeRoot n in if ltb s (n - s * s) then s + 1 else s
 
 -- The root of a positive double that is a of the least ones, a / 2 ^ 1074. Times 4 ^ 53 the number a has 107 binary digits
 -- or more, and without the last 2 * k of them, which are zeros, 105 or 106: that is n, and its root has 53.

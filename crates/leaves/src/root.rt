@@ -7,6 +7,7 @@ ghost use Prim.Native.Nat.{_+_, _*_, _^_, _<_, _≤_};
 ghost use lib.Ieee.{Float, binary64, ofBits};
 ghost use lib.Ieee.Exact.{HasValue};
 ghost use Rattle.leaves.specs.Root.{Nearest, NearestRoot, Rooted};
+ghost use Rattle.leaves.specs.Steps.{mostScale};
 use super::words::FIELD64;
 use super::words::INFINITY64;
 use super::words::f64_of_word;
@@ -47,7 +48,7 @@ fn nearest_root(digits: u64) -> u64
 // an odd scale taken into the digits, it is n * 4 ^ u / 4 ^ 589 for n = digits * 2 ^ 52 and u half of
 // scale. Its root is q * 2 ^ u / 2 ^ 589, which is q * 2 ^ (u + 485) of the least double.
 fn scaled_root(digits: u64, scale: u64) -> f64
-    requires { ⌜ (2 ^ 52 ≤ digits) × ((digits < 2 ^ 53) × (scale ≤ 2097)) ⌝ }
+    requires { ⌜ (2 ^ 52 ≤ digits) × ((digits < 2 ^ 53) × (scale ≤ mostScale)) ⌝ }
     ensures { λ r. ⌜ ((x : Float) → HasValue x false (digits * 2 ^ scale) (2 ^ 1126) → NearestRoot x r) ⌝ }
 {
     let q = nearest_root(digits * (1 + scale % 2));

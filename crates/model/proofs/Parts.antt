@@ -1,8 +1,9 @@
 -- The areas of a workspace: what a stage that keeps to its own places leaves of each. Assumes nothing.
 use mathlib.Core.Path.{_≡_, sym, ap, _∙_}
 use mathlib.Core.List.{List}
-use Prim.Native.Nat.{ℕ, _+_, _-_, _≤_}
+use Prim.Native.Nat.{ℕ, _+_, _-_, _*_, _≤_}
 use native.Mathlib.Omega.{arith}
+use native.Mathlib.Nat.{mul-le-mul}
 use lib.ListN.{length, take, drop}
 use lib.Seq.{sets, length-sets, take-take, drop-drop}
 use lib.Ieee.{Float}
@@ -39,3 +40,9 @@ only-wider low high low' high' w v h k o =
 
 pub only-before : (low high from n : ℕ) (w v : List Float) → Only low high w v → from + n ≤ low → area v from n ≡ area w from n
 only-before low high from n w v o h = kept-before w v low from n (o .before) h
+
+-- the band, the largest of the areas, is small
+pub band-most : (len p : ℕ) → len ≤ 2048 → p ≤ 128 → len * (p + 1) ≤ 264192
+band-most len p h k =
+    let wide : p + 1 ≤ 129 = omega arith in
+    mul-le-mul h wide

@@ -1,6 +1,6 @@
 -- The passes: what stands in the gap has no say in a pass, so every number of passes gives what one gives. Assumes nothing.
 use mathlib.Core.Path.{_≡_, refl, sym, ap, _∙_}
-use mathlib.Core.Bool.{Bool, true, false, true≢false, _&&_}
+use mathlib.Core.Bool.{Bool, true, _&&_}
 use mathlib.Core.List.{List, [], _++_, append-assoc}
 use Prim.Native.Nat.{ℕ, zero, suc, _+_, _-_, _≤_, _<_, min}
 use native.Mathlib.Omega.{arith}
@@ -12,7 +12,7 @@ use lib.Ieee.{Float, nan, neg}
 use borrow.Author.Tests.{le-ltb, le-leb, ltb-true, leb-true}
 use Rattle.leaves.specs.Arithmetic.{_+₆₄_, _*₆₄_, at, nought}
 use Rattle.leaves.proofs.Lists.{read-before, read-after}
-use Rattle.recording.proofs.open.Laws.{truth}
+use Rattle.leaves.proofs.Choice.{truth, both-hold}
 use Rattle.model.specs.Model.{plus, plusWhere, known, lagSum, lags, estimateArKnown, coefAutocorr, rightSide, rightSides}
 use Rattle.model.specs.Model.{solveSpdBanded, backward, solved, pass, passes, orderFor, filled}
 use Rattle.leaves.proofs.Parts.{part-of-sets}
@@ -47,12 +47,6 @@ where-agree test f f' i (suc n) s same =
       | inl holds ↦ rw (holds, same i holds) (where-agree test f f' (i + 1) n (s +₆₄ f' i) same)
       | inr fails ↦ rw fails (where-agree test f f' (i + 1) n s same)
     ]
-
--- two tests that both hold
-pub both-hold : (a b : Bool) → a && b ≡ true → (a ≡ true) × (b ≡ true)
-both-hold true true h = (refl, refl)
-both-hold true false h = absurd (true≢false (sym h))
-both-hold false b h = absurd (true≢false (sym h))
 
 -- ---- A pass reads what is known
 

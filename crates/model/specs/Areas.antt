@@ -4,6 +4,7 @@ use mathlib.Core.Path.{_≡_}
 use mathlib.Core.List.{List}
 use lib.ListN.{length, take, drop}
 use lib.Ieee.{Float}
+use Rattle.model.specs.Model.{mostWindow, doublesFor}
 
 -- the n doubles from place `from` on
 abbrev pub area : List Float → ℕ → ℕ → List Float
@@ -26,14 +27,10 @@ bandAt size p = size + 4 * (p + 1)
 abbrev pub resultsAt : ℕ → ℕ → ℕ → ℕ
 resultsAt size len p = size + 4 * (p + 1) + len * (p + 1) + 2 * len
 
--- "Workspace, in doubles: window + len*(p+1) + 3*len + 4*(p+1)."
-abbrev pub doublesFor : ℕ → ℕ → ℕ → ℕ
-doublesFor size len p = size + len * (p + 1) + 3 * len + 4 * (p + 1)
-
 -- what the stages ask for: a gap within its window, an order, lengths that no sum of them overflows, and room in the workspace
 pub record Laid (size g len p : ℕ) (w : List Float) : Type 0 where
   pub within : g + len ≤ size
-  pub few : size ≤ 32768
+  pub few : size ≤ mostWindow
   pub short : len ≤ 2048
   pub some : 1 ≤ len
   pub order : 1 ≤ p

@@ -2,11 +2,12 @@
 -- order of operations of the source's function. A window is a list `seg` of doubles; the gap is its `len` places from `g` on, and
 -- `p` is the order of the model. Definitions only.
 use Prim.Native.Nat.{ℕ, zero, suc, _+_, _-_, _*_, max, min}
-use mathlib.Core.Bool.{Bool, _&&_, _||_, cond}
+use mathlib.Core.Bool.{Bool, _&&_, _||_}
 use mathlib.Core.List.{List, [], _∷_, _++_}
 use lib.ListN.{length, set, replicate, take, drop}
 use lib.Dec.{leb, ltb, eqb}
 use lib.Ieee.{Float, binary64, add, sub, mul, div, neg, lt, le}
+use Rattle.leaves.specs.Choice.{if_then_else_}
 use Rattle.leaves.specs.Arithmetic.{_+₆₄_, _-₆₄_, _*₆₄_, _/₆₄_, nought, one, near, at}
 use Rattle.leaves.specs.Floats.{magnitude, larger}
 use Rattle.leaves.specs.Root.{root}
@@ -14,6 +15,14 @@ use Rattle.leaves.specs.Root.{root}
 -- "p is len held to 32..128"
 abbrev pub orderFor : ℕ → ℕ
 orderFor len = min (max len 32) 128
+
+-- "Workspace, in doubles: window + len*(p+1) + 3*len + 4*(p+1)", for a window of `size` samples
+abbrev pub doublesFor : ℕ → ℕ → ℕ → ℕ
+doublesFor size len p = size + len * (p + 1) + 3 * len + 4 * (p + 1)
+
+-- the most samples that a window has: a gap of 2048, and a context of 4 * 2048 on either side of it
+abbrev pub mostWindow : ℕ
+mostWindow = 18432
 
 -- the 1e-6 of "1+1e-6" and of "1e-6*b[0]"
 unfoldable pub micro : Float
@@ -34,16 +43,16 @@ plus f i zero s = s
 plus f i (suc n) s = plus f (i + 1) n (s +₆₄ f i)
 
 -- s with f i, f (i + 1), .. taken away in turn, n of them
-unfoldable pub less : (ℕ → Float) → ℕ → ℕ → Float → Float
+unfoldable pub minus : (ℕ → Float) → ℕ → ℕ → Float → Float
 unfolding sub
-less f i zero s = s
-less f i (suc n) s = less f (i + 1) n (s -₆₄ f i)
+minus f i zero s = s
+minus f i (suc n) s = minus f (i + 1) n (s -₆₄ f i)
 
 -- s with those of the n from i on added in turn whose places pass a test
 unfoldable pub plusWhere : (ℕ → Bool) → (ℕ → Float) → ℕ → ℕ → Float → Float
 unfolding add
 plusWhere test f i zero s = s
-plusWhere test f i (suc n) s = plusWhere test f (i + 1) n (cond (test i) (s +₆₄ f i) s)
+plusWhere test f i (suc n) s = plusWhere test f (i + 1) n (if test i then s +₆₄ f i else s)
 
 -- f i, f (i + 1), ..: n of them
 unfoldable pub each : (ℕ → Float) → ℕ → ℕ → List Float
@@ -81,7 +90,10 @@ shortfall a r i = plus (λ j. at a j *₆₄ at r (i - j)) 1 (i - 1) (at r i)
 -- the order i: each coefficient between the first and the i-th gains k times its mirror, and the i-th is k
 unfoldable pub raisedAt : List Float → ℕ → Float → ℕ → Float
 unfolding add mul
-raisedAt a i k j = cond (ltb 0 j && ltb j i) (at a j +₆₄ k *₆₄ at a (i - j)) (cond (eqb j i) k (at a j))
+raisedAt a i k j =
+    if ltb 0 j && ltb j i then at a j +₆₄ k *₆₄ at a (i - j) else
+    if eqb j i then k else
+    at a j
 
 -- so all of them
 unfoldable pub raised : List Float → ℕ → Float → List Float
@@ -97,7 +109,9 @@ orders r a e i (suc n) =
     let a' = raised a i k in
     let e' = e *₆₄ (one -₆₄ k *₆₄ k) in
     let on = orders r a' e' (i + 1) n in
-    cond (lt (magnitude e) pico) a (cond (le e' nought) a' on)
+    if lt (magnitude e) pico then a else
+    if le e' nought then a' else
+    on
 
 -- from order 1 on, with the model 1,0,..,0 and e = r[0]
 unfoldable pub levinson : List Float → ℕ → List Float
@@ -110,7 +124,7 @@ unfolding lags levinson le mul add micro
 estimateArKnown seg g len p =
     let r = lags seg g len p in
     let model = levinson (set r 0 (at r 0 *₆₄ (one +₆₄ micro))) p in
-    cond (le (at r 0) nought) (unit p) model
+    if le (at r 0) nought then unit p else model
 
 -- ---- coef_autocorr
 
@@ -129,7 +143,7 @@ coefAutocorr a p = each (coefAt a p) 0 (p + 1)
 -- the matrix at a place d before the diagonal: b by the distance from the diagonal; "diagonal plus 1e-6*b[0]"
 unfoldable pub laid : List Float → ℕ → Float
 unfolding add mul micro
-laid b d = cond (eqb d 0) (at b 0 +₆₄ micro *₆₄ at b 0) (at b d)
+laid b d = if eqb d 0 then at b 0 +₆₄ micro *₆₄ at b 0 else at b d
 
 -- "right side from known neighbours within p": of the gap's place c, those before the gap, then those behind it, ascending
 unfoldable pub rightSide : List Float → ℕ → ℕ → List Float → ℕ → ℕ → Float
@@ -155,12 +169,14 @@ mat p band i j = at band (p * (i + 1) + j)
 -- the place of row i that is d before the diagonal, with those before it in the band: "banded Cholesky, pivot raised to at
 -- least 1e-12 before its square root". A place before column 0 is left +0.
 unfoldable pub cellAt : List Float → ℕ → List Float → ℕ → ℕ → Float
-unfolding laid less mul div larger root pico
+unfolding laid minus mul div larger root pico
 cellAt b p band i d =
     let j = i - d in
     let low = i - p in
-    let sum = less (λ k. mat p band i k *₆₄ mat p band j k) low (j - low) (laid b d) in
-    cond (ltb i d) nought (cond (eqb d 0) (root (larger sum pico)) (sum /₆₄ mat p band j j))
+    let sum = minus (λ k. mat p band i k *₆₄ mat p band j k) low (j - low) (laid b d) in
+    if ltb i d then nought else
+    if eqb d 0 then root (larger sum pico) else
+    sum /₆₄ mat p band j j
 
 -- the n last places of row i, behind those that stand in the band
 unfoldable pub cells : List Float → ℕ → ℕ → ℕ → List Float → List Float
@@ -181,10 +197,10 @@ factored b p len = rows b p 0 len []
 
 -- "forward .. solves": y[i], with those before it in y
 unfoldable pub forwardAt : List Float → List Float → ℕ → List Float → Float
-unfolding less mul div
+unfolding minus mul div
 forwardAt band rhs p y =
     let i = length y in
-    less (λ k. mat p band i k *₆₄ at y k) (i - p) (i - (i - p)) (at rhs i) /₆₄ mat p band i i
+    minus (λ k. mat p band i k *₆₄ at y k) (i - p) (i - (i - p)) (at rhs i) /₆₄ mat p band i i
 
 -- the next n, behind those that stand in y
 unfoldable pub forward : List Float → List Float → ℕ → ℕ → List Float → List Float
@@ -194,10 +210,10 @@ forward band rhs p (suc n) y = forward band rhs p n (y ++ (forwardAt band rhs p 
 
 -- "back solves": x[i], with those from i + 1 on in x
 unfoldable pub backwardAt : List Float → List Float → ℕ → ℕ → ℕ → List Float → Float
-unfolding less mul div
+unfolding minus mul div
 backwardAt band y p len i x =
     let high = min (i + p) (len - 1) in
-    less (λ k. mat p band k i *₆₄ at x (k - (i + 1))) (i + 1) (high - i) (at y i) /₆₄ mat p band i i
+    minus (λ k. mat p band k i *₆₄ at x (k - (i + 1))) (i + 1) (high - i) (at y i) /₆₄ mat p band i i
 
 -- the first n, before those that stand in x
 unfoldable pub backward : List Float → List Float → ℕ → ℕ → ℕ → List Float → List Float

@@ -9,8 +9,8 @@ ghost use Rattle.model.specs.Model.{laid, cellAt, cells, factored, forwa
 ghost use Rattle.model.specs.Areas.{area};
 use super::sums::minus_column;
 use super::sums::minus_products;
-use leaves::counts::above;
-use leaves::counts::least;
+use leaves::counts::difference_or_zero;
+use leaves::counts::smaller_of;
 use leaves::order::larger64;
 use leaves::root::square_root;
 
@@ -35,7 +35,15 @@ fn cell_at(b: &[f64], p: usize, band: &[f64], i: usize, d: usize) -> f64
     let j = i - d;
     let row = p * (i + 1);
     let other = p * (j + 1);
-    let sum = minus_products(band, row, band, other, above(i, p), j, laid_at(b, d));
+    let sum = minus_products(
+        band,
+        row,
+        band,
+        other,
+        difference_or_zero(i, p),
+        j,
+        laid_at(b, d),
+    );
     if d == 0 {
         square_root(larger64(sum, 1e-12))
     } else {
@@ -77,7 +85,7 @@ fn forward_at(band: &[f64], rhs: &[f64], p: usize, y: &[f64]) -> f64
 {
     let i = y.len();
     let row = p * (i + 1);
-    let sum = minus_products(band, row, y, 0, above(i, p), i, rhs[i]);
+    let sum = minus_products(band, row, y, 0, difference_or_zero(i, p), i, rhs[i]);
     sum / band[row + i]
 }
 
@@ -105,7 +113,7 @@ fn backward_at(band: &[f64], y: &[f64], p: usize, i: usize, x: &[f64]) -> f64
         × (1 ≤ p) × (p ≤ 128) × (length (now y) ≤ 2048) ⌝ }
     ensures { λ r. ⌜ r ≡ backwardAt (now (band .entry)) (now (y .entry)) p (length (now (y .entry))) i (now (x .entry)) ⌝ }
 {
-    let high = least(i + p, y.len() - 1);
+    let high = smaller_of(i + p, y.len() - 1);
     let sum = minus_column(band, p, i, x, high, y[i]);
     sum / band[p * (i + 1) + i]
 }

@@ -3,8 +3,8 @@ ghost use mathlib.Core.Path.{_≡_};
 ghost use Prim.Native.Nat.{_+_, _*_, _≤_, _<_};
 ghost use lib.ListN.{length};
 ghost use lib.Seq.{sets};
-ghost use Rattle.model.specs.Model.{coefAutocorr, rightSides, solveSpdBanded, solved};
-ghost use Rattle.model.specs.Areas.{area, Only, Laid, bandAt, resultsAt, doublesFor};
+ghost use Rattle.model.specs.Model.{mostWindow, coefAutocorr, rightSides, solveSpdBanded, solved, doublesFor};
+ghost use Rattle.model.specs.Areas.{area, Only, Laid, bandAt, resultsAt};
 use super::banded::back_solve;
 use super::banded::factor;
 use super::banded::forward_solve;
@@ -26,7 +26,7 @@ fn coef_autocorr(work: &mut [f64], a: usize, b: usize, p: usize)
 
 // Writes the right side of each of the gap's rows.
 fn right_sides(work: &mut [f64], size: usize, g: usize, len: usize, b: usize, rhs: usize, p: usize)
-    requires { ⌜ (g + len ≤ size) × (size ≤ 32768) × (p ≤ 128) × (size ≤ b) × (b + (p + 1) ≤ rhs) × (rhs + len ≤ length (now work)) ⌝ }
+    requires { ⌜ (g + len ≤ size) × (size ≤ mostWindow) × (p ≤ 128) × (size ≤ b) × (b + (p + 1) ≤ rhs) × (rhs + len ≤ length (now work)) ⌝ }
     ensures { λ _. ⌜ now (work .exit)
         ≡ sets (now (work .entry)) rhs (rightSides (area (now (work .entry)) 0 size) g len (area (now (work .entry)) b (p + 1)) p) ⌝ }
 {
@@ -53,6 +53,22 @@ fn solve_gap(work: &mut [f64], size: usize, g: usize, len: usize, p: usize)
     factor(work, b, band, len, p);
     forward_solve(work, band, rhs, y, len, p);
     back_solve(work, band, y, y + len, len, p);
+}
+
+// How many doubles of workspace the stages need, for a window of `size` samples.
+pub fn doubles_for(size: usize, len: usize, p: usize) -> usize
+    requires { ⌜ (size ≤ mostWindow) × (len ≤ 2048) × (p ≤ 128) ⌝ }
+    ensures { λ r. ⌜ r ≡ doublesFor size len p ⌝ }
+{
+    size + len * (p + 1) + 3 * len + 4 * (p + 1)
+}
+
+// Where in the workspace the gap's doubles come to stand.
+pub fn results_at(size: usize, len: usize, p: usize) -> usize
+    requires { ⌜ (size ≤ mostWindow) × (len ≤ 2048) × (p ≤ 128) ⌝ }
+    ensures { λ r. ⌜ r ≡ resultsAt size len p ⌝ }
+{
+    size + 4 * (p + 1) + len * (p + 1) + 2 * len
 }
 
 // The gap's doubles by one pass over the window at the front of the workspace, written at its end.

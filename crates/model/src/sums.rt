@@ -5,13 +5,13 @@ ghost use Prim.Native.Nat.{_+_, _-_, _*_, _≤_, _<_};
 ghost use lib.ListN.{length};
 ghost use lib.Ieee.{binary64, mul};
 ghost use Rattle.leaves.specs.Arithmetic.{_*₆₄_, at};
-ghost use Rattle.model.specs.Model.{less, known, mat, lagSum, shortfall, coefAt, rightSide};
-use leaves::counts::above;
-use leaves::counts::least;
+ghost use Rattle.model.specs.Model.{mostWindow, minus, known, mat, lagSum, shortfall, coefAt, rightSide};
+use leaves::counts::difference_or_zero;
+use leaves::counts::smaller_of;
 
 // Whether place i of the window lies outside the gap.
 fn is_known(g: usize, len: usize, i: usize) -> bool
-    requires { ⌜ g + len ≤ 32768 ⌝ }
+    requires { ⌜ g + len ≤ mostWindow ⌝ }
     ensures { λ r. ⌜ r ≡ known g len i ⌝ }
 {
     if i < g { true } else { g + len <= i }
@@ -19,7 +19,7 @@ fn is_known(g: usize, len: usize, i: usize) -> bool
 
 // r[lag]: the products of known pairs, ascending. A pair is known where both of its places are.
 pub fn lag_sum(seg: &[f64], g: usize, len: usize, lag: usize) -> f64
-    requires { ⌜ (g + len ≤ length (now seg)) × (length (now seg) ≤ 32768) ⌝ }
+    requires { ⌜ (g + len ≤ length (now seg)) × (length (now seg) ≤ mostWindow) ⌝ }
     ensures { λ r. ⌜ r ≡ lagSum (now (seg .entry)) g len lag ⌝ }
 {
     let mut s: f64 = 0.0;
@@ -68,13 +68,13 @@ pub fn coef_at(a: &[f64], p: usize, j: usize) -> f64
 // The right side of the gap's i-th row: what the known neighbours within p of it contribute, those
 // before the gap and then those behind it.
 pub fn right_side(seg: &[f64], b: &[f64], g: usize, len: usize, p: usize, i: usize) -> f64
-    requires { ⌜ (g + len ≤ length (now seg)) × (length (now seg) ≤ 32768) × (i < len) × (length (now b) ≡ p + 1) × (p ≤ 128) ⌝ }
+    requires { ⌜ (g + len ≤ length (now seg)) × (length (now seg) ≤ mostWindow) × (i < len) × (length (now b) ≡ p + 1) × (p ≤ 128) ⌝ }
     ensures { λ r. ⌜ r ≡ rightSide (now (seg .entry)) g len (now (b .entry)) p i ⌝ }
 {
     let c = g + i;
-    let high = least(c + p + 1, seg.len());
+    let high = smaller_of(c + p + 1, seg.len());
     let mut s: f64 = 0.0;
-    let mut x = above(c, p);
+    let mut x = difference_or_zero(c, p);
     while x < g {
         s = s + b[c - x] * seg[x];
         x += 1;
@@ -99,7 +99,7 @@ pub fn minus_products(
     s: f64,
 ) -> f64
     requires { ⌜ (x + to ≤ length (now l)) × (y + to ≤ length (now m)) ⌝ }
-    ensures { λ r. ⌜ r ≡ less (λ k. at (now (l .entry)) (x + k) *₆₄ at (now (m .entry)) (y + k)) from (to - from) s ⌝ }
+    ensures { λ r. ⌜ r ≡ minus (λ k. at (now (l .entry)) (x + k) *₆₄ at (now (m .entry)) (y + k)) from (to - from) s ⌝ }
 {
     let mut left = s;
     let mut k = from;
@@ -114,7 +114,7 @@ pub fn minus_products(
 // x from i + 1 on taken away in turn.
 pub fn minus_column(band: &[f64], p: usize, i: usize, x: &[f64], high: usize, s: f64) -> f64
     requires { ⌜ (p * (high + 1) + i < length (now band)) × (i ≤ high) × (high - i ≤ length (now x)) ⌝ }
-    ensures { λ r. ⌜ r ≡ less (λ k. mat p (now (band .entry)) k i *₆₄ at (now (x .entry)) (k - (i + 1))) (i + 1) (high - i) s ⌝ }
+    ensures { λ r. ⌜ r ≡ minus (λ k. mat p (now (band .entry)) k i *₆₄ at (now (x .entry)) (k - (i + 1))) (i + 1) (high - i) s ⌝ }
 {
     let mut left = s;
     let mut k = i + 1;

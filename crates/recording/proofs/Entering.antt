@@ -12,7 +12,8 @@ use lib.Dec.{leb, ltb, eqb}
 use borrow.Author.Tests.{ne-eqb, le-ltb, leb-true, eqb-true, eqb-false, ltb-false}
 use Rattle.leaves.proofs.Lists.{read-before, read-after}
 use Rattle.leaves.specs.Floats.{inRange}
-use Rattle.recording.specs.Recording.{State, ended, Placed, places, each, made, entrySize, entry, committed}
+use Rattle.recording.specs.Recording.{State, ended, Placed, places, each, entrySize, entry, committed}
+use Rattle.recording.specs.Marks.{made}
 use Rattle.recording.specs.Recording.{entered, ranged, Plan, refuse, change, carried, performed}
 use Rattle.recording.specs.History.{Ascending, Bytes, Keeps}
 use Rattle.recording.specs.Consequences.{Among}
@@ -23,7 +24,8 @@ use Rattle.recording.specs.declared.Answer.the-variants.{Done, Refused}
 use Rattle.recording.proofs.Put.{among-or-not, among-below, put-elsewhere, put-each, places-each}
 use Rattle.recording.proofs.Put.{length-places}
 use Rattle.recording.proofs.Journal.{length-entry}
-use Rattle.recording.proofs.open.Laws.{EitherWay, truth, fits-done, fits-or-not}
+use Rattle.recording.proofs.open.Laws.{fits-done, fits-or-not}
+use Rattle.leaves.proofs.Choice.{truth, EitherWay, both-hold}
 
 -- a repair of these samples is accepted, names some and enters them
 pub record Enters (s : State) (mark : ℕ) (cs : List Placed) : Type 0 where
@@ -42,11 +44,7 @@ pub record Sound (s : State) : Type 0 where
 
 -- a mark that a repair sets is a byte
 made-byte : (k : ℕ) → made k ≡ true → k < 256
-made-byte k h = omega (arith, leb-true k 5 (second (leb 1 k) (leb k 5) h))
-  where
-    second : (a b : Bool) → a && b ≡ true → b ≡ true
-    second true b h = h
-    second false b h = cc
+made-byte k h = omega (arith, leb-true k 5 (both-hold (leb 1 k) (leb k 5) h .1))
 
 -- such a repair ends in the commit
 pub enters-ends : {s : State} {mark : ℕ} {cs : List Placed} → Enters s mark cs

@@ -9,7 +9,8 @@ use Prim.Native.Nat.{ℕ, zero, suc, _-_, _≤_, _<_}
 use native.Mathlib.Omega.{arith}
 use lib.ListN.{length, getD, replicate, length-reverse}
 use Rattle.recording.specs.Answers.{value}
-use Rattle.recording.specs.Recording.{State, Ended, ended, Placed, made, committed, Plan, change, performed, called}
+use Rattle.recording.specs.Recording.{State, Ended, ended, Placed, committed, Plan, change, performed, called}
+use Rattle.recording.specs.Marks.{made}
 use Rattle.recording.specs.Recording.{undone, opened, differ, tooMany}
 use Rattle.recording.specs.History.{Repair, Call, repair, undo, did, run, surviving, survivorsOver, survivors}
 use Rattle.recording.specs.History.{replay, fresh}
@@ -21,7 +22,7 @@ use Rattle.recording.specs.declared.Reason.the-variants.{Counts, TooMany
 use Rattle.recording.specs.declared.Answer.{Answer}
 use Rattle.recording.specs.declared.Answer.the-variants.{Done, Refused}
 use Rattle.recording.proofs.Journal.{all-zero}
-use Rattle.recording.proofs.open.Laws.{EitherWay, truth}
+use Rattle.leaves.proofs.Choice.{truth, EitherWay}
 use Rattle.recording.proofs.Tests.{undone-idle}
 use Rattle.recording.proofs.Entering.{Enters, SameAt, Sound, Ending, unnamed, turned-away, enters, ending}
 use Rattle.recording.proofs.Entering.{enters-ends, after-sound, after-unmade, after-earlier, after-used}

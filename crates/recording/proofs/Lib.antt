@@ -1,5 +1,4 @@
 -- Laws of the recording's rules, and the history of a recording.
-pub mod Picks
 pub mod Runs
 pub mod Put
 pub mod Journal

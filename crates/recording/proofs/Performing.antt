@@ -16,7 +16,7 @@ use Rattle.recording.specs.History.{Ascending, Keeps}
 use Rattle.recording.specs.declared.Reason.{Reason}
 use Rattle.recording.specs.declared.Answer.{Answer}
 use Rattle.recording.specs.declared.Answer.the-variants.{Done, Refused}
-use Rattle.recording.proofs.open.Laws.{EitherWay, truth}
+use Rattle.leaves.proofs.Choice.{truth, EitherWay}
 use Rattle.recording.proofs.Entering.{ranged-ends}
 
 -- ---- Refusals 1 to 3, as `check_sizes` answers them

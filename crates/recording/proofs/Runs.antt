@@ -7,7 +7,7 @@ use native.Mathlib.Omega.{arith}
 use borrow.Author.Tests.{eq-eqb, ne-eqb}
 use lib.Dec.{eqb}
 use Rattle.recording.specs.Runs.{begins, runLength}
-use Rattle.recording.proofs.open.Laws.{EitherWay, truth}
+use Rattle.leaves.proofs.Choice.{truth, EitherWay, both-hold}
 
 module _ (test : ℕ → Bool) where
   -- ---- Where a run begins
@@ -27,11 +27,7 @@ module _ (test : ℕ → Bool) where
   -- what stands at its first place
   pub begins-there : (i : ℕ) → begins test i ≡ true → test i ≡ true
   unfolding begins
-  begins-there i h = go (test i) (eqb i 0 || not (test (i - 1))) h
-    where
-      go : (b c : Bool) → b && c ≡ true → b ≡ true
-      go true c e = refl
-      go false c e = e
+  begins-there i h = both-hold (test i) (eqb i 0 || not (test (i - 1))) h .0
 
   -- none begins right behind a place that meets the test
   pub begins-not-behind : (i : ℕ) → test i ≡ true → begins test (i + 1) ≡ false

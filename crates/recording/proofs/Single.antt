@@ -16,7 +16,7 @@ use Rattle.recording.specs.declared.Reason.the-variants.{Counts, TooMany
 use Rattle.recording.specs.declared.Reason.the-variants.{Result, Room, Nothing, Malformed}
 use Rattle.recording.specs.declared.Answer.{Answer}
 use Rattle.recording.specs.declared.Answer.the-variants.{Done, Refused}
-use Rattle.recording.proofs.Picks.{picks}
+use Rattle.leaves.proofs.Choice.{picks}
 use Rattle.recording.proofs.Entering.{Enters, Ending, unnamed, turned-away, enters, ending, enters-ends}
 use Rattle.recording.proofs.Entering.{after-elsewhere, after-named}
 use Rattle.recording.proofs.History.{did-repair}

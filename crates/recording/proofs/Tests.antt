@@ -9,7 +9,8 @@ use lib.ListN.{length, replicate}
 use lib.Seq.{sets}
 use lib.Dec.{eqb}
 use borrow.Author.Tests.{eq-eqb, ne-eqb, le-ltb}
-use Rattle.recording.specs.Recording.{State, ended, Saved, fitting, made, entrySize, lastCount, lastMark}
+use Rattle.recording.specs.Recording.{State, ended, Saved, fitting, entrySize, lastCount, lastMark}
+use Rattle.recording.specs.Marks.{made}
 use Rattle.recording.specs.Recording.{lastSaved, placePast, notRising, markPast, malformed, oldWords, oldMarks}
 use Rattle.recording.specs.Recording.{put, state, takenBack, undone}
 use Rattle.recording.specs.Inner.{Fits}

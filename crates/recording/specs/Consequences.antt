@@ -8,7 +8,8 @@ use mathlib.Core.List.{List, [], _∷_, reverse}
 use lib.ListN.{length, getD, replicate}
 use Rattle.recording.specs.Answers.{value}
 use Rattle.recording.specs.Recording.{State, Placed, places, put, Plan, refuse, change}
-use Rattle.recording.specs.Recording.{measured, made, lastCount, lastMark, lastBegin}
+use Rattle.recording.specs.Recording.{lastCount, lastMark, lastBegin}
+use Rattle.recording.specs.Marks.{measured, made}
 use Rattle.recording.specs.History.{Repair, Call, repair, undo, did, run, survivors, LawfulRepair, AfterAny}
 use Rattle.recording.specs.declared.Reason.{Reason}
 use Rattle.recording.specs.declared.Answer.the-variants.{Done, Refused}

@@ -4,7 +4,8 @@ use mathlib.Core.Path.{_≡_, refl}
 use mathlib.Core.List.{[], _∷_}
 use Prim.Native.Nat.{ℕ}
 use lib.ListN.{replicate}
-use Rattle.recording.specs.Recording.{State, change, span, measured, gapByModel, decrackle, dequantize}
+use Rattle.recording.specs.Recording.{State, change, span}
+use Rattle.recording.specs.Marks.{measured, gapByModel, decrackle, dequantize}
 use Rattle.recording.specs.History.{Repair, repair, undo, survivors, fresh}
 
 -- six samples with a journal of so many words

@@ -7,7 +7,8 @@ use mathlib.Core.Path.{_≡_}
 use mathlib.Core.Bool.{true}
 use mathlib.Core.List.{List, [], _∷_, map, reverse}
 use lib.ListN.{length, getD, replicate}
-use Rattle.recording.specs.Recording.{State, state, Ended, Placed, Plan, refuse, change, measured, made}
+use Rattle.recording.specs.Recording.{State, state, Ended, Placed, Plan, refuse, change}
+use Rattle.recording.specs.Marks.{measured, made}
 use Rattle.recording.specs.Recording.{called, undone, opened}
 use Rattle.recording.specs.declared.Answer.{Answer}
 use Rattle.recording.specs.declared.Answer.the-variants.{Done, Refused}

@@ -2,12 +2,13 @@
 -- Definitions only.
 use Prim.Native.Nat.{ℕ, zero, suc, _+_, _*_, _≤_}
 use mathlib.Core.Path.{_≡_}
-use mathlib.Core.Bool.{Bool, false, not, _||_, cond}
+use mathlib.Core.Bool.{Bool, false, not, _||_}
 use mathlib.Core.List.{List, [], _∷_, map}
 use lib.ListN.{length, getD, take, drop}
 use lib.Seq.{sets}
 use lib.Dec.{leb, ltb, eqb}
-use Rattle.recording.specs.Recording.{State, Placed, Saved, mostSamples, picked, savedAt, placePast, markPast}
+use Rattle.leaves.specs.Choice.{if_then_else_}
+use Rattle.recording.specs.Recording.{State, state, Placed, Saved, mostSamples, picked, savedAt, placePast, markPast}
 use Rattle.recording.specs.declared.Answer.{Answer}
 use Rattle.recording.specs.declared.Answer.the-variants.{Done, Refused}
 
@@ -22,10 +23,10 @@ unfoldable pub consecutive : ℕ → ℕ → List ℕ
 consecutive i zero = []
 consecutive i (suc n) = i ∷ consecutive (i + 1) n
 
--- the samples of a span that was entered: the words are in place where the call was accepted
-abbrev pub filled : Answer → ℕ → List ℕ → List ℕ → List ℕ
-filled (Done m) start words samples = sets samples start words
-filled (Refused why) start words samples = samples
+-- a recording in which a span was entered, once the words are in place, which they are where the call was accepted
+abbrev pub filled : Answer → ℕ → List ℕ → State → State
+filled (Done m) start words s = state (sets (s .samples) start words) (s .marks) (s .journal) (s .used)
+filled (Refused why) start words s = s
 
 -- The workspace of a repair over the whole recording, of n samples: n new words, then n words of which each that is not 0
 -- names the sample of its place.
@@ -41,7 +42,7 @@ unfoldable pub pickedFrom : List ℕ → ℕ → ℕ → ℕ → List Placed
 pickedFrom work n i zero = []
 pickedFrom work n i (suc left) =
     let later = pickedFrom work n (i + 1) left in
-    cond (eqb (getD work (n + i) 0) 0) later (record { place = i; value = getD work i 0 } ∷ later)
+    if eqb (getD work (n + i) 0) 0 then later else record { place = i; value = getD work i 0 } ∷ later
 
 -- the tests of saved samples in one pass: a place below `least`, which is one more than the place before, or not below n, or a
 -- mark above 255

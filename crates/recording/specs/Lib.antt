@@ -1,5 +1,7 @@
 pub mod Answers
+pub mod Marks
 pub mod Recording
+pub mod Lent
 pub mod Runs
 pub mod History
 pub mod Consequences

@@ -2,19 +2,20 @@
 -- element i is `getD l i 0`; `set l i x` has x there instead, and `sets l i xs` has all of xs from place i on.
 -- Definitions only.
 use Prim.Native.Nat.{ℕ, zero, suc, _+_, _-_, _*_}
-use mathlib.Core.Bool.{Bool, true, false, not, _&&_, _||_, cond}
+use mathlib.Core.Bool.{Bool, false, not, _||_}
 use mathlib.Core.List.{List, [], _∷_, _++_}
 use lib.ListN.{length, getD, set, replicate}
 use lib.Seq.{sets}
 use lib.Dec.{leb, ltb, eqb}
+use Rattle.leaves.specs.Choice.{if_then_else_}
 use Rattle.leaves.specs.Floats.{inRange}
 use Rattle.recording.specs.declared.Reason.{Reason}
 use Rattle.recording.specs.declared.Reason.the-variants.{Counts, TooMany, Used, Read, Result, Room, Nothing, Malformed}
 use Rattle.recording.specs.declared.Answer.{Answer}
 use Rattle.recording.specs.declared.Answer.the-variants.{Done, Refused}
 use Rattle.recording.specs.Answers.{number}
+use Rattle.recording.specs.Marks.{measured, made}
 
-infixr 10 if_then_else_
 -- ---- The recording
 
 -- "Samples: .. words of 32 bits", "Marks: one byte per sample", "Journal: lent 32-bit words and a used count"
@@ -31,29 +32,6 @@ state s m j u = record { samples = s; marks = m; journal = j; used = u }
 abbrev pub mostSamples : ℕ
 mostSamples = 1048576
 
--- "0 measured, 1 gap by model, 2 gap by straight line, 3 cubic declip, 4 decrackle, 5 dequantize (either form)"
-abbrev pub measured : ℕ
-measured = 0
-
-abbrev pub gapByModel : ℕ
-gapByModel = 1
-
-abbrev pub gapByLine : ℕ
-gapByLine = 2
-
-abbrev pub cubicDeclip : ℕ
-cubicDeclip = 3
-
-abbrev pub decrackle : ℕ
-decrackle = 4
-
-abbrev pub dequantize : ℕ
-dequantize = 5
-
--- the marks that a repair sets: 1 to 5
-abbrev pub made : ℕ → Bool
-made k = leb gapByModel k && leb k dequantize
-
 -- ---- How a call ends
 
 -- with its answer, and the recording after it
@@ -67,12 +45,6 @@ ended a s = record { answer = a; after = s }
 -- "All refusals keep samples, marks, journal and used."
 abbrev pub refused : State → Reason → Ended
 refused s why = ended (Refused why) s
-
--- the first where the test holds, and else the second. "The lowest number that applies is the answer": the tests of a
--- call stand one below the other, in the table's order.
-abbrev pub if_then_else_ : {A : Type 0} → Bool → A → A → A
-if true then a else b = a
-if false then a else b = b
 
 -- 1: "marks and samples differ in number"
 abbrev pub differ : State → Bool
@@ -125,7 +97,7 @@ span i (w ∷ ws) = record { place = i; value = w } ∷ span (i + 1) ws
 unfoldable pub picked : ℕ → List Bool → List ℕ → List Placed
 picked i [] ws = []
 picked i (b ∷ bs) [] = []
-picked i (b ∷ bs) (w ∷ ws) = let later = picked (i + 1) bs ws in cond b (record { place = i; value = w } ∷ later) later
+picked i (b ∷ bs) (w ∷ ws) = let later = picked (i + 1) bs ws in if b then record { place = i; value = w } ∷ later else later
 
 -- the list with each value at its place
 unfoldable pub put : List Placed → List ℕ → List ℕ

@@ -4,7 +4,8 @@ ghost use mathlib.Core.Path.{_≡_};
 ghost use mathlib.Core.List.{List, [], _∷_};
 ghost use lib.ListN.{length};
 ghost use lib.Seq.{sets};
-ghost use Rattle.recording.specs.Recording.{state, ended, mostSamples, places, put, each, saved, threeWords, entered, ranged, change, span, carried};
+ghost use Rattle.recording.specs.Recording.{ended, mostSamples, places, put, each, saved, threeWords, entered, ranged, change, span, carried};
+ghost use Rattle.recording.specs.Lent.{left, leftReading, lent, given};
 ghost use Rattle.recording.specs.Inner.{Fits, consecutive, filled, pickedBy};
 use super::Answer;
 use super::Reason;
@@ -66,11 +67,9 @@ pub fn enter_span(
     len: usize,
     mark: u8,
 ) -> Answer
-    requires { ⌜ Fits (state (now samples) (now marks) (now journal) (now used)) × (start + len ≤ length (now samples)) ⌝ }
-    ensures { λ r. ⌜ ((words : List ℕ)
-        → length words ≡ len
-        → ended r (state (filled r start words (now (samples .entry))) (now (marks .exit)) (now (journal .exit)) (now (used .exit)))
-        ≡ entered (state (now (samples .entry)) (now (marks .entry)) (now (journal .entry)) (now (used .entry))) mark (span start words)) ⌝ }
+    requires { ⌜ Fits (given samples marks journal used) × (start + len ≤ length (now samples)) ⌝ }
+    ensures { λ r. ⌜ ((words : List ℕ) → length words ≡ len
+        → ended r (filled r start words (leftReading samples marks journal used)) ≡ entered (lent samples marks journal used) mark (span start words)) ⌝ }
 {
     if len == 0 {
         return Answer::Done(0);
@@ -171,10 +170,8 @@ pub fn commit_picked(
     work: &[u32],
     mark: u8,
 ) -> Answer
-    requires { ⌜ Fits (state (now samples) (now marks) (now journal) (now used)) × (length (now samples) + length (now samples) ≤ length (now work)) ⌝ }
-    ensures { λ r. ⌜ ended r (state (now (samples .exit)) (now (marks .exit)) (now (journal .exit)) (now (used .exit)))
-        ≡ carried (state (now (samples .entry)) (now (marks .entry)) (now (journal .entry)) (now (used .entry)))
-        (change mark (pickedBy (now (work .entry)) (length (now (samples .entry))))) ⌝ }
+    requires { ⌜ Fits (given samples marks journal used) × (length (now samples) + length (now samples) ≤ length (now work)) ⌝ }
+    ensures { λ r. ⌜ ended r (left samples marks journal used) ≡ carried (lent samples marks journal used) (change mark (pickedBy (now (work .entry)) (length (now (samples .entry))))) ⌝ }
 {
     let n = samples.len();
     let checked = check_picked(work, n);

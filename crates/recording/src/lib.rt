@@ -3,6 +3,7 @@
 // and undo.
 pub mod clear;
 pub mod commit;
+pub mod marks;
 pub mod numbers;
 pub mod open;
 pub mod read;

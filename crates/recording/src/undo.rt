@@ -2,20 +2,17 @@
 ghost use mathlib.Core.Path.{_≡_};
 ghost use Prim.Native.Nat.{_+_, _*_, _≤_, _<_};
 ghost use lib.ListN.{length};
-ghost use Rattle.recording.specs.Recording.{state, ended, savedAt, put, oldWords, oldMarks, malformed, undone};
+ghost use Rattle.recording.specs.Recording.{ended, savedAt, put, oldWords, oldMarks, malformed, undone};
+ghost use Rattle.recording.specs.Lent.{left, lent};
 ghost use Rattle.recording.specs.Inner.{anyWrong, Restorable};
 use super::Answer;
 use super::Reason;
 use super::clear::clear_words;
+use super::marks::is_made;
 use super::open::check_sizes;
 
 // The largest mark that a byte holds.
 const LAST_BYTE: u32 = 255;
-
-// The marks that a repair sets are from 1 to 5.
-const FIRST_MADE: u32 = 1;
-
-const LAST_MADE: u32 = 5;
 
 // A journal word as a number of samples or a place.
 fn index(word: u32) -> usize
@@ -72,14 +69,7 @@ fn last_malformed(n: usize, journal: &[u32], used: usize) -> bool
     if saved_wrong(journal, used - (3 * m + 2), m, n) {
         return true;
     }
-    let mark = journal[used - 1];
-    if mark < FIRST_MADE {
-        return true;
-    }
-    if LAST_MADE < mark {
-        return true;
-    }
-    false
+    !is_made(journal[used - 1])
 }
 
 // Words and marks of the m saved samples from journal word `begin` on return to their places.
@@ -101,8 +91,7 @@ fn give_back(samples: &mut [u32], marks: &mut [u8], journal: &[u32], begin: usiz
 // Takes back the last entry: its samples get their old words and marks, and its journal words become 0
 // and free. Any journal whatever is answered, also one that no repair wrote.
 pub fn undo(samples: &mut [u32], marks: &mut [u8], journal: &mut [u32], used: &mut usize) -> Answer
-    ensures { λ r. ⌜ ended r (state (now (samples .exit)) (now (marks .exit)) (now (journal .exit)) (now (used .exit)))
-        ≡ undone (state (now (samples .entry)) (now (marks .entry)) (now (journal .entry)) (now (used .entry))) ⌝ }
+    ensures { λ r. ⌜ ended r (left samples marks journal used) ≡ undone (lent samples marks journal used) ⌝ }
 {
     let end = *used;
     let sized = check_sizes(samples, marks, journal, end);

@@ -9,15 +9,17 @@ use native.Mathlib.Omega.{arith}
 use borrow.Author.Tests.{lt-ltb, le-ltb, ltb-false}
 use lib.Dec.{ltb}
 use lib.ListN.{length, drop}
-use Rattle.recording.specs.Recording.{State, Ended, ended, fitting, orElse, readable, Plan, refuse, change, picked, carried, performed, called, made}
-use Rattle.recording.specs.Recording.{cleared, clears, workAfter, unlessRead, unlessRefused, if_then_else_}
+use Rattle.recording.specs.Recording.{State, Ended, ended, fitting, orElse, readable, Plan, refuse, change, picked, carried, performed, called}
+use Rattle.recording.specs.Marks.{made}
+use Rattle.recording.specs.Recording.{cleared, clears, workAfter, unlessRead, unlessRefused}
+use Rattle.leaves.specs.Choice.{if_then_else_}
 use Rattle.recording.specs.History.{Keeps, LawfulRepair}
 use Rattle.recording.specs.Inner.{Fits, pickedBy}
 use Rattle.recording.specs.declared.Reason.{Reason}
 use Rattle.recording.specs.declared.Reason.the-variants.{Setting, Workspace}
 use Rattle.recording.specs.declared.Answer.{Answer}
 use Rattle.recording.specs.declared.Answer.the-variants.{Done, Refused}
-use Rattle.recording.proofs.Picks.{picks}
+use Rattle.leaves.proofs.Choice.{picks}
 use Rattle.recording.proofs.Performing.{commit-clears, cleared-too, picked-ascends, fitting-keeps, unless-kept}
 use Rattle.recording.proofs.open.Laws.{accepted-fits}
 use Rattle.recording.proofs.read.Laws.{readable-ends}

@@ -3,7 +3,7 @@ use mathlib.Core.Path.{_≡_, sym, ap, _∙_, refl}
 use mathlib.Core.Bool.{Bool, true, false}
 use Prim.Native.Nat.{ℕ, zero, suc, _+_, _-_, _≤_, _<_}
 use native.Mathlib.Omega.{arith}
-use Rattle.recording.specs.Recording.{if_then_else_}
+use Rattle.leaves.specs.Choice.{if_then_else_}
 use Rattle.recording.specs.Runs.{begins, runLength}
 use Rattle.redraw.specs.Runs.{overRuns}
 

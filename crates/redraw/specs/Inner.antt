@@ -1,11 +1,12 @@
 -- What the inner functions of the three repairs speak of: nothing that a promise of a repair needs. Definitions only.
 use Prim.Native.Nat.{ℕ, _+_, _≤_}
 use mathlib.Core.Path.{_≡_}
-use mathlib.Core.Bool.{Bool, false, not, cond}
+use mathlib.Core.Bool.{Bool, false, not}
 use mathlib.Core.List.{List}
 use lib.ListN.{length, getD, take, drop}
 use lib.Dec.{ltb}
-use Rattle.recording.specs.Recording.{State, mostSamples, fitting, orElse, readable, if_then_else_}
+use Rattle.recording.specs.Recording.{State, mostSamples, fitting, orElse, readable}
+use Rattle.leaves.specs.Choice.{if_then_else_}
 use Rattle.recording.specs.Inner.{flags}
 use Rattle.recording.specs.declared.Reason.the-variants.{Setting, Workspace}
 use Rattle.recording.specs.declared.Answer.{Answer}
@@ -28,6 +29,10 @@ wordsIn n work = take n work
 abbrev pub flagsIn : ℕ → List ℕ → List ℕ
 flagsIn n work = take n (drop n work)
 
+-- in the place of the flags, before these are written: the words as they stood, for a pass that reads what it overwrites
+abbrev pub snapshotIn : ℕ → List ℕ → List ℕ
+snapshotIn n work = take n (drop n work)
+
 abbrev pub restOf : ℕ → List ℕ → List ℕ
 restOf n work = drop (n + n) work
 
@@ -46,7 +51,7 @@ pub record Holds (n : ℕ) (d : Drawn) (before after : List ℕ) : Type 0 where
 
 -- the word of a flag
 abbrev pub flagWord : Bool → ℕ
-flagWord b = cond b 1 0
+flagWord b = if b then 1 else 0
 
 -- how a repair's start leaves its workspace: where it was accepted the samples stand there, and none is named
 abbrev pub Begun : Answer → List ℕ → List ℕ → List ℕ → Type 0

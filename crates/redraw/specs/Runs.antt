@@ -1,7 +1,7 @@
 -- A step for each run, left to right. Definitions only.
 use Prim.Native.Nat.{ℕ, zero, suc, _+_}
 use mathlib.Core.Bool.{Bool}
-use Rattle.recording.specs.Recording.{if_then_else_}
+use Rattle.leaves.specs.Choice.{if_then_else_}
 use Rattle.recording.specs.Runs.{begins, runLength}
 
 -- what a step makes of d when it is taken for each run that begins among the n places from i on, with the run's start and its end,

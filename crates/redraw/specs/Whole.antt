@@ -7,7 +7,8 @@ use lib.ListN.{length, getD, set, replicate}
 use lib.Dec.{ltb}
 use lib.Ieee.{Float, binary32, toBits}
 use Rattle.leaves.specs.Arithmetic.{float}
-use Rattle.recording.specs.Recording.{Plan, refuse, change, picked, readable, unlessRead, if_then_else_}
+use Rattle.recording.specs.Recording.{Plan, refuse, change, picked, readable, unlessRead}
+use Rattle.leaves.specs.Choice.{if_then_else_}
 use Rattle.recording.specs.declared.Reason.the-variants.{Setting, Workspace}
 
 -- the float of the sample at place i, and the samples with the word of the float x there

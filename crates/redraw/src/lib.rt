@@ -3,7 +3,8 @@
 ghost use mathlib.Core.Path.{_≡_};
 ghost use Prim.Native.Nat.{_+_, _*_, _≤_};
 ghost use lib.ListN.{length};
-ghost use Rattle.recording.specs.Recording.{state, ended, change, carried, cleared};
+ghost use Rattle.recording.specs.Recording.{ended, change, carried, cleared};
+ghost use Rattle.recording.specs.Lent.{left, lent, seen, given};
 ghost use Rattle.recording.specs.Inner.{Fits, pickedBy};
 ghost use Rattle.redraw.specs.Whole.{untouched, needed};
 ghost use Rattle.redraw.specs.Inner.{begun, Begun, Holds};
@@ -37,7 +38,7 @@ pub fn begin(
     allowed: bool,
     work: &mut [u32],
 ) -> Answer
-    ensures { λ r. ⌜ (r ≡ begun allowed (length (now (work .entry))) (state (now (samples .entry)) (now (marks .entry)) (now (journal .entry)) used))
+    ensures { λ r. ⌜ (r ≡ begun allowed (length (now (work .entry))) (seen samples marks journal used))
         × Begun r (now (samples .entry)) (now (work .entry)) (now (work .exit)) ⌝ }
 {
     let sized = check_sizes(samples, marks, journal, used);
@@ -67,10 +68,8 @@ pub fn finish(
     work: &mut [u32],
     mark: u8,
 ) -> Answer
-    requires { ⌜ Fits (state (now samples) (now marks) (now journal) (now used)) × (needed (length (now samples)) ≤ length (now work)) ⌝ }
-    ensures { λ r. ⌜ (ended r (state (now (samples .exit)) (now (marks .exit)) (now (journal .exit)) (now (used .exit)))
-        ≡ carried (state (now (samples .entry)) (now (marks .entry)) (now (journal .entry)) (now (used .entry)))
-        (change mark (pickedBy (now (work .entry)) (length (now (samples .entry))))))
+    requires { ⌜ Fits (given samples marks journal used) × (needed (length (now samples)) ≤ length (now work)) ⌝ }
+    ensures { λ r. ⌜ (ended r (left samples marks journal used) ≡ carried (lent samples marks journal used) (change mark (pickedBy (now (work .entry)) (length (now (samples .entry))))))
         × (now (work .exit) ≡ cleared 0 (needed (length (now (samples .entry)))) (now (work .entry))) ⌝ }
 {
     let n = samples.len();

@@ -3,22 +3,21 @@ use Prim.Native.Nat.{ℕ}
 use mathlib.Core.Path.{_≡_, ap, sym, _∙_}
 use mathlib.Core.List.{List}
 use lib.ListN.{length, replicate}
-use lib.Ieee.{Float, binary64, ofBits}
+use lib.Ieee.{Float, binary32, binary64, ofBits}
 use Rattle.leaves.specs.Arithmetic.{nought}
+use Rattle.leaves.proofs.Literals.{one-word, nought-double}
 use Rattle.recording.specs.Recording.{State, Ended, ended, opened}
 use Rattle.recording.specs.History.{fresh}
 use Rattle.recording.specs.declared.Answer.{Answer}
 use Rattle.inpaint.specs.Auto.{Scan, automatic}
-use Rattle.model.proofs.sums.Laws.{no-sum}
-use Rattle.inpaint.proofs.auto.Laws.{one-word, unit}
 use Rattle.repair.specs.Program.{rate, limitMs, journalWords, workspace, decoded, repairing, reportOf, reported}
 
 pub opened-then : (s t : State) (a : Answer) (work : List Float) (scanned : Scan) → ended a t ≡ opened s
-    → scanned ≡ automatic rate one-word work t → scanned ≡ repairing work s
+    → scanned ≡ automatic rate (ofBits binary32 1065353216) work t → scanned ≡ repairing work s
 unfolding repairing
 opened-then s t a work scanned e h =
     h
-    ∙ ap (λ (ms : Float). automatic rate ms work t) unit
+    ∙ ap (λ (ms : Float). automatic rate ms work t) one-word
     ∙ ap (λ (c : Ended). automatic rate limitMs work (c .after)) e
 
 -- the code's workspace begins with its 0.0
@@ -30,6 +29,6 @@ reports bytes words marks n scanned count read h =
     let repaired : Float → List ℕ → Scan = λ x l. repairing (replicate workspace x) (fresh l marks journalWords) in
     ap reportOf
     (h
-    ∙ ap (λ (x : Float). repaired x words) no-sum
+    ∙ ap (λ (x : Float). repaired x words) nought-double
     ∙ ap (repaired nought) read
     ∙ sym (ap (λ (m : ℕ). repaired nought (decoded bytes 0 m)) count))

@@ -3,7 +3,8 @@
 use mathlib.Core.Path.{_≡_}
 use borrow.Author.Needs.{needs}
 use lib.ListN.{length}
-use Rattle.recording.specs.Recording.{State, state, cubicDeclip, called}
+use Rattle.recording.specs.Recording.{State, state, called}
+use Rattle.recording.specs.Marks.{cubicDeclip}
 use Rattle.redraw.specs.Whole.{wholePlan}
 use Rattle.redraw.proofs.Ending.{start-room, start-finishes, start-holds, whole-refused, whole-done}
 use Rattle.declip.specs.Declip.{declipped, declipRepair}

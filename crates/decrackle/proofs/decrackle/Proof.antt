@@ -1,7 +1,8 @@
 -- `decrackle::decrackle` meets its contract: a refusal of the start ends it, and else what the workspace holds is committed.
 -- Assumes nothing.
 use borrow.Author.Needs.{needs}
-use Rattle.recording.specs.Recording.{State, state, decrackle}
+use Rattle.recording.specs.Recording.{State, state}
+use Rattle.recording.specs.Marks.{decrackle}
 use Rattle.redraw.proofs.Ending.{start-room, start-finishes, start-holds, whole-refused, whole-done}
 use Rattle.decrackle.specs.Decrackle.{decrackled}
 use Rattle.decrackle.proofs.Drawing.{decrackle-is}

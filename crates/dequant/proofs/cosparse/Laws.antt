@@ -15,8 +15,10 @@ use Rattle.leaves.specs.Arithmetic.{_+₃₂_, _-₃₂_, _*₃₂_, _/₃₂_,
 use Rattle.leaves.specs.Floats.{magnitude, held}
 use Rattle.leaves.proofs.Parts.{take-sets, drop-sets, part-of-sets}
 use Rattle.leaves.proofs.words.Laws.{number-test}
-use Rattle.recording.specs.Recording.{State, called, dequantize, if_then_else_}
-use Rattle.recording.proofs.Picks.{picks}
+use Rattle.recording.specs.Recording.{State, called}
+use Rattle.recording.specs.Marks.{dequantize}
+use Rattle.leaves.specs.Choice.{if_then_else_}
+use Rattle.leaves.proofs.Choice.{picks, both-hold}
 use Rattle.redraw.specs.Whole.{Drawn, drawn, untouched, sample, wholePlan}
 use Rattle.redraw.specs.Inner.{wordsIn, flagsIn, restOf, drawnIn, Holds, Room}
 use Rattle.redraw.proofs.Workspace.{store-words, store-behind, flag-there, flags-behind, rest-behind, words-count, holds-then}
@@ -178,11 +180,7 @@ passes-all step strength most k src whole h rest =
 -- the rule acts on at least five samples
 pub acts-five : (strength : Float) (n : ℕ) → acts strength 5 n ≡ true → 5 ≤ n
 unfolding acts
-acts-five strength n h = leb-true 5 n (first (leb 5 n) (lt nought strength) h)
-  where
-    first : (b c : Bool) → b && c ≡ true → b ≡ true
-    first true c e = refl
-    first false c e = e
+acts-five strength n h = leb-true 5 n (both-hold (leb 5 n) (lt nought strength) h .0)
 
 -- and for at least one iteration
 pub none-run : (k : ℕ) → k ≡ 0 → ltb 0 k ≡ false

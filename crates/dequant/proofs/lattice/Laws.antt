@@ -18,6 +18,7 @@ use Rattle.leaves.proofs.Literals.{nought-word, half-word, one-word, two-word}
 use Rattle.leaves.proofs.Numbers.{one-up}
 use Rattle.leaves.proofs.Parts.{take-sets, drop-sets, part-of-sets}
 use Rattle.leaves.proofs.Stores.{copy-more, all-copied}
+use Rattle.leaves.proofs.Choice.{both-hold}
 use Rattle.redraw.specs.Whole.{drawn}
 use Rattle.redraw.specs.Inner.{wordsIn, flagsIn, restOf, flagWord, Holds, Room}
 use Rattle.redraw.proofs.Workspace.{flag-there, words-count}
@@ -77,15 +78,10 @@ module _ (strength : Float) (least n : ℕ) where
   unfolding acts
   acts-long h = rw (le-leb least n h, nought-word) refl
 
--- where two tests held, the first did
-pub first-holds : (t u : Bool) → t && u ≡ true → t ≡ true
-first-holds true u e = refl
-first-holds false u e = absurd (false≢true e)
-
 -- what its first test tells of the size
 pub acts-size : (strength : Float) (least n : ℕ) (b : Bool) → b ≡ acts strength least n → not b ≡ false → least ≤ n
 unfolding acts
-acts-size strength least n b e h = leb-true least n (first-holds (leb least n) _ (sym e ∙ not-false b h))
+acts-size strength least n b e h = leb-true least n (both-hold (leb least n) _ (sym e ∙ not-false b h) .0)
 
 -- ---- The snapshot
 

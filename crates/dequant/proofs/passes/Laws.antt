@@ -11,7 +11,7 @@ use lib.Seq.{sets}
 use lib.Ieee.{Float, binary32, ofBits, toBits, lt, eq, round}
 use Rattle.leaves.specs.Arithmetic.{_+₃₂_, _-₃₂_, _*₃₂_, near, float}
 use Rattle.recording.specs.Recording.{State, called}
-use Rattle.recording.specs.Recording as recording
+use Rattle.recording.specs.Marks as marks
 use Rattle.redraw.specs.Whole.{sample, drawn, untouched, wholePlan}
 use Rattle.redraw.specs.Inner.{wordsIn, flagsIn, restOf, drawnIn, Holds, Room}
 use Rattle.redraw.proofs.Workspace.{store-words, store-behind, word-there, flags-behind, rest-behind, words-count}
@@ -19,7 +19,8 @@ use Rattle.dequant.specs.Dequant.{strengthOf, stepOf, target, firstAt, f
 use Rattle.dequant.specs.Dequant.{acts, inner, dequantized, dequantizePlan, dequantizeRepair}
 use Rattle.leaves.proofs.words.Laws.{number-test}
 use Rattle.leaves.proofs.Literals.{half-word}
-use Rattle.dequant.proofs.lattice.Laws.{first-holds, snapped-words, snapped-flags, snapped-rest, snapped-there}
+use Rattle.leaves.proofs.Choice.{both-hold}
+use Rattle.dequant.proofs.lattice.Laws.{snapped-words, snapped-flags, snapped-rest, snapped-there}
 
 -- ---- The code's literals
 
@@ -157,7 +158,7 @@ module _ (n : ℕ) (step strength : Float) (w v : List ℕ) (b : Bool) (test : b
 -- what the test tells of the size
 pub wide-size : (n : ℕ) (strength : Float) (b : Bool) → b ≡ wide strength n → b ≡ true → 5 ≤ n
 unfolding wide
-wide-size n strength b e h = leb-true 5 n (first-holds (leb 5 n) _ (sym e ∙ h))
+wide-size n strength b e h = leb-true 5 n (both-hold (leb 5 n) _ (sym e ∙ h) .0)
 
 module _ (n bits : ℕ) (strength h : Float) (w : List ℕ) (held : h ≡ strengthOf strength) (room : Room n w)
     (b : Bool) (test : b ≡ acts h 3 n) where
@@ -184,7 +185,7 @@ module _ (n bits : ℕ) (strength h : Float) (w : List ℕ) (held : h ≡ streng
 
 -- its whole rule, with the code's test of its strength
 pub dequantize-is : (bits : ℕ) (strength : Float) (room : ℕ) (s : State)
-    → called (wholePlan (eq strength strength) room recording.dequantize (dequantized bits strength)) s ≡ dequantizeRepair bits strength room s
+    → called (wholePlan (eq strength strength) room marks.dequantize (dequantized bits strength)) s ≡ dequantizeRepair bits strength room s
 unfolding dequantizeRepair dequantizePlan
 dequantize-is bits strength room s =
-    ap (λ (b : Bool). called (wholePlan b room recording.dequantize (dequantized bits strength)) s) (number-test strength)
+    ap (λ (b : Bool). called (wholePlan b room marks.dequantize (dequantized bits strength)) s) (number-test strength)

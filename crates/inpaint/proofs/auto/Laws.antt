@@ -15,18 +15,18 @@ use lib.Ieee.{Float, nan, inf, fin, binary32, up, down, neg, div, mul, lt, eq, n
 use lib.Ieee.Fits.{down-pos}
 use lib.Ieee.Scale.{finite}
 use borrow.Author.Tests.{lt-ltb, le-ltb, le-leb, lt-leb, eq-eqb, ne-eqb, ltb-true, ltb-false, leb-true}
-use Rattle.leaves.proofs.Literals.{unbounded, plus-infinity}
+use Rattle.leaves.proofs.Literals.{unbounded, plus-infinity, one-word}
 use Rattle.leaves.specs.Arithmetic.{nought, one, float, count}
 use Rattle.leaves.specs.Floats.{larger}
 use Rattle.leaves.proofs.words.Laws.{nan-test, one-nan}
 use Rattle.recording.specs.Answers.{number, reasonNumber}
-use Rattle.recording.specs.Recording.{State, Ended, ended, fitting, orElse, workAfter, if_then_else_}
+use Rattle.recording.specs.Recording.{State, Ended, ended, fitting, orElse, workAfter}
+use Rattle.leaves.specs.Choice.{if_then_else_}
 use Rattle.recording.specs.declared.Reason.{Reason}
 use Rattle.recording.specs.declared.Reason.the-variants.{Setting}
 use Rattle.recording.specs.declared.Answer.{Answer}
 use Rattle.recording.specs.declared.Answer.the-variants.{Done, Refused}
-use Rattle.recording.proofs.open.Laws.{EitherWay, truth}
-use Rattle.model.proofs.Passes.{both-hold}
+use Rattle.leaves.proofs.Choice.{truth, EitherWay, both-hold}
 use Rattle.inpaint.specs.Gap.{needed, gapRepair}
 use Rattle.inpaint.specs.Auto.{allowed, limit, dropout, runBegins, qualifies, runAt, starts, nextAmong, nextRun}
 use Rattle.inpaint.specs.Auto.{Scan, scan, repairAt, scanFrom, scannable, automatic}
@@ -108,20 +108,17 @@ limit-beyond rate ms r h = rw (le-leb rate 16777216 r) (beyond ms (rw plus-infin
 
 -- ---- a float cut to a whole number
 
--- 1.0 and 2 ^ 64 as the code has them
-abbrev pub one-word : Float
-one-word = ofBits binary32 1065353216
-
+-- 2 ^ 64 as the code has it
 abbrev pub past-word : Float
 past-word = ofBits binary32 1602224128
 
-pub cut-below : (x : Float) → lt x past-word ≡ true → lt (neg one-word) x ≡ true
+pub cut-below : (x : Float) → lt x past-word ≡ true → lt (neg (ofBits binary32 1065353216)) x ≡ true
     → T (lt (fin true 1 (pos 0)) x) × T (lt x (fin false 1 (pos 64)))
 unfolding ofBits neg
 cut-below x h k = (subst T (sym k) tt, subst T (sym h) tt)
 
 -- what is not above -1 has a sign, or is a NaN
-pub cut-negative : (x : Float) → lt (neg one-word) x ≡ false → 0 ≡ toUnsigned 64 x
+pub cut-negative : (x : Float) → lt (neg (ofBits binary32 1065353216)) x ≡ false → 0 ≡ toUnsigned 64 x
 unfolding ofBits neg lt toUnsigned
 cut-negative nan h = refl
 cut-negative (inf true) h = refl
@@ -154,14 +151,10 @@ cut-nan x h = sym (ap (toUnsigned 64) (one-nan x (nan-test x ∙ ap not h)))
 
 -- ---- the limit
 
--- the code's 1000.0 and 1.0 are the rule's
+-- the code's 1000.0 is the rule's
 thousand : ofBits binary32 1148846080 ≡ count 1000
 unfolding ofBits count ofInt
 thousand = refl
-
-pub unit : one-word ≡ one
-unfolding ofBits
-unit = refl
 
 limit-opened : (ms : Float) (rate : ℕ)
     → toUnsigned 64 (larger (mul binary32 (div binary32 ms (count 1000)) (count rate)) one) ≡ limit ms rate
@@ -169,9 +162,9 @@ unfolding limit
 limit-opened ms rate = refl
 
 pub limit-is : (ms : Float) (rate : ℕ) (k l : Float) (r : ℕ) → k ≡ count rate
-    → l ≡ larger (mul binary32 (div binary32 ms (ofBits binary32 1148846080)) k) one-word
+    → l ≡ larger (mul binary32 (div binary32 ms (ofBits binary32 1148846080)) k) (ofBits binary32 1065353216)
     → r ≡ toUnsigned 64 l → r ≡ limit ms rate
-limit-is ms rate k l r a b c = c ∙ ap (toUnsigned 64) (b ∙ rw (a, thousand, unit) refl) ∙ limit-opened ms rate
+limit-is ms rate k l r a b c = c ∙ ap (toUnsigned 64) (b ∙ rw (a, thousand, one-word) refl) ∙ limit-opened ms rate
 
 -- ---- refusals 1 to 4
 

@@ -13,14 +13,15 @@ use lib.Ieee.{Float, binary32, ofBits, toBits}
 use Rattle.leaves.specs.Arithmetic.{float}
 use Rattle.leaves.specs.Floats.{inRange, narrowed}
 use Rattle.leaves.proofs.Lists.{lent-count, lent-back}
-use Rattle.model.specs.Model.{orderFor, filled, solved}
-use Rattle.model.specs.Areas.{area, Only, Laid, resultsAt, doublesFor}
+use Rattle.model.specs.Model.{mostWindow, orderFor, filled, solved, doublesFor}
+use Rattle.model.specs.Areas.{area, Only, Laid, resultsAt}
 use Rattle.recording.specs.Recording.{span, ranged}
 use Rattle.recording.specs.declared.Reason.the-variants.{Result}
 use Rattle.recording.specs.declared.Answer.the-variants.{Done, Refused}
 use Rattle.inpaint.specs.Gap.{context, from, to, windowSize, window, needed, narrowWord, model}
-use Rattle.inpaint.proofs.window.Laws.{context-most, needed-model, band-most}
+use Rattle.inpaint.proofs.window.Laws.{context-most, size-most, needed-model}
 use Rattle.leaves.proofs.Parts.{part-length, part-of-sets, drop-sets}
+use Rattle.model.proofs.Parts.{band-most}
 use Rattle.model.proofs.Passes.{one-pass, filled-length}
 
 -- ---- Words and doubles
@@ -63,10 +64,6 @@ pub record Numbers (n start len c : ℕ) : Type 0 where
 pub numbers : (n start len c : ℕ) → start + len ≤ n → Numbers n start len c
 numbers n start len c h = record { within = omega arith; inside = omega arith }
 
--- a window of the model is small
-size-most : (n start len c : ℕ) → len ≤ 2048 → c ≤ 8192 → min n (start + len + c) - (start - c) ≤ 32768
-size-most n start len c h k = omega arith
-
 module _ (samples : List ℕ) (start len : ℕ) (inside : start + len ≤ length samples) where
   length-window : length (window samples start len) ≡ windowSize (length samples) start len
   unfolding window
@@ -96,17 +93,15 @@ module _ (samples : List ℕ) (start len : ℕ) (inside : start + len ≤ length
 -- ---- The model in its workspace
 
 -- the results, as `work[at..at + len]` lends them
-abbrev pub lentResults : ℕ → ℕ → ℕ → List Float → List Float
-lentResults size len p v = let at = resultsAt size len p in take (at + len - at) (drop at v)
+abbrev pub lentResults : ℕ → ℕ → List Float → List Float
+lentResults at len v = take (at + len - at) (drop at v)
 
--- what stands where the model has filled the gap: numbers that no sum overflows, the words of the results, and the
+-- what stands where the model has filled the gap: the place of the results, which no sum overflows, their words, and the
 -- rest of the workspace as it was
-pub record Modelled (samples : List ℕ) (start len size p : ℕ) (w v : List Float) : Type 0 where
-  pub few : size ≤ 32768
-  pub low : p ≤ 128
-  pub band : len * (p + 1) ≤ 264192
-  pub room : resultsAt size len p + len ≤ length v
-  pub words : map narrowWord (lentResults size len p v) ≡ model 1 samples start len
+pub record Modelled (samples : List ℕ) (start len at : ℕ) (w v : List Float) : Type 0 where
+  pub small : at + len ≤ 289284
+  pub room : at + len ≤ length v
+  pub words : map narrowWord (lentResults at len v) ≡ model 1 samples start len
   pub count : length v ≡ length w
   pub kept : drop (needed (length samples) start len) v ≡ drop (needed (length samples) start len) w
 
@@ -117,7 +112,7 @@ module _ (samples known : List ℕ) (start len : ℕ) (w : List Float) (inside :
     size-is : length known ≡ windowSize (length samples) start len
     size-is = ap length ek ∙ length-window samples start len inside
 
-    size-few : length known ≤ 32768
+    size-few : length known ≤ mostWindow
     size-few = rw size-is (size-most (length samples) start len (context len) short (context-most len))
 
     needed-is : (p : ℕ) → p ≡ orderFor len → doublesFor (length known) len p ≡ needed (length samples) start len
@@ -158,12 +153,12 @@ module _ (samples known : List ℕ) (start len : ℕ) (w : List Float) (inside :
             ∙ part-of-sets w (map float known) 0 (length known) (length-map known float) (omega (arith, widen-room))
             ∙ ap (map float) ek
 
-        pub modelled : (v : List Float)
+        modelled-there : (v : List Float)
             → area v (resultsAt (length known) len p) len ≡ solved (area u 0 (length known)) (start - f) len p
             → Only (length known) (doublesFor (length known) len p) u v
-            → Modelled samples start len (length known) p w v
+            → Modelled samples start len (resultsAt (length known) len p) w v
         unfolding model
-        modelled v e o =
+        modelled-there v e o =
             let at = resultsAt (length known) len p in
             let all = needed-is p ep in
             let low : p ≤ 128 = omega arith in
@@ -175,9 +170,7 @@ module _ (samples known : List ℕ) (start len : ℕ) (w : List Float) (inside :
             ∙ ap (λ (z : List Float). solved z (start - f) len p) front
             ∙ rw (ef, ep) (sym (one-pass 1 seg g len (gap-within samples start len inside))) in
             record {
-              few = size-few;
-              low = low;
-              band = band-most len p short low;
+              small = omega (arith, size-few, band-most len p short low);
               room = omega (arith, all, room, count-is, o .count);
               words = ap (λ (k : ℕ). map narrowWord (take k (drop at v))) span ∙ ap (map narrowWord) results;
               count = o .count ∙ count-is;
@@ -190,17 +183,23 @@ module _ (samples known : List ℕ) (start len : ℕ) (w : List Float) (inside :
                   (rw (length-map known float) (omega (arith, all)));
             }
 
+        pub modelled : (v : List Float) (at : ℕ) → at ≡ resultsAt (length known) len p
+            → area v (resultsAt (length known) len p) len ≡ solved (area u 0 (length known)) (start - f) len p
+            → Only (length known) (doublesFor (length known) len p) u v
+            → Modelled samples start len at w v
+        modelled v at there e o = rw there (modelled-there v e o)
+
 -- ---- In its place
 
-module _ (samples : List ℕ) (start len size p : ℕ) (w v : List Float) (m : Modelled samples start len size p w v)
+module _ (samples : List ℕ) (start len at : ℕ) (w v : List Float) (m : Modelled samples start len at w v)
     (inside : start + len ≤ length samples)
   where
     -- as many words as doubles
-    pub fill-count : length (take (start + len - start) (drop start samples)) ≡ length (lentResults size len p v)
-    fill-count = lent-count start len samples inside ∙ sym (lent-count (resultsAt size len p) len v (m .room))
+    pub fill-count : length (take (start + len - start) (drop start samples)) ≡ length (lentResults at len v)
+    fill-count = lent-count start len samples inside ∙ sym (lent-count at len v (m .room))
 
     -- the gap was lent to be written, and comes back
-    pub model-back : (part : List ℕ) → part ≡ map narrowWord (lentResults size len p v)
+    pub model-back : (part : List ℕ) → part ≡ map narrowWord (lentResults at len v)
         → putMid start (start + len - start) samples part ≡ sets samples start (model 1 samples start len)
     model-back part e =
         let words : part ≡ model 1 samples start len = e ∙ m .words in

@@ -10,7 +10,9 @@ use borrow.Author.Tests.{lt-ltb, le-ltb}
 use lib.Dec.{ltb}
 use lib.ListN.{length}
 use Rattle.recording.specs.Recording.{State, Ended, ended, refused, Plan, refuse, change, span, fitting, carried}
-use Rattle.recording.specs.Recording.{clears, workAfter, if_then_else_, gapByModel, gapByLine}
+use Rattle.recording.specs.Recording.{clears, workAfter}
+use Rattle.recording.specs.Marks.{gapByModel, gapByLine}
+use Rattle.leaves.specs.Choice.{if_then_else_}
 use Rattle.recording.specs.declared.Reason.{Reason}
 use Rattle.recording.specs.declared.Reason.the-variants.{Gap, Workspace}
 use Rattle.recording.specs.declared.Answer.{Answer}

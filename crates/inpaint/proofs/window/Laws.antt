@@ -10,12 +10,12 @@ use native.Mathlib.Nat.{mul-le-mul}
 use borrow.Author.Tests.{lt-ltb, le-ltb, lt-leb, ne-eqb, leb-false, ltb-true, ltb-false, eqb-false}
 use lib.Dec.{leb, ltb, eqb}
 use lib.ListN.{length, take, drop}
-use Rattle.model.specs.Model.{orderFor}
+use Rattle.model.specs.Model.{orderFor, doublesFor, mostWindow}
 use Rattle.recording.specs.declared.Reason.{Reason}
 use Rattle.recording.specs.declared.Answer.{Answer}
 use Rattle.recording.specs.declared.Answer.the-variants.{Done, Refused}
 use Rattle.recording.specs.Recording.{readable}
-use Rattle.recording.proofs.open.Laws.{EitherWay, truth}
+use Rattle.leaves.proofs.Choice.{truth, EitherWay}
 use Rattle.inpaint.specs.Gap.{gapWrong, context, from, to, window, needed}
 use Rattle.inpaint.specs.Gap.{knownBefore, knownBehind, allReadable}
 
@@ -80,15 +80,13 @@ unfolding needed
 needed-line n start len h = rw (lt-ltb _ _ h) refl
 
 pub needed-model : (n start len f t p : ℕ) → len ≤ 2048 → f ≡ from start len → t ≡ to n start len → p ≡ orderFor len
-    → t - f + len * (p + 1) + 3 * len + 4 * (p + 1) ≡ needed n start len
+    → doublesFor (t - f) len p ≡ needed n start len
 unfolding needed
 needed-model n start len f t p h ef et ep = rw (ef, et, ep, le-ltb _ _ h) refl
 
--- the band, the largest of its parts, is small
-pub band-most : (len p : ℕ) → len ≤ 2048 → p ≤ 128 → len * (p + 1) ≤ 264192
-band-most len p h k =
-    let wide : p + 1 ≤ 129 = omega arith in
-    mul-le-mul h wide
+-- a window of the model is small, with a context of at most c
+pub size-most : (n start len c : ℕ) → len ≤ 2048 → c ≤ 8192 → min n (start + len + c) - (start - c) ≤ mostWindow
+size-most n start len c h k = omega arith
 
 -- a gap of at most `most` samples, with a context of at most c and an order of at most p, needs no more than that many
 pub needed-within : (n start len most c p : ℕ) → len ≤ most → most ≤ 2048 → context len ≤ c → orderFor len ≤ p

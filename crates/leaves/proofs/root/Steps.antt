@@ -15,7 +15,7 @@ use lib.Ieee.{Float, nan, inf, fin, binary64, lt, eq, ne, ofBits, toBits, fits}
 use lib.Ieee.Bits.{toBits-lt}
 use lib.Ieee.Exact.{HasValue}
 use Rattle.leaves.specs.Root.{Nearest, NearestRoot, SquareRoot, Rooted, root}
-use Rattle.leaves.specs.Steps.{signed}
+use Rattle.leaves.specs.Steps.{signed, mostScale}
 use Rattle.leaves.proofs.Numbers.{lt-or-ge}
 use Rattle.leaves.proofs.Values.{digits, place, back, rescaled, sign-and-rest, no-number, value-of-tail}
 use Rattle.leaves.proofs.Values.{value-of-digits}
@@ -62,7 +62,7 @@ module _
     (digits scale : ℕ)
     (least : 2 ^ 52 ≤ digits)
     (most : digits < 2 ^ 53)
-    (within : scale ≤ 2097)
+    (within : scale ≤ mostScale)
     (q : ℕ)
     (near : Nearest (even digits scale * 2 ^ 52) q)
   where

@@ -12,12 +12,13 @@ use lib.Seq.{sets, sets-eq, length-sets}
 use Rattle.leaves.specs.Arithmetic.{_+₆₄_, _*₆₄_, _/₆₄_, at}
 use Rattle.leaves.specs.Floats.{larger}
 use Rattle.leaves.specs.Root.{root}
-use Rattle.model.specs.Model.{less, mat, laid, cellAt, cells, rows, factored}
+use Rattle.model.specs.Model.{minus, mat, laid, cellAt, cells, rows, factored}
 use Rattle.model.specs.Model.{forwardAt, forward, backwardAt, backward}
 use Rattle.model.specs.Areas.{area}
 use Rattle.leaves.proofs.Parts.{take-sets, drop-sets, store-next, store-before, part-length, part-of-sets}
 use Rattle.leaves.proofs.Parts.{part-before-sets, part-grows}
-use Rattle.model.proofs.sums.Laws.{micro-word, no-sum, pico-word}
+use Rattle.leaves.proofs.Literals.{nought-double}
+use Rattle.model.proofs.sums.Laws.{micro-word, pico-word}
 
 -- ---- Where a place of the band lies
 
@@ -69,10 +70,10 @@ laid-below b d h = rw (ne-eqb _ _ h) refl
 module _ (b : List Float) (p : ℕ) (band : List Float) (i d : ℕ) where
   pub cell-outside : i < d → ofBits binary64 0 ≡ cellAt b p band i d
   unfolding cellAt
-  cell-outside h = rw (lt-ltb _ _ h, no-sum) refl
+  cell-outside h = rw (lt-ltb _ _ h, nought-double) refl
 
   module _ (low : ℕ) (v sum : Float) (h : d ≤ i) (el : low ≡ i - p) (ev : v ≡ laid b d)
-      (es : sum ≡ less (λ k. at band (p * (i + 1) + k) *₆₄ at band (p * (i - d + 1) + k)) low (i - d - low) v)
+      (es : sum ≡ minus (λ k. at band (p * (i + 1) + k) *₆₄ at band (p * (i - d + 1) + k)) low (i - d - low) v)
     where
       pub cell-diagonal : (m r : Float) → d ≡ 0 → m ≡ larger sum (ofBits binary64 4427486594234968593) → r ≡ root m
           → r ≡ cellAt b p band i d
@@ -86,14 +87,14 @@ module _ (b : List Float) (p : ℕ) (band : List Float) (i d : ℕ) where
 -- ---- A place of each solve
 
 pub forward-place : (band rhs : List Float) (p : ℕ) (y : List Float) (low : ℕ) (sum : Float) → low ≡ length y - p
-    → sum ≡ less (λ k. at band (p * (length y + 1) + k) *₆₄ at y (0 + k)) low (length y - low) (at rhs (length y))
+    → sum ≡ minus (λ k. at band (p * (length y + 1) + k) *₆₄ at y (0 + k)) low (length y - low) (at rhs (length y))
     → sum /₆₄ at band (p * (length y + 1) + length y) ≡ forwardAt band rhs p y
 unfolding forwardAt
 forward-place band rhs p y low sum el es = rw (es, el) (simp zero-add)
 
 pub backward-place : (band y : List Float) (p i : ℕ) (x : List Float) (high : ℕ) (sum : Float)
     → high ≡ min (i + p) (length y - 1)
-    → sum ≡ less (λ k. mat p band k i *₆₄ at x (k - (i + 1))) (i + 1) (high - i) (at y i)
+    → sum ≡ minus (λ k. mat p band k i *₆₄ at x (k - (i + 1))) (i + 1) (high - i) (at y i)
     → sum /₆₄ at band (p * (i + 1) + i) ≡ backwardAt band y p (length y) i x
 unfolding backwardAt
 backward-place band y p i x high sum eh es = rw (es, eh) refl

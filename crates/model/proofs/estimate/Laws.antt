@@ -18,14 +18,9 @@ use Rattle.model.specs.Model.{levinson, estimateArKnown}
 use Rattle.model.specs.Areas.{area, Only, coefsAt}
 use Rattle.leaves.proofs.Parts.{take-sets, store-next, part-of-sets, part-before-sets, part-behind-sets}
 use Rattle.leaves.proofs.Parts.{part-length}
+use Rattle.leaves.proofs.Literals.{nought-double, one-double}
 use Rattle.model.proofs.Parts.{only-sets, only-then, only-wider, only-before}
-use Rattle.model.proofs.sums.Laws.{each-next, length-each, micro-word, no-sum, pico-word}
-
--- ---- The literals of the code
-
-pub one-word : ofBits binary64 4607182418800017408 ≡ one
-unfolding ofBits
-one-word = refl
+use Rattle.model.proofs.sums.Laws.{each-next, length-each, micro-word, pico-word}
 
 -- ---- A run of stores: what it leaves in its own area, in one before or behind it, and in the rest
 
@@ -110,7 +105,7 @@ pub unit-stored : (w v : List Float) (a p : ℕ)
     → v ≡ sets w a (unit p)
 unit-stored w v a p e =
     let next : a + 1 ≡ suc a = omega arith in
-    e ∙ rw (next, no-sum, one-word) refl
+    e ∙ rw (next, nought-double, one-double) refl
 
 -- ---- An area, place by place
 
@@ -252,7 +247,7 @@ module _ (r a : List Float) (e : Float) (i p : ℕ) (whole : List Float) (rest :
     unfolding orders
     one-order =
         let left : p + 1 - i ≡ suc (p + 1 - (i + 1)) = omega arith in
-        rw (left, en, ek, ea, es, one-word, pico-word, no-sum) refl
+        rw (left, en, ek, ea, es, one-double, pico-word, nought-double) refl
 
     pub orders-small : lt size (ofBits binary64 4427486594234968593) ≡ true → a ≡ whole
     orders-small small = sym (one-order ∙ choose-true _ _ _ small) ∙ rest
@@ -299,7 +294,7 @@ raised-lag : (x y v : Float) → x ≡ y
 raised-lag x y v e ev =
     ev
     ∙ ap (λ (z : Float). z *₆₄ (ofBits binary64 4607182418800017408 +₆₄ ofBits binary64 4517329193108106637)) e
-    ∙ ap (λ (z : Float). y *₆₄ (z +₆₄ ofBits binary64 4517329193108106637)) one-word
+    ∙ ap (λ (z : Float). y *₆₄ (z +₆₄ ofBits binary64 4517329193108106637)) one-double
     ∙ ap (λ (z : Float). y *₆₄ (one +₆₄ z)) micro-word
 
 module _ (w w₁ : List Float) (size g len p : ℕ) (room : size + 3 * (p + 1) ≤ length w)
@@ -329,7 +324,7 @@ module _ (w w₁ : List Float) (size g len p : ℕ) (room : size + 3 * (p + 1) �
   unfolding estimateArKnown
   estimate-unit w₂ none e₂ =
       let test : le (at (lags (area w 0 size) g len p) 0) nought ≡ true =
-      sym (ap (λ (x : Float). le x nought) first-lag) ∙ ap (le (at w₁ size)) (sym no-sum) ∙ none in
+      sym (ap (λ (x : Float). le x nought) first-lag) ∙ ap (le (at w₁ size)) (sym nought-double) ∙ none in
       let count : length (unit p) ≡ p + 1 = length-unit p in
       let there : coefsAt size p + (p + 1) ≤ length w₁ = rw lags-count (omega arith) in
       let wrote : Only size (size + 3 * (p + 1)) w₁ w₂ =
@@ -350,7 +345,7 @@ module _ (w w₁ : List Float) (size g len p : ℕ) (room : size + 3 * (p + 1) �
   estimate-model v w₃ some ev model o =
       let r = lags (area w 0 size) g len p in
       let test : le (at r 0) nought ≡ false =
-      sym (ap (λ (x : Float). le x nought) first-lag) ∙ ap (le (at w₁ size)) (sym no-sum) ∙ some in
+      sym (ap (λ (x : Float). le x nought) first-lag) ∙ ap (le (at w₁ size)) (sym nought-double) ∙ some in
       let value : v ≡ at r 0 *₆₄ (one +₆₄ micro) = raised-lag (at w₁ size) (at r 0) v first-lag ev in
       let here : size ≡ size + 0 = omega arith in
       let stands : area (set w₁ size v) size (p + 1) ≡ set r 0 v =

@@ -8,9 +8,9 @@ use native.Mathlib.Nat.{zero-add}
 use lib.ListN.{length, set}
 use lib.Seq.{sets}
 use lib.Ieee.{Float}
-use Rattle.model.specs.Model.{each, coefAt, coefAutocorr, rightSide, rightSides, factored, forward}
+use Rattle.model.specs.Model.{each, coefAt, coefAutocorr, rightSide, rightSides, factored, forward, doublesFor}
 use Rattle.model.specs.Model.{backward, solveSpdBanded, estimateArKnown, solved}
-use Rattle.model.specs.Areas.{area, Only, coefsAt, bandAt, resultsAt, doublesFor}
+use Rattle.model.specs.Areas.{area, Only, coefsAt, bandAt, resultsAt}
 use Rattle.model.proofs.Parts.{only-then, only-wider, only-before}
 use Rattle.model.proofs.sums.Laws.{length-each}
 use Rattle.model.proofs.banded.Laws.{length-factored, length-forward, length-backward}

@@ -11,7 +11,8 @@ use lib.Ieee.{Float, binary64, neg, ofBits}
 use lib.Dec.{leb}
 use borrow.Author.Tests.{lt-ltb, le-ltb}
 use Rattle.leaves.specs.Arithmetic.{_+₆₄_, _-₆₄_, _*₆₄_, at, nought}
-use Rattle.model.specs.Model.{micro, pico, plus, less, plusWhere, each, known, lagSum, shortfall, coefAt}
+use Rattle.leaves.proofs.Literals.{nought-double}
+use Rattle.model.specs.Model.{micro, pico, plus, minus, plusWhere, each, known, lagSum, shortfall, coefAt}
 use Rattle.model.specs.Model.{rightSide}
 
 -- ---- Lists given place by place
@@ -68,16 +69,16 @@ pub plus-done : (f : ℕ → Float) (i n : ℕ) (s whole : Float) → n ≤ i �
 unfolding plus
 plus-done f i n s whole h rest = let none : n - i ≡ 0 = omega arith in sym (ap (λ (m : ℕ). plus f i m s) none) ∙ rest
 
-pub less-turn : (f : ℕ → Float) (i n : ℕ) (s whole : Float) → i < n → less f i (n - i) s ≡ whole
-    → less f (i + 1) (n - (i + 1)) (s -₆₄ f i) ≡ whole
-unfolding less
-less-turn f i n s whole h rest =
+pub minus-turn : (f : ℕ → Float) (i n : ℕ) (s whole : Float) → i < n → minus f i (n - i) s ≡ whole
+    → minus f (i + 1) (n - (i + 1)) (s -₆₄ f i) ≡ whole
+unfolding minus
+minus-turn f i n s whole h rest =
     let left : n - i ≡ suc (n - (i + 1)) = omega arith in
-    sym (ap (λ (m : ℕ). less f i m s) left) ∙ rest
+    sym (ap (λ (m : ℕ). minus f i m s) left) ∙ rest
 
-pub less-done : (f : ℕ → Float) (i n : ℕ) (s whole : Float) → n ≤ i → less f i (n - i) s ≡ whole → s ≡ whole
-unfolding less
-less-done f i n s whole h rest = let none : n - i ≡ 0 = omega arith in sym (ap (λ (m : ℕ). less f i m s) none) ∙ rest
+pub minus-done : (f : ℕ → Float) (i n : ℕ) (s whole : Float) → n ≤ i → minus f i (n - i) s ≡ whole → s ≡ whole
+unfolding minus
+minus-done f i n s whole h rest = let none : n - i ≡ 0 = omega arith in sym (ap (λ (m : ℕ). minus f i m s) none) ∙ rest
 
 -- a place whose test holds is added, and any other is passed over
 module _ (test : ℕ → Bool) (f : ℕ → Float) (i n : ℕ) (s whole : Float) where
@@ -130,7 +131,7 @@ first-unknown b er hr = rw (← er, hr) refl
 
 -- ---- Where the loops begin and end
 
--- the literals 1e-12, 1e-6 and 0.0 of the code
+-- the literals 1e-12 and 1e-6 of the code
 pub pico-word : ofBits binary64 4427486594234968593 ≡ pico
 unfolding ofBits pico
 pico-word = refl
@@ -139,14 +140,10 @@ pub micro-word : ofBits binary64 4517329193108106637 ≡ micro
 unfolding ofBits micro
 micro-word = refl
 
-pub no-sum : ofBits binary64 0 ≡ nought
-unfolding ofBits
-no-sum = refl
-
 pub lag-start : (seg : List Float) (g len lag : ℕ)
     → plusWhere (pair-known g len lag) (pair seg lag) lag (length seg - lag) (ofBits binary64 0) ≡ lagSum seg g len lag
 unfolding lagSum
-lag-start seg g len lag = rw no-sum refl
+lag-start seg g len lag = rw nought-double refl
 
 pub shortfall-start : (a r : List Float) (i : ℕ)
     → plus (λ j. at a j *₆₄ at r (i - j)) 1 (i - 1) (at r i) ≡ shortfall a r i
@@ -156,7 +153,7 @@ shortfall-start a r i = refl
 pub coef-start : (a : List Float) (p j : ℕ)
     → plus (λ k. at a k *₆₄ at a (k + j)) 0 (p + 1 - j - 0) (ofBits binary64 0) ≡ coefAt a p j
 unfolding coefAt
-coef-start a p j = let all : p + 1 - j - 0 ≡ p + 1 - j = omega arith in rw (all, no-sum) refl
+coef-start a p j = let all : p + 1 - j - 0 ≡ p + 1 - j = omega arith in rw (all, nought-double) refl
 
 -- what place x contributes to the right side of the gap's place c
 abbrev pub before-gap : List Float → List Float → ℕ → ℕ → Float
@@ -167,7 +164,7 @@ behind-gap seg b c x = at b (x - c) *₆₄ at seg x
 
 pub before-start : (f : ℕ → Float) (x low g : ℕ) → x ≡ low
     → plus f x (g - x) (ofBits binary64 0) ≡ plus f low (g - low) nought
-before-start f x low g e = rw (e, no-sum) refl
+before-start f x low g e = rw (e, nought-double) refl
 
 pub right-end : (seg b : List Float) (g len p i high : ℕ) (before s : Float)
     → high ≡ min (g + i + p + 1) (length seg)
@@ -178,7 +175,7 @@ unfolding rightSide
 right-end seg b g len p i high before s top e es = rw (es, e, top) refl
 
 pub column-start : (f : ℕ → Float) (i high : ℕ) (s : Float)
-    → less f (i + 1) (high + 1 - (i + 1)) s ≡ less f (i + 1) (high - i) s
+    → minus f (i + 1) (high + 1 - (i + 1)) s ≡ minus f (i + 1) (high - i) s
 column-start f i high s = let all : high + 1 - (i + 1) ≡ high - i = omega arith in rw all refl
 
 -- the rows of the band lie one behind the other

@@ -287,11 +287,11 @@ module _ (s : State) (mark start len : ℕ) (words : List ℕ) (count : length w
   -- the words are in range: the call ends as the entry does, and the caller writes the words where it stands
   module _ (a : Answer) (m : ℕ) (r : Answer) (marks journal : List ℕ) (used : ℕ) (e : a ≡ ranged (span start words)) (d : a ≡ Done m) where
     pub span-refused : (why : Reason) → r ≡ Refused why
-        → ended r (state (filled r start words (s .samples)) marks journal used) ≡ entered s mark (span start words)
+        → ended r (filled r start words (state (s .samples) marks journal used)) ≡ entered s mark (span start words)
         → ended r (state (s .samples) marks journal used) ≡ carried s (change mark (span start words))
     span-refused why er end = rw er ((rw er at end) ∙ carried-on s mark (span start words) a m e d)
 
     pub span-written : (k : ℕ) (samples : List ℕ) → r ≡ Done k → samples ≡ sets (s .samples) start words
-        → ended r (state (filled r start words (s .samples)) marks journal used) ≡ entered s mark (span start words)
+        → ended r (filled r start words (state (s .samples) marks journal used)) ≡ entered s mark (span start words)
         → ended r (state samples marks journal used) ≡ carried s (change mark (span start words))
     span-written k samples er es end = rw (er, es) ((rw er at end) ∙ carried-on s mark (span start words) a m e d)

@@ -1,7 +1,7 @@
 -- Refusals 1 to 3 and opening, line by line: the tests that failed before, the test that holds, and how the call ends.
 -- Assumes nothing.
 use mathlib.Core.Path.{_≡_, refl, sym, _∙_}
-use mathlib.Core.Bool.{Bool, true, false}
+use mathlib.Core.Bool.{true, false}
 use mathlib.Core.List.{List}
 use mathlib.Core.Logic.{_⊎_, inl, inr}
 use Prim.Native.Nat.{ℕ, _≤_, _<_}
@@ -11,6 +11,7 @@ use borrow.Author.Tests.{lt-ltb, le-ltb, eq-eqb, ne-eqb, eqb-true, ltb-false, no
 use lib.ListN.{length, replicate, length-replicate}
 use lib.Seq.{sets, sets-eq, drop-length}
 use mathlib.Core.List.{append-nil}
+use Rattle.leaves.proofs.Choice.{EitherWay, truth}
 use Rattle.recording.specs.Recording.{State, state, ended, refused, mostSamples, differ, tooMany, overUsed}
 use Rattle.recording.specs.Recording.{fitting, opened}
 use Rattle.recording.specs.Inner.{Fits}
@@ -58,14 +59,6 @@ module _ (s : State) where
       unfolding opened
       opened-done marks journal em ej =
           rw (eq-eqb _ _ one, le-ltb _ _ two, em, ej, all-over (s .marks) 0, all-over (s .journal) 0) refl
-
--- a test holds, or it does not
-abbrev pub EitherWay : Bool → Type 0
-EitherWay b = (b ≡ true) ⊎ (b ≡ false)
-
-pub truth : (b : Bool) → EitherWay b
-truth true = inl refl
-truth false = inr refl
 
 -- ---- Refusals 1 to 3 as facts
 

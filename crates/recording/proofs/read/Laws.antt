@@ -13,7 +13,7 @@ use Rattle.recording.specs.Recording.{readable}
 use Rattle.recording.specs.declared.Reason.the-variants.{Read}
 use Rattle.recording.specs.declared.Answer.{Answer}
 use Rattle.recording.specs.declared.Answer.the-variants.{Done, Refused}
-use Rattle.recording.proofs.open.Laws.{EitherWay, truth}
+use Rattle.leaves.proofs.Choice.{truth, EitherWay}
 
 -- one turn of the test of words, and the word that is out of range
 pub read-more : (ws : List ℕ) (first i : ℕ) → i < length ws → inRange (getD ws i 0) ≡ true

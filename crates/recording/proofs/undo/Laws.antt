@@ -14,7 +14,8 @@ use borrow.Author.Tests.{lt-ltb, le-ltb, le-leb, lt-leb, eq-eqb, ne-eqb, ltb-fal
 use Rattle.recording.specs.Recording.{State, state, ended, refused}
 use Rattle.recording.specs.Recording.{fitting}
 use Rattle.recording.specs.Recording.{Saved, savedAt, placePast, notRising, markPast, put, oldWords, oldMarks}
-use Rattle.recording.specs.Recording.{entrySize, lastCount, lastMark, lastSaved, made, malformed}
+use Rattle.recording.specs.Recording.{entrySize, lastCount, lastMark, lastSaved, malformed}
+use Rattle.recording.specs.Marks.{made}
 use Rattle.recording.specs.Recording.{takenBack, undone}
 use Rattle.recording.specs.Inner.{anyWrong, Fits, Restorable}
 use Rattle.recording.specs.declared.Reason.{Reason}
@@ -265,16 +266,8 @@ module _ (n : ℕ) (journal : List ℕ) (used : ℕ) (wrong : Bool)
   pub malformed-saved : wrong ≡ true → true ≡ malformed n journal used
   malformed-saved h = rw (two, h) refl
 
-  module _ (right : wrong ≡ false) where
-    pub malformed-low : lastMark journal used < 1 → true ≡ malformed n journal used
-    malformed-low h = rw (two, right, lt-leb 1 _ h) refl
-
-    module _ (first : 1 ≤ lastMark journal used) where
-      pub malformed-high : 5 < lastMark journal used → true ≡ malformed n journal used
-      malformed-high h = rw (two, right, le-leb 1 _ first, lt-leb _ 5 h) refl
-
-      pub not-malformed : lastMark journal used ≤ 5 → false ≡ malformed n journal used
-      not-malformed h = rw (two, right, le-leb 1 _ first, le-leb _ 5 h) refl
+  pub malformed-mark : (b : Bool) → wrong ≡ false → b ≡ made (lastMark journal used) → not b ≡ malformed n journal used
+  malformed-mark b right e = rw (two, right, e) refl
 
 -- ---- the clause that follows from the others
 

@@ -1,7 +1,8 @@
 -- `dequant::cosparse::dequantize_cosparse` meets its contract: a refusal of the start ends it, and else what is drawn is
 -- committed. Assumes nothing.
 use borrow.Author.Needs.{needs}
-use Rattle.recording.specs.Recording.{State, state, dequantize}
+use Rattle.recording.specs.Recording.{State, state}
+use Rattle.recording.specs.Marks.{dequantize}
 use Rattle.redraw.proofs.Ending.{start-room, start-finishes, start-laid, whole-refused, whole-drawn}
 use Rattle.dequant.specs.Dequant.{cosparse}
 use Rattle.dequant.proofs.cosparse.Laws.{cosparse-is}

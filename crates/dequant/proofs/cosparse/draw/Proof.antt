@@ -38,8 +38,8 @@ returns-2 c =
 step-of-requires : tie.Need-step-of-requires
 step-of-requires c κs = search needs
 
-least-requires : tie.Need-least-requires
-least-requires c κs = search needs
+smaller-of-requires : tie.Need-smaller-of-requires
+smaller-of-requires c κs = search needs
 
 sparse-passes-requires : tie.Need-sparse-passes-requires
 sparse-passes-requires c κs =
@@ -65,7 +65,7 @@ returns-3 c =
     let pre = at .before .before .before .pre in
     let done = pass .sparse-passes .ensures in
     drawn-so _ _ _ _ _ (pre .0) true true (reached at true (not-false _ (go .if1 .left))) (some-run _ (some .if2 .left)) refl
-    _ _ _ _ _ (stepped .step-of .ensures) (at .before .strength-of .ensures) (few .least .ensures) (done .0) (done .1)
+    _ _ _ _ _ (stepped .step-of .ensures) (at .before .strength-of .ensures) (few .smaller-of .ensures) (done .0) (done .1)
     (name .name-inner .ensures)
 
 pub draw-spec : {M : Type 1} → statement M
@@ -77,7 +77,7 @@ draw-spec =
     returns
     returns-2
     step-of-requires
-    least-requires
+    smaller-of-requires
     sparse-passes-requires
     name-inner-requires
     same-length

@@ -1,7 +1,8 @@
 -- `dequant::passes::dequantize` meets its contract: a refusal of the start ends it, and else what is drawn is committed. Assumes
 -- nothing.
 use borrow.Author.Needs.{needs}
-use Rattle.recording.specs.Recording.{State, state, dequantize}
+use Rattle.recording.specs.Recording.{State, state}
+use Rattle.recording.specs.Marks.{dequantize}
 use Rattle.redraw.proofs.Ending.{start-room, start-finishes, start-laid, whole-refused, whole-drawn}
 use Rattle.dequant.specs.Dequant.{dequantized}
 use Rattle.dequant.proofs.passes.Laws.{dequantize-is}

@@ -24,9 +24,12 @@ widening c = c .before .before .before .before .before
 abbrev windowed : tie.After-window-from → tie.After-window-of
 windowed c = widening c .before .before
 
--- where the model had filled the gap, before its doubles were tested
+-- where the model had filled the gap, and where its doubles' place was worked out, before they were tested
 abbrev filling : tie.After-check-results → tie.After-fill-by-model
-filling c = c .before .before .before .before .before
+filling c = c .before .before .before .before .before .before
+
+abbrev placing : tie.After-check-results → tie.After-results-at
+placing c = c .before .before .before
 
 -- where the doubles were found in range, before the entry was made
 abbrev tested : tie.After-enter-span → tie.After-enum-told
@@ -53,17 +56,17 @@ fits : (c : tie.After-check-results) → length (recording c .samples) ≤ mostS
 fits c = start (filling c .before) .pre .0 .few
 
 -- what the model has left
-gave : (c : tie.After-fill-by-model)
-    → let a = start (c .before) .args in
-    Modelled (a .samples .now) (a .start) (a .len) (length (windowed (c .before) .window-of .result .now))
-    (c .before .before .before .order-for .result) (a .work .now) (c .fill-by-model .last .0)
+gave : (c : tie.After-results-at)
+    → let a = start (c .before .before .before .before) .args in
+    Modelled (a .samples .now) (a .start) (a .len) (c .results-at .result) (a .work .now) (c .before .before .before .fill-by-model .last .0)
 gave c =
-    let s = start (c .before) in
+    let fill = c .before .before .before in
+    let s = start (fill .before) in
     let a = s .args in
     modelled (a .samples .now) _ (a .start) (a .len) (a .work .now) (s .pre .1) (s .pre .2) (s .pre .3) (s .pre .4)
-    (windowed (c .before) .window-of .ensures) _ _ _ (widening (c .before) .widen-words .ensures)
-    (c .before .window-from .ensures) (c .before .before .before .order-for .ensures)
-    _ (c .fill-by-model .ensures .0) (c .fill-by-model .ensures .1)
+    (windowed (fill .before) .window-of .ensures) _ _ _ (widening (fill .before) .widen-words .ensures)
+    (fill .before .window-from .ensures) (fill .before .before .before .order-for .ensures)
+    _ _ (c .results-at .ensures) (fill .fill-by-model .ensures .0) (fill .fill-by-model .ensures .1)
 
 -- the test of the results' range
 ranging : (c : tie.After-check-results)
@@ -71,7 +74,7 @@ ranging : (c : tie.After-check-results)
     c .check-results .result ≡ ranged (span (a .start) (model 1 (a .samples .now) (a .start) (a .len)))
 ranging c =
     c .check-results .ensures
-    ∙ ap (λ (ws : List ℕ). ranged (span (start (filling c .before) .args .start) ws)) (gave (filling c) .words)
+    ∙ ap (λ (ws : List ℕ). ranged (span (start (filling c .before) .args .start) ws)) (gave (placing c) .words)
 
 window-of-requires : tie.Need-window-of-requires
 window-of-requires c κs = search needs
@@ -100,35 +103,21 @@ fill-by-model-requires c κs =
     (windowed c .window-of .ensures) _ _ _ (widening c .widen-words .ensures) (c .window-from .ensures)
     (c .before .before .order-for .ensures)
 
-add-at : tie.Need-add-at
-add-at c = search needs
-
-mul-at : tie.Need-mul-at
-mul-at c = search needs
-
-add-at-2 : tie.Need-add-at-2
-add-at-2 c = search needs
-
-add-at-3 : tie.Need-add-at-3
-add-at-3 c = search needs
-
-mul-at-2 : tie.Need-mul-at-2
-mul-at-2 c = omega (arith, gave (c .before .before))
-
-add-at-4 : tie.Need-add-at-4
-add-at-4 c = omega (arith, gave (c .before .before))
-
-mul-at-3 : tie.Need-mul-at-3
-mul-at-3 c = search needs
-
-add-at-5 : tie.Need-add-at-5
-add-at-5 c = omega (arith, gave (c .before .before))
+results-at-requires : tie.Need-results-at-requires
+results-at-requires c κs =
+    let fill = c .before .before in
+    let s = start (fill .before) in
+    let a = s .args in
+    let l = laid (a .samples .now) _ (a .start) (a .len) (a .work .now) (s .pre .1) (s .pre .2) (s .pre .3) (s .pre .4)
+    (windowed (fill .before) .window-of .ensures) _ _ _ (widening (fill .before) .widen-words .ensures) (fill .before .window-from .ensures)
+    (fill .before .before .before .order-for .ensures) in
+    (l .few, l .short, l .low)
 
 add-check-results : tie.Need-add-check-results
-add-check-results c = omega (arith, gave (c .before .before), start (c .before .before .before) .pre .3)
+add-check-results c = omega (arith, gave c)
 
 mul-check-results : tie.Need-mul-check-results
-mul-check-results c = omega (arith, gave (c .before .before), start (c .before .before .before) .pre .3)
+mul-check-results c = omega (arith, gave c)
 
 sub-check-results : tie.Need-sub-check-results
 sub-check-results c = search needs
@@ -137,7 +126,7 @@ part-check-results-start : tie.Need-part-check-results-start
 part-check-results-start c = search needs
 
 part-check-results-end : tie.Need-part-check-results-end
-part-check-results-end c = gave (c .before .before .before) .room
+part-check-results-end c = gave (c .before) .room
 
 check-results-requires : tie.Need-check-results-requires
 check-results-requires c κs = search needs
@@ -152,12 +141,12 @@ same-length : tie.Need-same-length
 same-length c = refl
 
 same-length-2 : tie.Need-same-length-2
-same-length-2 c = gave (filling (c .before .before)) .count
+same-length-2 c = gave (placing (c .before .before)) .count
 
 returns : tie.Need-returns
 returns c =
     let call = c .before .before in
-    let m = gave (filling call) in
+    let m = gave (placing call) in
     (carried-out _ _ _ _ _ (ranging call) (c .enum-told2 .given .1), m .count, m .kept)
 
 enter-span-requires : tie.Need-enter-span-requires
@@ -179,7 +168,7 @@ same-length-5 : tie.Need-same-length-5
 same-length-5 c = c .before .before .before .before .before .before .enter-span .kept .1 .1 .0
 
 same-length-6 : tie.Need-same-length-6
-same-length-6 c = gave (filling (tested (c .before .before .before .before .before .before) .before .before)) .count
+same-length-6 c = gave (placing (tested (c .before .before .before .before .before .before) .before .before)) .count
 
 returns-2 : tie.Need-returns-2
 returns-2 c =
@@ -188,7 +177,7 @@ returns-2 c =
     let call = told .before .before in
     let a = start (filling call .before) .args in
     let count = length-model (a .samples .now) (a .start) (a .len) (inside call) 1 in
-    let m = gave (filling call) in (
+    let m = gave (placing call) in (
       span-refused (recording call) _ _ _ _ count _ _ _ _ _ _ (ranging call) (told .enum-told .given .1)
           _ (c .enum-told4 .given .1) (entering .enter-span .ensures _ count),
       m .count,
@@ -211,10 +200,10 @@ part-model-fill-end : tie.Need-part-model-fill-end
 part-model-fill-end c = inside (testing c)
 
 add-model-fill-2 : tie.Need-add-model-fill-2
-add-model-fill-2 c = let at = filling (testing (c .before)) in omega (arith, gave at, start (at .before) .pre .3)
+add-model-fill-2 c = omega (arith, gave (placing (testing (c .before))))
 
 mul-model-fill-2 : tie.Need-mul-model-fill-2
-mul-model-fill-2 c = let at = filling (testing (c .before)) in omega (arith, gave at, start (at .before) .pre .3)
+mul-model-fill-2 c = omega (arith, gave (placing (testing (c .before))))
 
 sub-model-fill-2 : tie.Need-sub-model-fill-2
 sub-model-fill-2 c = search needs
@@ -223,12 +212,12 @@ part-model-fill-start-2 : tie.Need-part-model-fill-start-2
 part-model-fill-start-2 c = search needs
 
 part-model-fill-end-2 : tie.Need-part-model-fill-end-2
-part-model-fill-end-2 c = gave (filling (testing (c .before .before))) .room
+part-model-fill-end-2 c = gave (placing (testing (c .before .before))) .room
 
 model-fill-requires : tie.Need-model-fill-requires
 model-fill-requires c κs =
     let call = testing (c .before .before .before) in
-    fill-count _ _ _ _ _ _ _ (gave (filling call)) (inside call)
+    fill-count _ _ _ _ _ _ (gave (placing call)) (inside call)
 
 same-length-7 : tie.Need-same-length-7
 same-length-7 c = search needs
@@ -240,7 +229,7 @@ same-length-9 : tie.Need-same-length-9
 same-length-9 c = entering (c .before .before .before .before .before .before) .enter-span .kept .1 .1 .0
 
 same-length-10 : tie.Need-same-length-10
-same-length-10 c = gave (filling (testing (c .before .before .before .before .before .before))) .count
+same-length-10 c = gave (placing (testing (c .before .before .before .before .before .before))) .count
 
 returns-3 : tie.Need-returns-3
 returns-3 c =
@@ -250,8 +239,8 @@ returns-3 c =
     let call = told .before .before in
     let a = start (filling call .before) .args in
     let count = length-model (a .samples .now) (a .start) (a .len) (inside call) 1 in
-    let m = gave (filling call) in
-    let back = model-back _ _ _ _ _ _ _ m (inside call) _ (c .before .before .model-fill .ensures) in (
+    let m = gave (placing call) in
+    let back = model-back _ _ _ _ _ _ m (inside call) _ (c .before .before .model-fill .ensures) in (
       span-written (recording call) _ _ _ _ count _ _ _ _ _ _ (ranging call) (told .enum-told .given .1)
           _ _ (done .enum-told3 .given .1) back (entering .enter-span .ensures _ count),
       m .count,
@@ -268,14 +257,7 @@ repair-by-model-spec =
     window-from-requires
     sub-fill-by-model
     fill-by-model-requires
-    add-at
-    mul-at
-    add-at-2
-    add-at-3
-    mul-at-2
-    add-at-4
-    mul-at-3
-    add-at-5
+    results-at-requires
     add-check-results
     mul-check-results
     sub-check-results

@@ -1,15 +1,12 @@
--- `inpaint::window::needed_for` meets its contract: a line needs its length, and the model the sum of its areas, none
--- of which is large. Assumes nothing.
+-- `inpaint::window::needed_for` meets its contract: a line needs its length, and the model the sum of its areas, for a window
+-- that is not large. Assumes nothing.
 use native.Mathlib.Omega.{arith}
-use Prim.Native.Nat.{_+_, _*_, _≤_}
+use mathlib.Core.Path.{_∙_}
 use borrow.Author.Needs.{needs}
-use Rattle.inpaint.proofs.window.Laws.{needed-line, needed-model, band-most}
+use Rattle.inpaint.specs.Gap.{context}
+use Rattle.inpaint.proofs.window.Laws.{context-most, size-most, needed-line, needed-model}
 use Rattle.inpaint.proofs.window.needed_for.Statement.{statement}
 use Rattle.inpaint.proofs.window.needed_for.Tie as tie
-
--- the size of the band
-band : (c : tie.After-order-for) → c .before .before .before .before .args .len * (c .order-for .result + 1) ≤ 264192
-band c = band-most _ _ (c .before .before .before .if1 .left) (omega (arith, c .order-for .ensures))
 
 returns : tie.Need-returns
 returns c = needed-line _ _ _ (c .if1 .taken)
@@ -26,35 +23,19 @@ sub-size c = search needs
 order-for-requires : tie.Need-order-for-requires
 order-for-requires c κs = search needs
 
-add-result : tie.Need-add-result
-add-result c = search needs
-
-mul-result : tie.Need-mul-result
-mul-result c = omega (arith, band c)
-
-add-result-2 : tie.Need-add-result-2
-add-result-2 c = omega (arith, band c)
-
-mul-result-2 : tie.Need-mul-result-2
-mul-result-2 c = search needs
-
-add-result-3 : tie.Need-add-result-3
-add-result-3 c = omega (arith, band c)
-
-add-result-4 : tie.Need-add-result-4
-add-result-4 c = search needs
-
-mul-result-3 : tie.Need-mul-result-3
-mul-result-3 c = search needs
-
-add-result-5 : tie.Need-add-result-5
-add-result-5 c = omega (arith, band c)
+doubles-for-requires : tie.Need-doubles-for-requires
+doubles-for-requires c κs =
+    let at = c .before .before in
+    let len = at .before .before .args .len in
+    let small = size-most (at .before .before .args .n) (at .before .before .args .start) len (context len) (at .before .if1 .left) (context-most len) in
+    (rw (c .before .window-from .ensures, at .window-to .ensures) small, at .before .if1 .left, omega (arith, c .order-for .ensures))
 
 returns-2 : tie.Need-returns-2
 returns-2 c =
-    let at = c .before .before in
-    needed-model _ _ _ _ _ _ (at .before .if1 .left) (c .before .window-from .ensures) (at .window-to .ensures)
-    (c .order-for .ensures)
+    let p = c .before in
+    let at = p .before .before in
+    c .doubles-for .ensures
+    ∙ needed-model _ _ _ _ _ _ (at .before .if1 .left) (p .before .window-from .ensures) (at .window-to .ensures) (p .order-for .ensures)
 
 pub needed-for-spec : {M : Type 1} → statement M
 needed-for-spec =
@@ -65,12 +46,5 @@ needed-for-spec =
     window-from-requires
     sub-size
     order-for-requires
-    add-result
-    mul-result
-    add-result-2
-    mul-result-2
-    add-result-3
-    add-result-4
-    mul-result-3
-    add-result-5
+    doubles-for-requires
     returns-2)

@@ -5,21 +5,21 @@ use Rattle.inpaint.proofs.window.Laws.{context-most}
 use Rattle.inpaint.proofs.window.window_to.Statement.{statement}
 use Rattle.inpaint.proofs.window.window_to.Tie as tie
 
-add-least : tie.Need-add-least
-add-least c = search needs
+add-smaller-of : tie.Need-add-smaller-of
+add-smaller-of c = search needs
 
 context-of-requires : tie.Need-context-of-requires
 context-of-requires c κs = search needs
 
-add-least-2 : tie.Need-add-least-2
-add-least-2 c = omega (arith, c .context-of .ensures, context-most (c .before .args .len))
+add-smaller-of-2 : tie.Need-add-smaller-of-2
+add-smaller-of-2 c = omega (arith, c .context-of .ensures, context-most (c .before .args .len))
 
-least-requires : tie.Need-least-requires
-least-requires c κs = search needs
+smaller-of-requires : tie.Need-smaller-of-requires
+smaller-of-requires c κs = search needs
 
 returns : tie.Need-returns
 returns c = search needs
 
 pub window-to-spec : {M : Type 1} → statement M
 window-to-spec =
-    tie.close (tie.spec add-least context-of-requires add-least-2 least-requires returns)
+    tie.close (tie.spec add-smaller-of context-of-requires add-smaller-of-2 smaller-of-requires returns)

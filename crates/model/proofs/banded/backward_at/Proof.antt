@@ -7,14 +7,14 @@ use Rattle.model.proofs.banded.Laws.{row-in, backward-place}
 use Rattle.model.proofs.banded.backward_at.Statement.{statement}
 use Rattle.model.proofs.banded.backward_at.Tie as tie
 
-add-least : tie.Need-add-least
-add-least c = search needs
+add-smaller-of : tie.Need-add-smaller-of
+add-smaller-of c = search needs
 
-sub-least : tie.Need-sub-least
-sub-least c = search needs
+sub-smaller-of : tie.Need-sub-smaller-of
+sub-smaller-of c = search needs
 
-least-requires : tie.Need-least-requires
-least-requires c κs = search needs
+smaller-of-requires : tie.Need-smaller-of-requires
+smaller-of-requires c κs = search needs
 
 mul-minus-column : tie.Need-mul-minus-column
 mul-minus-column c = search needs
@@ -25,7 +25,7 @@ shared-slice-read-minus-column c = search needs
 minus-column-requires : tie.Need-minus-column-requires
 minus-column-requires c κs =
     let at = c .before .before .before .before .before in
-    omega (arith, row-in (c .before .least .result) (length (at .args .y .now)) (at .args .p) (omega arith))
+    omega (arith, row-in (c .before .smaller-of .result) (length (at .args .y .now)) (at .args .p) (omega arith))
 
 add-result : tie.Need-add-result
 add-result c = search needs
@@ -51,15 +51,15 @@ shared-slice-read-result c =
     omega (arith, row-in _ _ (at .args .p) (at .pre .0))
 
 returns : tie.Need-returns
-returns c = backward-place _ _ _ _ _ _ _ (c .before .before .before .least .ensures) (c .before .minus-column .ensures)
+returns c = backward-place _ _ _ _ _ _ _ (c .before .before .before .smaller-of .ensures) (c .before .minus-column .ensures)
 
 pub backward-at-spec : {M : Type 1} → statement M
 backward-at-spec =
     tie.close
     (tie.spec
-    add-least
-    sub-least
-    least-requires
+    add-smaller-of
+    sub-smaller-of
+    smaller-of-requires
     mul-minus-column
     shared-slice-read-minus-column
     minus-column-requires

@@ -36,8 +36,8 @@ add-other c = search needs
 mul-other : tie.Need-mul-other
 mul-other c = omega (arith, other-fits c)
 
-above-requires : tie.Need-above-requires
-above-requires c κs = search needs
+difference-or-zero-requires : tie.Need-difference-or-zero-requires
+difference-or-zero-requires c κs = search needs
 
 laid-at-requires : tie.Need-laid-at-requires
 laid-at-requires c κs = search needs
@@ -66,14 +66,14 @@ shared-slice-read-result c =
 returns-2 : tie.Need-returns-2
 returns-2 c =
     let summed = c .before .before .before in
-    cell-diagonal _ _ _ _ _ _ _ _ (summed .before .before .before .if1 .left) (summed .before .before .above .ensures)
+    cell-diagonal _ _ _ _ _ _ _ _ (summed .before .before .before .if1 .left) (summed .before .before .difference-or-zero .ensures)
     (summed .before .laid-at .ensures) (summed .minus-products .ensures) _ _ (c .before .before .if2 .taken)
     (c .before .larger64 .ensures) (c .square-root .ensures .rule)
 
 returns-3 : tie.Need-returns-3
 returns-3 c =
     let summed = c .before .before in
-    cell-below _ _ _ _ _ _ _ _ (summed .before .before .before .if1 .left) (summed .before .before .above .ensures)
+    cell-below _ _ _ _ _ _ _ _ (summed .before .before .before .if1 .left) (summed .before .before .difference-or-zero .ensures)
     (summed .before .laid-at .ensures) (summed .minus-products .ensures) (c .before .if2 .left)
 
 pub cell-at-spec : {M : Type 1} → statement M
@@ -85,7 +85,7 @@ cell-at-spec =
     mul-row
     add-other
     mul-other
-    above-requires
+    difference-or-zero-requires
     laid-at-requires
     minus-products-requires
     larger64-requires

@@ -14,8 +14,8 @@ mul-row c =
     let at = c .before .before .before in
     omega (arith, row-in _ _ (at .args .p) (at .pre .0))
 
-above-requires : tie.Need-above-requires
-above-requires c κs = search needs
+difference-or-zero-requires : tie.Need-difference-or-zero-requires
+difference-or-zero-requires c κs = search needs
 
 mul-minus-products : tie.Need-mul-minus-products
 mul-minus-products c = search needs
@@ -44,7 +44,7 @@ shared-slice-read-result c =
     omega (arith, row-in _ _ (at .args .p) (at .pre .0))
 
 returns : tie.Need-returns
-returns c = forward-place _ _ _ _ _ _ (c .before .before .before .above .ensures) (c .before .minus-products .ensures)
+returns c = forward-place _ _ _ _ _ _ (c .before .before .before .difference-or-zero .ensures) (c .before .minus-products .ensures)
 
 pub forward-at-spec : {M : Type 1} → statement M
 forward-at-spec =
@@ -52,7 +52,7 @@ forward-at-spec =
     (tie.spec
     add-row
     mul-row
-    above-requires
+    difference-or-zero-requires
     mul-minus-products
     shared-slice-read-minus-products
     minus-products-requires

@@ -6,7 +6,7 @@ use mathlib.Core.Path.{_≡_, refl}
 use lib.ListN.{length, length-set, replicate}
 use lib.Seq.{sets}
 use lib.Ieee.{binary64, ofBits}
-use Rattle.recording.proofs.clear.Laws.{run-more, all-stored}
+use Rattle.leaves.proofs.Stores.{run-more, all-stored}
 use Rattle.model.proofs.estimate.Laws.{unit-stored}
 use Rattle.model.proofs.estimate.start_unit.Statement.{statement}
 use Rattle.model.proofs.estimate.start_unit.Tie as tie

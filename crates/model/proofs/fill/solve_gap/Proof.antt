@@ -4,7 +4,8 @@ use Prim.Native.Nat.{_+_, _*_, _≤_}
 use native.Mathlib.Omega.{arith}
 use mathlib.Core.Path.{_≡_, refl}
 use lib.ListN.{length}
-use Rattle.model.specs.Areas.{resultsAt, doublesFor}
+use Rattle.model.specs.Areas.{resultsAt}
+use Rattle.model.specs.Model.{doublesFor}
 use Rattle.model.proofs.fill.Laws.{gap-solved}
 use borrow.Author.Needs.{needs}
 use Rattle.model.proofs.fill.solve_gap.Statement.{statement}

@@ -4,16 +4,16 @@ use Prim.Native.Nat.{_+_, _-_, _≤_}
 use native.Mathlib.Omega.{arith}
 use mathlib.Core.Path.{_≡_}
 use Rattle.leaves.specs.Arithmetic.{_*₆₄_, at}
-use Rattle.model.specs.Model.{less, mat}
-use Rattle.model.proofs.sums.Laws.{less-turn, less-done, column-start, row-below}
+use Rattle.model.specs.Model.{minus, mat}
+use Rattle.model.proofs.sums.Laws.{minus-turn, minus-done, column-start, row-below}
 use Rattle.model.proofs.sums.minus_column.Statement.{statement}
 use Rattle.model.proofs.sums.minus_column.Tie as tie
 
 abbrev Inv-loop : tie.InvT-loop
 Inv-loop band p i x high s left₀ k₀ left k =
     (i + 1 ≤ k)
-    × (less (λ n. mat p band n i *₆₄ at x (n - (i + 1))) k (high + 1 - k) left
-    ≡ less (λ n. mat p band n i *₆₄ at x (n - (i + 1))) (i + 1) (high - i) s)
+    × (minus (λ n. mat p band n i *₆₄ at x (n - (i + 1))) k (high + 1 - k) left
+    ≡ minus (λ n. mat p band n i *₆₄ at x (n - (i + 1))) (i + 1) (high - i) s)
 
 abbrev μ-loop : tie.MeasureT-loop
 μ-loop band p i x high s left₀ k₀ left k = high + 1 - k
@@ -60,10 +60,10 @@ loop-less c = omega arith
 loop-again : tie.Need-loop-again Inv-loop μ-loop
 loop-again c =
     let turn = c .before .before in
-    (omega arith, less-turn _ _ _ _ _ (omega arith) (turn .before .loop .inv .1))
+    (omega arith, minus-turn _ _ _ _ _ (omega arith) (turn .before .loop .inv .1))
 
 returns : tie.Need-returns Inv-loop μ-loop
-returns c = less-done _ _ _ _ _ (omega arith) (c .before .loop .inv .1)
+returns c = minus-done _ _ _ _ _ (omega arith) (c .before .loop .inv .1)
 
 pub minus-column-spec : {M : Type 1} → statement M
 minus-column-spec =

@@ -4,15 +4,15 @@ use Prim.Native.Nat.{_+_, _-_}
 use native.Mathlib.Omega.{arith}
 use mathlib.Core.Path.{_≡_, refl}
 use Rattle.leaves.specs.Arithmetic.{_*₆₄_, at}
-use Rattle.model.specs.Model.{less}
-use Rattle.model.proofs.sums.Laws.{less-turn, less-done}
+use Rattle.model.specs.Model.{minus}
+use Rattle.model.proofs.sums.Laws.{minus-turn, minus-done}
 use Rattle.model.proofs.sums.minus_products.Statement.{statement}
 use Rattle.model.proofs.sums.minus_products.Tie as tie
 
 abbrev Inv-loop : tie.InvT-loop
 Inv-loop l x m y from to s left₀ k₀ left k =
-    less (λ n. at l (x + n) *₆₄ at m (y + n)) k (to - k) left
-    ≡ less (λ n. at l (x + n) *₆₄ at m (y + n)) from (to - from) s
+    minus (λ n. at l (x + n) *₆₄ at m (y + n)) k (to - k) left
+    ≡ minus (λ n. at l (x + n) *₆₄ at m (y + n)) from (to - from) s
 
 abbrev μ-loop : tie.MeasureT-loop
 μ-loop l x m y from to s left₀ k₀ left k = to - k
@@ -47,10 +47,10 @@ loop-less c = omega arith
 loop-again : tie.Need-loop-again Inv-loop μ-loop
 loop-again c =
     let turn = c .before .before in
-    less-turn _ _ _ _ _ (turn .loop-test .taken) (turn .before .loop .inv)
+    minus-turn _ _ _ _ _ (turn .loop-test .taken) (turn .before .loop .inv)
 
 returns : tie.Need-returns Inv-loop μ-loop
-returns c = less-done _ _ _ _ _ (c .loop-test .left) (c .before .loop .inv)
+returns c = minus-done _ _ _ _ _ (c .loop-test .left) (c .before .loop .inv)
 
 pub minus-products-spec : {M : Type 1} → statement M
 minus-products-spec =

@@ -28,20 +28,20 @@ abbrev μ-loop2 : tie.MeasureT-loop2
 add-c : tie.Need-add-c Inv-loop μ-loop Inv-loop2 μ-loop2
 add-c c = omega arith
 
-add-least : tie.Need-add-least Inv-loop μ-loop Inv-loop2 μ-loop2
-add-least c = omega arith
+add-smaller-of : tie.Need-add-smaller-of Inv-loop μ-loop Inv-loop2 μ-loop2
+add-smaller-of c = omega arith
 
-add-least-2 : tie.Need-add-least-2 Inv-loop μ-loop Inv-loop2 μ-loop2
-add-least-2 c = omega arith
+add-smaller-of-2 : tie.Need-add-smaller-of-2 Inv-loop μ-loop Inv-loop2 μ-loop2
+add-smaller-of-2 c = omega arith
 
-least-requires : tie.Need-least-requires Inv-loop μ-loop Inv-loop2 μ-loop2
-least-requires c κs = search needs
+smaller-of-requires : tie.Need-smaller-of-requires Inv-loop μ-loop Inv-loop2 μ-loop2
+smaller-of-requires c κs = search needs
 
-above-requires : tie.Need-above-requires Inv-loop μ-loop Inv-loop2 μ-loop2
-above-requires c κs = search needs
+difference-or-zero-requires : tie.Need-difference-or-zero-requires Inv-loop μ-loop Inv-loop2 μ-loop2
+difference-or-zero-requires c κs = search needs
 
 loop-holds : tie.Need-loop-holds Inv-loop μ-loop Inv-loop2 μ-loop2
-loop-holds c = (omega arith, before-start _ _ _ _ (c .above .ensures))
+loop-holds c = (omega arith, before-start _ _ _ _ (c .difference-or-zero .ensures))
 
 sub-s : tie.Need-sub-s Inv-loop μ-loop Inv-loop2 μ-loop2
 sub-s c = omega arith
@@ -104,7 +104,7 @@ loop2-again c =
 returns : tie.Need-returns Inv-loop μ-loop Inv-loop2 μ-loop2
 returns c =
     let first = c .before .before in
-    let end = first .before .before .before .least .ensures in
+    let end = first .before .before .before .smaller-of .ensures in
     let before = plus-done _ _ _ _ _ (first .loop-test .left) (first .before .loop .inv .1) in
     right-end _ _ _ _ _ _ _ _ _ end before (plus-done _ _ _ _ _ (c .loop2-test .left) (c .before .loop2 .inv .1))
 
@@ -117,10 +117,10 @@ right-side-spec =
     Inv-loop2
     μ-loop2
     add-c
-    add-least
-    add-least-2
-    least-requires
-    above-requires
+    add-smaller-of
+    add-smaller-of-2
+    smaller-of-requires
+    difference-or-zero-requires
     loop-holds
     sub-s
     mul-s

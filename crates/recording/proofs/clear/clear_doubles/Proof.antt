@@ -6,7 +6,7 @@ use native.Mathlib.Nat.{sub-zero}
 use mathlib.Core.Path.{_≡_, refl}
 use lib.ListN.{length, length-set, replicate}
 use lib.Seq.{sets}
-use Rattle.recording.proofs.clear.Laws.{run-more, all-stored}
+use Rattle.leaves.proofs.Stores.{run-more, all-stored}
 use mathlib.Core.Bool.{false}
 use lib.IntN.{pos}
 use lib.Ieee.{fin, ofBits}

@@ -5,9 +5,10 @@ use mathlib.Core.Path.{_≡_}
 use mathlib.Core.Bool.{_||_, not}
 use native.Mathlib.Omega.{arith}
 use borrow.Author.Needs.{needs}
-use Rattle.recording.specs.Recording.{malformed, made, lastMark}
+use Rattle.recording.specs.Recording.{malformed, lastMark}
+use Rattle.recording.specs.Marks.{made}
 use Rattle.recording.proofs.undo.Laws.{malformed-short, malformed-none, malformed-many, malformed-past, two-left}
-use Rattle.recording.proofs.undo.Laws.{malformed-saved, malformed-low, malformed-high, not-malformed}
+use Rattle.recording.proofs.undo.Laws.{malformed-saved, malformed-mark}
 use Rattle.recording.proofs.undo.last_malformed.Statement.{statement}
 use Rattle.recording.proofs.undo.last_malformed.Tie as tie
 
@@ -83,27 +84,20 @@ saved-wrong-requires c κs = search needs
 returns-5 : tie.Need-returns-5
 returns-5 c = malformed-saved _ _ _ _ (two (c .before)) (c .if5 .taken)
 
-sub-mark : tie.Need-sub-mark
-sub-mark c = search needs
+sub-is-made : tie.Need-sub-is-made
+sub-is-made c = search needs
 
-mul-mark : tie.Need-mul-mark
-mul-mark c = search needs
+mul-is-made : tie.Need-mul-is-made
+mul-is-made c = search needs
 
-shared-slice-read-mark : tie.Need-shared-slice-read-mark
-shared-slice-read-mark c = search needs
+shared-slice-read-is-made : tie.Need-shared-slice-read-is-made
+shared-slice-read-is-made c = search needs
+
+is-made-requires : tie.Need-is-made-requires
+is-made-requires c κs = search needs
 
 returns-6 : tie.Need-returns-6
-returns-6 c = malformed-low _ _ _ _ (two (c .before .before .before)) (c .before .before .if5 .left) (c .if6 .taken)
-
-returns-7 : tie.Need-returns-7
-returns-7 c =
-    malformed-high _ _ _ _ (two (c .before .before .before .before)) (c .before .before .before .if5 .left)
-    (c .before .if6 .left) (c .if7 .taken)
-
-returns-8 : tie.Need-returns-8
-returns-8 c =
-    not-malformed _ _ _ _ (two (c .before .before .before .before)) (c .before .before .before .if5 .left)
-    (c .before .if6 .left) (c .if7 .left)
+returns-6 c = malformed-mark _ _ _ _ (two (c .before .before .before)) _ (c .before .before .if5 .left) (c .is-made .ensures)
 
 pub last-malformed-spec : {M : Type 1} → statement M
 last-malformed-spec =
@@ -124,9 +118,8 @@ last-malformed-spec =
     sub-saved-wrong
     saved-wrong-requires
     returns-5
-    sub-mark
-    mul-mark
-    shared-slice-read-mark
-    returns-6
-    returns-7
-    returns-8)
+    sub-is-made
+    mul-is-made
+    shared-slice-read-is-made
+    is-made-requires
+    returns-6)

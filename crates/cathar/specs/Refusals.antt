@@ -1,0 +1,192 @@
+-- "What is turned away": document 01's table, a definition for each line, whose words the comments quote. A line says of what a call asks
+-- for, and of the recording that it finds, whether it applies, whatever the other lines say. "The lowest number that applies is the
+-- answer": a call tests the lines in the order of `tested`, and answers with the first that applies. That each call does so is
+-- `GivenExactlyWhen` of Demands.antt. Definitions only.
+use Prim.Native.Nat.{ℕ, _-_}
+use mathlib.Core.Bool.{Bool, true, false, not, _&&_, _||_}
+use mathlib.Core.List.{List, [], _∷_, _++_}
+use lib.ListN.{length}
+use lib.Dec.{leb, ltb, eqb}
+use lib.Ieee.{Float}
+use Rattle.leaves.specs.Choice.{if_then_else_}
+use Rattle.leaves.specs.Floats.{inRange}
+use Rattle.recording.specs.Recording.{State, Placed, Plan, refuse, change, picked, entrySize, differ, tooMany, overUsed, malformed}
+use Rattle.inpaint.specs.Gap as gaps
+use Rattle.inpaint.specs.Auto as auto
+use Rattle.redraw.specs.Whole as whole
+use Rattle.declip.specs.Declip as declips
+use Rattle.decrackle.specs.Decrackle as decrackles
+use Rattle.dequant.specs.Dequant as dequants
+use Rattle.cathar.specs.Calls.{Call, gap, scan, declip, decrackle, dequantize, cosparse, undo}
+
+-- ---- What a call asks for, as far as the table speaks of it
+
+pub record Asked : Type 0 where
+  -- whether its settings are allowed
+  pub allowed : Bool
+  -- whether its gap is none, or not within the recording
+  pub gapWrong : Bool
+  -- the workspace that it needs, and that it is lent
+  pub needed : ℕ
+  pub room : ℕ
+  -- the words of the samples that it reads
+  pub reads : List ℕ
+  -- the samples that it names, with its results
+  pub names : List Placed
+  -- whether it is an undo
+  pub undoes : Bool
+
+-- what the rule of a gap names
+abbrev pub changed : Plan → List Placed
+changed (refuse why) = []
+changed (change mark cs) = cs
+
+-- a repair over the whole recording s: "The last three modules read every sample, whatever the settings"
+abbrev pub redrawing : Bool → List ℕ → whole.Drawn → State → Asked
+redrawing allowed work drawn s =
+    record {
+      allowed = allowed;
+      gapWrong = false;
+      needed = whole.needed (length (s .samples));
+      room = length work;
+      reads = s .samples;
+      names = picked 0 (drawn .named) (drawn .words);
+      undoes = false;
+    }
+
+-- a call that asks for nothing of a gap, a workspace or samples
+abbrev pub plain : Bool → Bool → Asked
+plain allowed undoes =
+    record { allowed = allowed; gapWrong = false; needed = 0; room = 0; reads = []; names = []; undoes = undoes }
+
+-- Of a gap "any number [of passes] is allowed", and "Everything in [the window] outside the gap is known and read". What its runs ask for
+-- is not a scan's own affair.
+abbrev pub asked : Call → State → Asked
+asked (gap start len passes work) s =
+    record {
+      allowed = true;
+      gapWrong = gaps.gapWrong (length (s .samples)) start len;
+      needed = gaps.needed (length (s .samples)) start len;
+      room = length work;
+      reads = gaps.knownBefore (s .samples) start len ++ gaps.knownBehind (s .samples) start len;
+      names = changed (gaps.repaired passes (s .samples) start len);
+      undoes = false;
+    }
+asked (scan rate millis work) s = plain (auto.allowed rate millis) false
+asked (declip threshold work) s = redrawing (declips.allowed threshold) work (declips.declipped threshold (s .samples)) s
+asked (decrackle sensitivity work) s = redrawing (decrackles.allowed sensitivity) work (decrackles.decrackled sensitivity (s .samples)) s
+asked (dequantize bits strength work) s = redrawing (dequants.allowed strength) work (dequants.dequantized bits strength (s .samples)) s
+asked (cosparse bits strength iterations work) s =
+    redrawing (dequants.allowed strength) work (dequants.cosparse bits strength iterations (s .samples)) s
+asked undo s = plain true true
+
+-- ---- The lines of the table
+
+-- 1: "marks and samples differ in number"
+abbrev pub line1 : State → Bool
+line1 s = differ s
+
+-- 2: "more than 1,048,576 samples"
+abbrev pub line2 : State → Bool
+line2 s = tooMany s
+
+-- 3: "used exceeds the journal's length"
+abbrev pub line3 : State → Bool
+line3 s = overUsed s
+
+-- 4: "a setting is not allowed (see each part)"
+abbrev pub line4 : Asked → Bool
+line4 a = not (a .allowed)
+
+-- 5: "gap length 0, start at or past the end, or gap past the end"
+abbrev pub line5 : Asked → Bool
+line5 a = a .gapWrong
+
+-- 6: "workspace shorter than needed"
+abbrev pub line6 : Asked → Bool
+line6 a = ltb (a .room) (a .needed)
+
+-- one of these words is not in range
+unfoldable pub anyOut : List ℕ → Bool
+unfolding inRange
+anyOut [] = false
+anyOut (w ∷ ws) = not (inRange w) || anyOut ws
+
+-- 7: "a sample that the repair reads is not in range"
+abbrev pub line7 : Asked → Bool
+line7 a = anyOut (a .reads)
+
+-- the results alone
+abbrev pub results : List Placed → List ℕ
+results [] = []
+results (c ∷ cs) = c .value ∷ results cs
+
+-- 8: "a result at a named sample is not in range"
+abbrev pub line8 : Asked → Bool
+line8 a = anyOut (results (a .names))
+
+-- 9: "m is at least 1 and the journal has fewer than 3m+2 free words"
+abbrev pub line9 : Asked → State → Bool
+line9 a s = let m = length (a .names) in leb 1 m && ltb (length (s .journal) - s .used) (entrySize m)
+
+-- 10: "undo with used 0"
+abbrev pub line10 : Asked → State → Bool
+line10 a s = a .undoes && eqb (s .used) 0
+
+-- 11: "undo: the last entry is malformed: .."
+abbrev pub line11 : Asked → State → Bool
+line11 a s = a .undoes && malformed (length (s .samples)) (s .journal) (s .used)
+
+-- whether the line of this number applies
+unfoldable pub applies : Asked → State → ℕ → Bool
+unfolding anyOut malformed
+applies a s k =
+    if eqb k 1 then line1 s else
+    if eqb k 2 then line2 s else
+    if eqb k 3 then line3 s else
+    if eqb k 4 then line4 a else
+    if eqb k 5 then line5 a else
+    if eqb k 6 then line6 a else
+    if eqb k 7 then line7 a else
+    if eqb k 8 then line8 a else
+    if eqb k 9 then line9 a s else
+    if eqb k 10 then line10 a s else
+    if eqb k 11 then line11 a s else
+    false
+
+-- ---- The answer
+
+-- the first of these numbers whose line applies, or 0
+unfoldable pub first : (ℕ → Bool) → List ℕ → ℕ
+first applies [] = 0
+first applies (k ∷ ks) = let later = first applies ks in if applies k then k else later
+
+-- the order in which the lines are tested
+abbrev pub tested : List ℕ
+tested = 1 ∷ 2 ∷ 3 ∷ 4 ∷ 5 ∷ 6 ∷ 7 ∷ 8 ∷ 9 ∷ 10 ∷ 11 ∷ []
+
+-- "It gives refusals 1 and 2 only": opening tests these
+abbrev pub testedByOpening : List ℕ
+testedByOpening = 1 ∷ 2 ∷ []
+
+-- the number by which a call is turned away, or 0
+unfoldable pub turnedAway : Call → State → ℕ
+unfolding first applies
+turnedAway c s = first (applies (asked c s) s) tested
+
+-- and an opening, which asks for nothing
+unfoldable pub openingTurnedAway : State → ℕ
+unfolding first applies
+openingTurnedAway s = first (applies (plain true false) s) testedByOpening
+
+-- ---- Which numbers a call can give at all
+
+-- "Undo can give 1, 2, 3, 10, 11."; each run of a scan has "its own answer from 6 to 9"
+abbrev pub canGive : Call → List ℕ
+canGive (gap start len passes work) = 1 ∷ 2 ∷ 3 ∷ 5 ∷ 6 ∷ 7 ∷ 8 ∷ 9 ∷ []
+canGive (scan rate millis work) = 1 ∷ 2 ∷ 3 ∷ 4 ∷ 6 ∷ 7 ∷ 8 ∷ 9 ∷ []
+canGive (declip threshold work) = 1 ∷ 2 ∷ 3 ∷ 4 ∷ 6 ∷ 7 ∷ 8 ∷ 9 ∷ []
+canGive (decrackle sensitivity work) = 1 ∷ 2 ∷ 3 ∷ 4 ∷ 6 ∷ 7 ∷ 8 ∷ 9 ∷ []
+canGive (dequantize bits strength work) = 1 ∷ 2 ∷ 3 ∷ 4 ∷ 6 ∷ 7 ∷ 8 ∷ 9 ∷ []
+canGive (cosparse bits strength iterations work) = 1 ∷ 2 ∷ 3 ∷ 4 ∷ 6 ∷ 7 ∷ 8 ∷ 9 ∷ []
+canGive undo = 1 ∷ 2 ∷ 3 ∷ 10 ∷ 11 ∷ []

@@ -1,0 +1,28 @@
+-- The marks: what document 01 says of a sample by its byte, in the sentence that the comment quotes. The code has them by the same
+-- names in src/marks.rt. Definitions only.
+use Prim.Native.Nat.{ℕ}
+use mathlib.Core.Bool.{Bool, _&&_}
+use lib.Dec.{leb}
+
+-- "0 measured, 1 gap by model, 2 gap by straight line, 3 cubic declip, 4 decrackle, 5 dequantize (either form)"
+abbrev pub measured : ℕ
+measured = 0
+
+abbrev pub gapByModel : ℕ
+gapByModel = 1
+
+abbrev pub gapByLine : ℕ
+gapByLine = 2
+
+abbrev pub cubicDeclip : ℕ
+cubicDeclip = 3
+
+abbrev pub decrackle : ℕ
+decrackle = 4
+
+abbrev pub dequantize : ℕ
+dequantize = 5
+
+-- the marks that a repair sets: 1 to 5
+abbrev pub made : ℕ → Bool
+made k = leb gapByModel k && leb k dequantize
