@@ -1,5 +1,5 @@
--- What each run of a scan answers: an acceptance or a refusal from 6 to 9; none by 9 where the journal has three words for each
--- sample, and none by 6 where the workspace suffices for every gap within the limit. And how much that is at most. Assumes nothing.
+-- What each run of a scan answers: an acceptance or a refusal from 6 to 9; none by 9 where the journal has three free words for
+-- each sample, and none by 6 where the workspace suffices for every gap within the limit. And how much that is at most. Assumes nothing.
 use mathlib.Core.Path.{_≡_, refl, sym, ap, subst, _∙_}
 use mathlib.Core.Bool.{true, false, true≢false}
 use mathlib.Core.Logic.{_⊎_, inl, inr}
@@ -24,6 +24,7 @@ use Rattle.recording.proofs.commit.Laws.{length-span}
 use Rattle.recording.proofs.open.Laws.{fits-done, accepted-fits}
 use Rattle.recording.proofs.Entering.{Enters, Ending, unnamed, turned-away, enters, ending, enters-ends}
 use Rattle.leaves.proofs.Choice.{picks, picks-by, both-hold}
+use Rattle.model.specs.Model.{doublesFor}
 use Rattle.recording.proofs.Put.{length-put}
 use Rattle.recording.proofs.Runs.{begins-not}
 use Rattle.inpaint.specs.Gap.{gapWrong, needed, gapPlan, gapRepair}
@@ -33,7 +34,7 @@ use Rattle.inpaint.specs.Consequences.{NeededAtMost, EachNumber, OwnAnsw
 use Rattle.inpaint.specs.declared.Run.{Run}
 use Rattle.inpaint.specs.declared.Run.the-variants.{At, Nowhere}
 use Rattle.inpaint.proofs.auto.Laws.{Found, qualifies-all, found-run, scannable-unfit}
-use Rattle.inpaint.proofs.window.Laws.{right-gap, context-most, needed-within}
+use Rattle.inpaint.proofs.window.Laws.{right-gap, context-least, context-most, needed-within}
 use Rattle.inpaint.proofs.Lawful.{plan-holds, gap-lawful}
 use Rattle.inpaint.proofs.Scans.{none-among, runs-behind, found-behind, answers-first}
 
@@ -205,15 +206,17 @@ all-numbers P I most room s step begin =
 -- ---- The answers of a scan's runs
 
 pub three-words-suffice : ThreeWordsSuffice
-three-words-suffice rate ms work s empty long =
-    all-numbers P I (limit ms rate) (length work) s step (refl, omega (arith, empty), long)
+three-words-suffice rate ms work s long =
+    all-numbers P I (limit ms rate) (length work) s step (refl, omega arith, long)
   where
     P : ℕ → Type 0
     P k = k ≡ 9 → ⊥
 
-    -- up to place i there are three words for each place
+    -- up to place i no more than three words for each place have been used
     I : ℕ → State → Type 0
-    I i t = (length (t .samples) ≡ length (s .samples)) × (t .used ≤ 3 * i) × (3 * length (s .samples) ≤ length (t .journal))
+    I i t =
+        (length (t .samples) ≡ length (s .samples)) × (t .used ≤ s .used + 3 * i)
+        × (s .used + 3 * length (s .samples) ≤ length (t .journal))
 
     other : (k : ℕ) → k < 9 → k ≡ 9 → ⊥
     other k h e = omega arith
@@ -285,6 +288,13 @@ own-answers rate ms work s h = all-numbers P I (limit ms rate) (length work) s s
         )
 
 -- ---- The workspace of a gap
+
+-- one of at most `most` samples, where these are so few that the context is 1024 and the order no more than `most`
+pub needed-short : (n start len most : ℕ) → len ≤ most → 32 ≤ most → most ≤ 128
+    → needed n start len ≤ doublesFor (most + 2 * 1024) most most
+needed-short n start len most short low high =
+    let context-is = context-least len (omega arith) (omega arith) in
+    needed-within n start len most 1024 most short (omega arith) (omega (arith, context-is)) (omega arith)
 
 pub needed-at-most : NeededAtMost
 needed-at-most n start len model =

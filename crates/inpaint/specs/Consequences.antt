@@ -1,6 +1,6 @@
 -- What follows from the rules of a gap and of the scan. Statements only, each proved under the same name, written small, in
 -- Plans.antt, Lawful.antt, Scans.antt or Rooms.antt of proofs/, which nobody has to read.
-use Prim.Native.Nat.{ℕ, _*_, _≤_}
+use Prim.Native.Nat.{ℕ, _+_, _*_, _≤_}
 use mathlib.Core.Path.{_≡_}
 use mathlib.Core.Bool.{false}
 use mathlib.Core.Logic.{_⊎_}
@@ -63,10 +63,10 @@ OwnAnswers = OfEveryScan (λ rate ms work s. EachNumber (λ k. (k ≡ 0) ⊎ ((6
 abbrev pub NoneHas : ℕ → List Answer → Type 0
 NoneHas k = EachNumber (λ j. j ≡ k → ⊥)
 
--- where the journal is empty and has three words for each sample, no run is refused for want of room in it
+-- where the journal has three free words for each sample, no run is refused for want of room in it
 abbrev pub ThreeWordsSuffice : Type 0
 ThreeWordsSuffice =
-    (rate : ℕ) (ms : Float) (work : List Float) (s : State) → s .used ≡ 0 → 3 * length (s .samples) ≤ length (s .journal)
+    (rate : ℕ) (ms : Float) (work : List Float) (s : State) → s .used + 3 * length (s .samples) ≤ length (s .journal)
     → NoneHas 9 (runAnswers rate ms work s)
 
 -- where the workspace suffices for every gap within the limit, no run is refused for want of workspace
