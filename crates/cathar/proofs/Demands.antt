@@ -1,36 +1,52 @@
 -- The demands, as specs/Demands.antt states them: a call leaves what its rules leave, one after the other, so that what the crate
 -- `recording` shows of any sequence of rules holds of any sequence of calls. Assumes nothing.
 use mathlib.Core.Path.{_≡_, refl, sym, ap, subst, _∙_}
+use mathlib.Core.Bool.{Bool, true, false, false≢true}
 use mathlib.Core.List.{List, [], _∷_, _++_, reverse}
-use mathlib.Core.Logic.{inl, inr}
+use mathlib.Core.Logic.{_⊎_, inl, inr}
 use Prim.Native.Nat.{ℕ, zero, suc, _≤_, _<_}
 use lib.ListN.{length, getD, replicate}
+use lib.Dec.{eqb}
 use lib.Ieee.{Float}
-use Rattle.recording.specs.Answers.{number}
-use Rattle.recording.specs.Recording.{State, Ended, fitting, undone}
-use Rattle.recording.specs.Marks.{measured}
+use native.Mathlib.Omega.{arith}
+use borrow.Author.Tests.{ne-eqb}
+use Rattle.leaves.specs.Choice.{if_then_else_}
+use Rattle.recording.specs.Answers.{number, value, reasonNumber}
+use Rattle.recording.specs.Recording.{State, Ended, Placed, Plan, refuse, change, fitting, carried, performed, undone}
+use Rattle.recording.specs.Marks.{measured, cubicDeclip}
+use Rattle.recording.specs.Marks as marks
+use Rattle.declip.specs.Declip as declips
+use Rattle.decrackle.specs.Decrackle as decrackles
+use Rattle.dequant.specs.Dequant as dequants
 use Rattle.recording.specs.History as single
-use Rattle.recording.specs.Consequences.{AllName, closings, returned}
+use Rattle.recording.specs.Consequences.{Among, AllName, closings, returned}
+use Rattle.recording.specs.declared.Reason.{Reason}
 use Rattle.recording.specs.declared.Reason.the-variants.{Setting}
 use Rattle.recording.specs.declared.Answer.{Answer}
 use Rattle.recording.specs.declared.Answer.the-variants.{Done, Refused}
 use Rattle.recording.proofs.History as history
-use Rattle.recording.proofs.Single.{did-keeps, accepted-as-ruled}
+use Rattle.recording.proofs.Single.{did-keeps, above-zero, accepted-as-ruled}
 use Rattle.leaves.proofs.Choice.{truth, EitherWay}
 use Rattle.inpaint.specs.Gap.{gapPlan, gapRepair}
 use Rattle.inpaint.specs.Auto.{limit, scannable, automatic, allowed}
-use Rattle.inpaint.specs.Runs.{Stretch, runsOf, gapCalls}
-use Rattle.inpaint.proofs.Scans.{scan-is-its-runs, refused-scan, scan-lawful}
+use Rattle.inpaint.specs.Runs.{Stretch, runsOf, gapCalls, runAnswers, firstRefusal}
+use Rattle.inpaint.proofs.Scans.{scan-is-its-runs, scan-counts-its-runs, refused-scan, scan-lawful}
+use Rattle.inpaint.specs.Consequences.{EachNumber}
+use Rattle.inpaint.proofs.Rooms.{own-answers}
 use Rattle.inpaint.proofs.Lawful.{gap-lawful}
-use Rattle.declip.specs.Declip.{declipRepair, declipPlan}
-use Rattle.decrackle.specs.Decrackle.{decrackleRepair, decracklePlan}
-use Rattle.dequant.specs.Dequant.{dequantizeRepair, dequantizePlan, cosparseRepair, cosparsePlan}
+use Rattle.declip.specs.Declip.{declipped, declipRepair, declipPlan}
+use Rattle.decrackle.specs.Decrackle.{decrackled, decrackleRepair, decracklePlan}
+use Rattle.dequant.specs.Dequant.{dequantized, dequantizeRepair, dequantizePlan, cosparseRepair, cosparsePlan}
+use Rattle.dequant.specs.Dequant.{cosparse as sparse}
 use Rattle.declip.proofs.Consequences.{declip-lawful}
 use Rattle.decrackle.proofs.Consequences.{decrackle-lawful}
 use Rattle.dequant.proofs.Consequences.{dequantize-lawful, cosparse-lawful}
-use Rattle.cathar.specs.Calls.{Call, gap, scan, declip, decrackle, dequantize, cosparse, undo, ran}
-use Rattle.cathar.specs.Demands.{RefusalChangesNothing, RefusedScanChangesNothing, RulesAreLawful, after, AfterAny}
-use Rattle.cathar.specs.Demands.{scanned, rules, CallIsItsRules, Demand2, allRules, Demand3, SurvivorsStand}
+use Rattle.cathar.specs.Calls.{Call, gap, scan, declip, decrackle, dequantize, cosparse, undo, Work, Outcome, told, ran}
+use Rattle.cathar.specs.Refusals.{plain, asked, applies, anyOut, first, turnedAway, openingTurnedAway, testedByOpening, canGive}
+use Rattle.cathar.specs.Demands.{GivenExactlyWhen, OpeningGivenExactlyWhen, OnlyThese, OpeningOnlyThese, RefusalChangesNothing}
+use Rattle.cathar.specs.Demands.{RefusedOpeningChangesNothing, RulesAreLawful, after, AfterAny, Kind, kind, repairs, undoes, scans}
+use Rattle.cathar.specs.Demands.{scanned, counted, rules, CallIsItsRules, Demand2, allRules, Demand3, SurvivorsStand}
+use Rattle.cathar.proofs.Refusals.{first-among, among-more, six-to-nine, opened-keeps, whole-number, gap-number, undo-number, scan-number, opening-number}
 use Rattle.cathar.specs.Demands.{UndoingAll, MeasuredIsRaw, EntriesAreSurvivors}
 
 -- ---- A call is its rules
@@ -100,18 +116,161 @@ call-is-its-rules (dequantize bits strength work) s = alone _ s _ (dequantize-di
 call-is-its-rules (cosparse bits strength iterations work) s = alone _ s _ (cosparse-did bits strength iterations (length work) s)
 call-is-its-rules undo s = alone _ s _ (undo-did s)
 
-pub refusal-changes-nothing : RefusalChangesNothing
-refusal-changes-nothing (gap start len passes work) s h = inl (alone-keeps _ s _ (gap-did start len passes (length work) s) h)
-refusal-changes-nothing (scan rate millis work) s h = inr (rate, millis, work, refl)
-refusal-changes-nothing (declip threshold work) s h = inl (alone-keeps _ s _ (declip-did threshold (length work) s) h)
-refusal-changes-nothing (decrackle sensitivity work) s h = inl (alone-keeps _ s _ (decrackle-did sensitivity (length work) s) h)
-refusal-changes-nothing (dequantize bits strength work) s h = inl (alone-keeps _ s _ (dequantize-did bits strength (length work) s) h)
-refusal-changes-nothing (cosparse bits strength iterations work) s h =
-    inl (alone-keeps _ s _ (cosparse-did bits strength iterations (length work) s) h)
-refusal-changes-nothing undo s h = inl (alone-keeps _ s _ (undo-did s) h)
+-- ---- Refusals
 
-pub refused-scan-changes-nothing : RefusedScanChangesNothing
-refused-scan-changes-nothing = refused-scan
+-- the number that a call gives by lines of its own, which a scan's runs have no say in
+abbrev own : Call → State → ℕ
+own (gap start len passes work) s = number (gapRepair start len passes (length work) s .answer)
+own (scan rate millis work) s = number (scannable rate millis s)
+own (declip threshold work) s = number (declipRepair threshold (length work) s .answer)
+own (decrackle sensitivity work) s = number (decrackleRepair sensitivity (length work) s .answer)
+own (dequantize bits strength work) s = number (dequantizeRepair bits strength (length work) s .answer)
+own (cosparse bits strength iterations work) s = number (cosparseRepair bits strength iterations (length work) s .answer)
+own undo s = number (undone s .answer)
+
+-- is that of the first line that applies
+by-lines : (c : Call) (s : State) → own c s ≡ turnedAway c s
+unfolding turnedAway declipRepair declipPlan decrackleRepair decracklePlan dequantizeRepair dequantizePlan cosparseRepair cosparsePlan
+by-lines (gap start len passes work) s = gap-number start len passes (length work) s
+by-lines (scan rate millis work) s = scan-number rate millis s
+by-lines (declip threshold work) s = whole-number (declips.allowed threshold) (length work) cubicDeclip (declipped threshold) s
+by-lines (decrackle sensitivity work) s =
+    whole-number (decrackles.allowed sensitivity) (length work) marks.decrackle (decrackled sensitivity) s
+by-lines (dequantize bits strength work) s =
+    whole-number (dequants.allowed strength) (length work) marks.dequantize (dequantized bits strength) s
+by-lines (cosparse bits strength iterations work) s =
+    whole-number (dequants.allowed strength) (length work) marks.dequantize (sparse bits strength iterations) s
+by-lines undo s = undo-number s
+
+-- where there are no runs, the number of the lines is all there is
+no-runs : (k line : ℕ) → k ≡ line → k ≡ (if eqb line 0 then 0 else line)
+no-runs k zero e = e
+no-runs k (suc line) e = rw (ne-eqb (suc line) 0 (λ (z : suc line ≡ 0). omega arith)) e
+
+-- a scan that is turned away gives the number of that refusal
+refused-number : (rate : ℕ) (millis : Float) (work : List Float) (s : State) (why : Reason) → scannable rate millis s ≡ Refused why
+    → automatic rate millis work s .refused ≡ reasonNumber why
+unfolding automatic
+refused-number rate millis work s why e = rw (e, automatic) refl
+
+scan-given : (rate : ℕ) (millis : Float) (work : List Float) (s : State)
+    → automatic rate millis work s .refused
+    ≡ (let k = turnedAway (scan rate millis work) s in if eqb k 0 then firstRefusal (runAnswers rate millis work s) else k)
+scan-given rate millis work s = go (scannable rate millis s) refl
+  where
+    line : number (scannable rate millis s) ≡ turnedAway (scan rate millis work) s
+    line = by-lines (scan rate millis work) s
+
+    go : (a : Answer) → scannable rate millis s ≡ a
+        → automatic rate millis work s .refused
+        ≡ (let k = turnedAway (scan rate millis work) s in if eqb k 0 then firstRefusal (runAnswers rate millis work s) else k)
+    go (Done m) e =
+        let none : turnedAway (scan rate millis work) s ≡ 0 = sym line ∙ ap number e in
+        rw none (scan-counts-its-runs rate millis work s (scannable-zero rate millis s m e) .2)
+    go (Refused why) e =
+        let some : turnedAway (scan rate millis work) s ≡ reasonNumber why = sym line ∙ ap number e in
+        let refused : automatic rate millis work s .refused ≡ reasonNumber why = refused-number rate millis work s why e in
+        rw (some, ne-eqb (reasonNumber why) 0 (λ (z : reasonNumber why ≡ 0). omega (arith, above-zero why))) refused
+
+pub given-exactly-when : GivenExactlyWhen
+given-exactly-when (gap start len passes work) s = no-runs _ _ (by-lines (gap start len passes work) s)
+given-exactly-when (scan rate millis work) s = scan-given rate millis work s
+given-exactly-when (declip threshold work) s = no-runs _ _ (by-lines (declip threshold work) s)
+given-exactly-when (decrackle sensitivity work) s = no-runs _ _ (by-lines (decrackle sensitivity work) s)
+given-exactly-when (dequantize bits strength work) s = no-runs _ _ (by-lines (dequantize bits strength work) s)
+given-exactly-when (cosparse bits strength iterations work) s = no-runs _ _ (by-lines (cosparse bits strength iterations work) s)
+given-exactly-when undo s = no-runs _ _ (by-lines undo s)
+
+pub opening-given-exactly-when : OpeningGivenExactlyWhen
+unfolding openingTurnedAway
+opening-given-exactly-when s = opening-number s
+
+-- which numbers there can be: of the lines that a call tests those that can apply to it
+lines-only : (c : Call) (s : State) → (turnedAway c s ≡ 0) ⊎ Among (turnedAway c s) (canGive c)
+unfolding turnedAway first applies anyOut
+lines-only (gap start len passes work) s = first-among (applies (asked (gap start len passes work) s) s) (canGive (gap start len passes work))
+lines-only (scan rate millis work) s =
+    among-more _ (1 ∷ 2 ∷ 3 ∷ 4 ∷ []) (6 ∷ 7 ∷ 8 ∷ 9 ∷ [])
+    (first-among (applies (asked (scan rate millis work) s) s) (1 ∷ 2 ∷ 3 ∷ 4 ∷ []))
+lines-only (declip threshold work) s = first-among (applies (asked (declip threshold work) s) s) (canGive (declip threshold work))
+lines-only (decrackle sensitivity work) s = first-among (applies (asked (decrackle sensitivity work) s) s) (canGive (decrackle sensitivity work))
+lines-only (dequantize bits strength work) s = first-among (applies (asked (dequantize bits strength work) s) s) (canGive (dequantize bits strength work))
+lines-only (cosparse bits strength iterations work) s =
+    first-among (applies (asked (cosparse bits strength iterations work) s) s) (canGive (cosparse bits strength iterations work))
+lines-only undo s = first-among (applies (asked undo s) s) (canGive undo)
+
+-- the first refusal of runs, each of which is accepted or refused by 6 to 9
+runs-only : (answers : List Answer) → EachNumber (λ k. (k ≡ 0) ⊎ ((6 ≤ k) × (k ≤ 9))) answers
+    → (firstRefusal answers ≡ 0) ⊎ ((6 ≤ firstRefusal answers) × (firstRefusal answers ≤ 9))
+runs-only [] each = inl refl
+runs-only (Done m ∷ later) each = runs-only later (each .1)
+runs-only (Refused why ∷ later) each = each .0
+
+scan-only : (rate : ℕ) (millis : Float) (work : List Float) (s : State)
+    → (automatic rate millis work s .refused ≡ 0) ⊎ Among (automatic rate millis work s .refused) (canGive (scan rate millis work))
+scan-only rate millis work s = go (scannable rate millis s) refl (lines-only (scan rate millis work) s)
+  where
+    refused : ℕ
+    refused = automatic rate millis work s .refused
+
+    line : number (scannable rate millis s) ≡ turnedAway (scan rate millis work) s
+    line = by-lines (scan rate millis work) s
+
+    Within : ℕ → Type 0
+    Within k = (k ≡ 0) ⊎ Among k (canGive (scan rate millis work))
+
+    go : (a : Answer) → scannable rate millis s ≡ a → Within (turnedAway (scan rate millis work) s) → Within refused
+    go (Done m) e lines =
+        let zero-done = scannable-zero rate millis s m e in
+        let counted : refused ≡ firstRefusal (runAnswers rate millis work s) = scan-counts-its-runs rate millis work s zero-done .2 in
+        rw counted
+        (elim (runs-only (runAnswers rate millis work s) (own-answers rate millis work s zero-done)) [
+          | inl none ↦ inl none
+          | inr some ↦ inr (inr (inr (inr (inr (six-to-nine _ (some .0) (some .1))))))
+        ])
+    go (Refused why) e lines =
+        let told : refused ≡ turnedAway (scan rate millis work) s =
+        refused-number rate millis work s why e ∙ sym (ap number e) ∙ line
+        in
+        rw told lines
+
+pub only-these : OnlyThese
+only-these (gap start len passes work) s = rw (by-lines (gap start len passes work) s) (lines-only (gap start len passes work) s)
+only-these (scan rate millis work) s = scan-only rate millis work s
+only-these (declip threshold work) s = rw (by-lines (declip threshold work) s) (lines-only (declip threshold work) s)
+only-these (decrackle sensitivity work) s = rw (by-lines (decrackle sensitivity work) s) (lines-only (decrackle sensitivity work) s)
+only-these (dequantize bits strength work) s = rw (by-lines (dequantize bits strength work) s) (lines-only (dequantize bits strength work) s)
+only-these (cosparse bits strength iterations work) s =
+    rw (by-lines (cosparse bits strength iterations work) s) (lines-only (cosparse bits strength iterations work) s)
+only-these undo s = rw (by-lines undo s) (lines-only undo s)
+
+pub opening-only-these : OpeningOnlyThese
+unfolding openingTurnedAway
+opening-only-these s = rw (opening-given-exactly-when s) (first-among (applies (plain true false) s) testedByOpening)
+
+-- a refusal changes nothing
+pub refusal-changes-nothing : RefusalChangesNothing
+refusal-changes-nothing (gap start len passes work) s h =
+    alone-keeps _ s _ (gap-did start len passes (length work) s) (rw (by-lines (gap start len passes work) s) h)
+refusal-changes-nothing (scan rate millis work) s h = go (scannable rate millis s) refl
+  where
+    go : (a : Answer) → scannable rate millis s ≡ a → automatic rate millis work s .after ≡ s
+    go (Done m) e =
+        let none : turnedAway (scan rate millis work) s ≡ 0 = sym (by-lines (scan rate millis work) s) ∙ ap number e in
+        absurd (omega (arith, h, none))
+    go (Refused why) e = refused-scan rate millis work s why e
+refusal-changes-nothing (declip threshold work) s h =
+    alone-keeps _ s _ (declip-did threshold (length work) s) (rw (by-lines (declip threshold work) s) h)
+refusal-changes-nothing (decrackle sensitivity work) s h =
+    alone-keeps _ s _ (decrackle-did sensitivity (length work) s) (rw (by-lines (decrackle sensitivity work) s) h)
+refusal-changes-nothing (dequantize bits strength work) s h =
+    alone-keeps _ s _ (dequantize-did bits strength (length work) s) (rw (by-lines (dequantize bits strength work) s) h)
+refusal-changes-nothing (cosparse bits strength iterations work) s h =
+    alone-keeps _ s _ (cosparse-did bits strength iterations (length work) s) (rw (by-lines (cosparse bits strength iterations work) s) h)
+refusal-changes-nothing undo s h = alone-keeps _ s _ (undo-did s) (rw (by-lines undo s) h)
+
+pub refused-opening-changes-nothing : RefusedOpeningChangesNothing
+refused-opening-changes-nothing s h = opened-keeps s (rw (opening-given-exactly-when s) h)
 
 -- ---- Sequences
 
@@ -141,14 +300,75 @@ rules-are-lawful (dequantize bits strength work) s = (dequantize-lawful bits str
 rules-are-lawful (cosparse bits strength iterations work) s = (cosparse-lawful bits strength iterations (length work), tt)
 rules-are-lawful undo s = tt
 
--- a call that counts as one lawful repair ends as that does
+-- a call that counts as one repair ends as that does, and tells its number and value
+record Told (o : Outcome) (e : Ended) : Type 0 where
+  number-told : o .number ≡ number (e .answer)
+  value-told : o .figures ≡ value (e .answer) ∷ []
+  after-told : o .after ≡ e .after
+
+told-by : (e : Ended) (w : Work) (rule r : single.Repair) (s : State) → e ≡ single.did (single.repair rule) s → repairs rule ≡ repairs r
+    → Told (told e w) (single.did (single.repair r) s)
+told-by e w rule r s h k =
+    let same : e ≡ single.did (single.repair r) s = h ∙ ap (λ (l : Kind). single.did (single.repair (rule-of l)) s) k in
+    record {
+      number-told = ap (λ (d : Ended). number (d .answer)) same;
+      value-told = ap (λ (d : Ended). value (d .answer) ∷ []) same;
+      after-told = ap (λ (d : Ended). d .after) same;
+    }
+  where
+    rule-of : Kind → single.Repair
+    rule-of (repairs q) = q
+    rule-of undoes = r
+    rule-of (scans rate millis work) = r
+
+-- a scan and an undo do not count as one
+abbrev is-repair : Kind → Bool
+is-repair (repairs q) = true
+is-repair undoes = false
+is-repair (scans rate millis work) = false
+
+one-repair : (c : Call) (s : State) (r : single.Repair) → kind c ≡ repairs r → Told (ran c s) (single.did (single.repair r) s)
+one-repair (gap start len passes work) s r h = told-by _ _ _ r s (gap-did start len passes (length work) s) h
+one-repair (scan rate millis work) s r h = absurd (false≢true (ap is-repair h))
+one-repair (declip threshold work) s r h = told-by _ _ _ r s (declip-did threshold (length work) s) h
+one-repair (decrackle sensitivity work) s r h = told-by _ _ _ r s (decrackle-did sensitivity (length work) s) h
+one-repair (dequantize bits strength work) s r h = told-by _ _ _ r s (dequantize-did bits strength (length work) s) h
+one-repair (cosparse bits strength iterations work) s r h = told-by _ _ _ r s (cosparse-did bits strength iterations (length work) s) h
+one-repair undo s r h = absurd (false≢true (ap is-repair h))
+
+-- an answer with the number 0 is an acceptance
+accepted-by : (a : Answer) → number a ≡ 0 → a ≡ Done (value a)
+accepted-by (Done m) h = refl
+accepted-by (Refused why) h = absurd (omega (arith, above-zero why, h))
+
+-- a rule that refuses is not accepted
+refused-plan : (s : State) (why : Reason) (m : ℕ) → performed s (refuse why) .answer ≡ Done m → ⊥
+unfolding performed carried
+refused-plan s why m h = go (fitting s) refl
+  where
+    never : (reason : Reason) → Refused reason ≡ Done m → ⊥
+    never reason e = omega (arith, ap number e, above-zero reason)
+
+    go : (a : Answer) → fitting s ≡ a → ⊥
+    go (Done k) e = never why (rw e at h)
+    go (Refused first) e = never first (rw e at h)
+
+-- so the rule of an accepted repair makes a plan
+plans : (r : single.Repair) (s : State) (p : Plan) → r (s .samples) ≡ p → (m : ℕ) → single.did (single.repair r) s .answer ≡ Done m
+    → (mark : ℕ) × (cs : List Placed) × (r (s .samples) ≡ change mark cs)
+plans r s (change mark cs) e m h = (mark, cs, e)
+plans r s (refuse why) e m h =
+    absurd (refused-plan s why m (sym (ap (λ (d : Ended). d .answer) (history.did-repair r s ∙ ap (performed s) e)) ∙ h))
+
 pub demand-2 : Demand2
-demand-2 c s r mark cs m e p h =
-    let lawful : single.Lawful (single.repair r ∷ []) = subst single.Lawful e (rules-are-lawful c s) in
-    let after : ran c s .after ≡ single.did (single.repair r) s .after =
-    call-is-its-rules c s ∙ ap (λ (ds : List single.Call). single.run ds s) e ∙ sym (alone (single.repair r) s _ refl)
-    in
-    rw after (accepted-as-ruled r s mark cs m (lawful .0) p h)
+demand-2 c s r k h =
+    let told = one-repair c s r k in
+    let a = single.did (single.repair r) s .answer in
+    let accepted : a ≡ Done (value a) = accepted-by a (sym (told .number-told) ∙ h) in
+    let plan = plans r s (r (s .samples)) refl (value a) accepted in
+    let lawful : single.Lawful (single.repair r ∷ []) = subst (λ (l : Kind). single.Lawful (counted l s)) k (rules-are-lawful c s) in
+    let made = accepted-as-ruled r s (plan .0) (plan .1) (value a) (lawful .0) (plan .2) accepted in
+    (plan .0, plan .1, plan .2, rw (told .after-told) (made .0), told .value-told ∙ ap (λ (m : ℕ). m ∷ []) (made .1))
 
 all-lawful : (cs : List Call) (s : State) → single.Lawful (allRules cs s)
 all-lawful [] s = tt

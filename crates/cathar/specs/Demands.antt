@@ -48,17 +48,14 @@ kind undo = undoes
 
 -- "given exactly when its rule says": the number of a call is that of the first line of the table that applies, in the order of the tests
 -- (Refusals.antt), or 0. Of a scan that no line turns away it is that of the first of its runs that is refused, or 0.
-abbrev pub firstOfRuns : Call → State → ℕ
-firstOfRuns c s =
-    elim (kind c) [
-      | repairs r ↦ 0
-      | undoes ↦ 0
-      | scans rate millis work ↦ firstRefusal (runAnswers rate millis work s)
-    ]
+abbrev pub firstOfRuns : Kind → State → ℕ
+firstOfRuns (repairs r) s = 0
+firstOfRuns undoes s = 0
+firstOfRuns (scans rate millis work) s = firstRefusal (runAnswers rate millis work s)
 
 abbrev pub GivenExactlyWhen : Type 0
 GivenExactlyWhen =
-    (c : Call) (s : State) → ran c s .number ≡ (let k = turnedAway c s in let later = firstOfRuns c s in if eqb k 0 then later else k)
+    (c : Call) (s : State) → ran c s .number ≡ (let k = turnedAway c s in if eqb k 0 then firstOfRuns (kind c) s else k)
 
 abbrev pub OpeningGivenExactlyWhen : Type 0
 OpeningGivenExactlyWhen = (s : State) → opening s .number ≡ openingTurnedAway s
@@ -87,13 +84,13 @@ abbrev pub scanned : ℕ → Float → List Float → State → List single.Call
 scanned rate millis work s =
     elim (scannable rate millis s) [ Done m ↦ scanCalls rate millis work s | Refused why ↦ [] ]
 
+abbrev pub counted : Kind → State → List single.Call
+counted (repairs r) s = single.repair r ∷ []
+counted undoes s = single.undo ∷ []
+counted (scans rate millis work) s = scanned rate millis work s
+
 abbrev pub rules : Call → State → List single.Call
-rules c s =
-    elim (kind c) [
-      | repairs r ↦ single.repair r ∷ []
-      | undoes ↦ single.undo ∷ []
-      | scans rate millis work ↦ scanned rate millis work s
-    ]
+rules c s = counted (kind c) s
 
 -- the recording after a call is that after its rules, one after the other
 abbrev pub CallIsItsRules : Type 0

@@ -8,7 +8,7 @@ use Prim.Native.Nat.{ℕ, zero, suc, _+_, _-_, _≤_, _<_}
 use native.Mathlib.Decide.{ℕ-discrete}
 use native.Mathlib.Nat.{sub-zero, zero-add}
 use native.Mathlib.Omega.{arith}
-use borrow.Author.Tests.{eqb-true}
+use borrow.Author.Tests.{eqb-true, ne-eqb}
 use lib.ListN.{length, getD, replicate}
 use lib.Seq.{length-sets}
 use lib.Dec.{ltb, eqb}
@@ -21,11 +21,10 @@ use Rattle.recording.specs.Recording.{entrySize, clears, workAfter}
 use Rattle.recording.specs.History.{run, did}
 use Rattle.recording.specs.Consequences.{Among}
 use Rattle.recording.specs.declared.Reason.{Reason}
-use Rattle.recording.specs.declared.Reason.the-variants.{Counts, TooMany, Used, Setting, Gap, Workspace, Read}
-use Rattle.recording.specs.declared.Reason.the-variants.{Result, Room, Nothing, Malformed}
 use Rattle.recording.specs.declared.Answer.{Answer}
 use Rattle.recording.specs.declared.Answer.the-variants.{Done, Refused}
 use Rattle.leaves.proofs.Choice.{picks, truth, EitherWay}
+use Rattle.recording.proofs.Single.{above-zero}
 use Rattle.recording.proofs.Put.{length-put, put-elsewhere}
 use Rattle.recording.proofs.Runs.{begins-not, begins-same, begins-not-behind, length-same, run-met, run-behind}
 use Rattle.inpaint.specs.Gap.{needed, gapPlan, gapRepair}
@@ -313,19 +312,7 @@ whole rate ms work s h =
 
 -- a reason has a number that is not 0
 numbered : (why : Reason) → eqb (reasonNumber why) 0 ≡ false
-numbered why = elim why [
-  | Counts ↦ refl
-  | TooMany ↦ refl
-  | Used ↦ refl
-  | Setting ↦ refl
-  | Gap ↦ refl
-  | Workspace ↦ refl
-  | Read place ↦ refl
-  | Result place ↦ refl
-  | Room ↦ refl
-  | Nothing ↦ refl
-  | Malformed ↦ refl
-]
+numbered why = ne-eqb (reasonNumber why) 0 (λ (e : reasonNumber why ≡ 0). omega (arith, above-zero why))
 
 -- so an answer is counted, and its number is the first, as the scan does it
 accepts : (a : Answer) (later : List Answer) → acceptances (a ∷ later) ≡ cond (eqb (number a) 0) 1 0 + acceptances later

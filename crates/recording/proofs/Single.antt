@@ -57,7 +57,7 @@ did-keeps undo s =
     (picks (Keeps s) (malformed (length (s .samples)) (s .journal) (s .used)) _ _ (refused-keeps s _) (done-keeps _ s _)))
 
 -- a reason's number is not 0
-above-zero : (why : Reason) → 0 < reasonNumber why
+pub above-zero : (why : Reason) → 0 < reasonNumber why
 above-zero why = elim why [
   | Counts ↦ omega arith
   | TooMany ↦ omega arith
