@@ -33,7 +33,7 @@ pub fn clear_words(words: &mut [u32], start: usize, count: usize)
 }
 
 // The `count` marks from `start` on become `mark`, and the others stay.
-pub fn set_marks(marks: &mut [u8], start: usize, count: usize, mark: u8)
+pub(crate) fn set_marks(marks: &mut [u8], start: usize, count: usize, mark: u8)
     requires { ⌜ start + count ≤ length (now marks) ⌝ }
     ensures { λ _. ⌜ now (marks .exit) ≡ sets (now (marks .entry)) start (replicate count mark) ⌝ }
 {
