@@ -22,7 +22,7 @@
 //! Limit, threshold, sensitivity and strength are words of f32. Each repair is accepted and names a sample, and a
 //! scan repairs every run that qualifies. A sample of a scan that is not in range is a NaN within the first such run.
 use cathar_host::draw::{Draw, SEED};
-use cathar_host::inpaint::{inpaint_auto, inpaint_gap, Gap, Scan, SCAN_PASSES};
+use cathar_host::inpaint::{inpaint_auto, inpaint_gap, Gap, Scan};
 use cathar_host::original::inpaint as original;
 use cathar_host::recording::{in_range, Answer, Recording};
 use cathar_host::shapes::Shape;
@@ -37,9 +37,10 @@ const MOST_BYTES: usize = 60_000;
 /// The shapes of the samples around a gap.
 const SHAPES: [Shape; 4] = [Shape::Tone, Shape::Noise, Shape::Steps, Shape::Words];
 
-/// How many gaps there are, and how long they get.
+/// How many gaps there are, how long they get, and with how many passes they are repaired.
 const GAPS: usize = 60;
 const LONGEST_GAP: usize = 12;
+const PASSES: u32 = 3;
 
 /// The rate of each scan and its limit in milliseconds, which is 48 samples.
 const RATE: u32 = 48_000;
@@ -108,12 +109,12 @@ fn of_scan(scan: &Scan) -> [u32; 3] {
 fn gap_line(samples: &[u32], gap: Gap) -> Option<String> {
     let Gap { start, len } = gap;
     let mut model = recording(samples);
-    let answer = inpaint_gap(&mut model, gap, SCAN_PASSES, &mut vec![0; gap.needed(samples.len())]);
+    let answer = inpaint_gap(&mut model, gap, PASSES, &mut vec![0; gap.needed(samples.len())]);
     if answer != Answer::Accepted(len) {
         return None;
     }
-    let left = original::inpaint_gap(&floats(samples), start, len, SCAN_PASSES);
-    let called = ('g', [start as u32, len as u32, SCAN_PASSES]);
+    let left = original::inpaint_gap(&floats(samples), start, len, PASSES);
+    let called = ('g', [start as u32, len as u32, PASSES]);
     Some(line(called, of_repair(answer), samples, &model, &left))
 }
 
