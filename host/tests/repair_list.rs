@@ -1,35 +1,28 @@
 //! A list of the original Rust's answers, which the program `repairlist` runs. The file in the repository is held to
 //! that. With `CATHAR_WRITE=1` it is written anew.
 //!
-//! Each line is one case. It ends in a newline, and its parts are separated by one space. The first is a
-//! letter, and all others are words of eight hexadecimal digits in lower case. All samples are words of f32.
+//! Each line is one call. It ends in a newline, and its parts are separated by one space. The first is a letter, and
+//! all others but one are words of eight hexadecimal digits in lower case. All samples are words of f32.
 //!
-//! A line `g` is the repair of one gap:
+//!     letter settings.. number value qualified n m before.. marks after..
 //!
-//!     g start len n samples.. answer..
+//! with three settings, and then what the model answers: number and value of a repair, and 0. For a scan number is
+//! that of the first refusal, or 0, and value is how many runs are repaired of those that qualified. Each of the n
+//! samples before the call stands in `before`. The part `marks` is a row of n digits, the marks that the model has
+//! after the call. The m words of `after` are those that the original writes, at each place whose mark is not 0. All
+//! other samples the original leaves as they were. The settings, 0 where there are fewer, are by letter:
 //!
-//! with n samples, all in range, and then what the original's `inpaint_gap` writes at the `len` places from
-//! `start` on at 3 passes, all in range: so the repair is accepted, and all other samples stay.
+//!     g start len passes              one gap, by `inpaint_gap`
+//!     s rate limit 0                  a scan, by `inpaint_auto`
+//!     d threshold 0 0                 the cubic `declip_with_method`
+//!     c sensitivity 0 0               `decrackle`
+//!     q bits strength 0               `dequantize`
+//!     p bits strength iterations      `dequantize_cosparse`
 //!
-//! A line `s` is a scan at the rate 48,000 with the limit 1 ms, which is 48 samples:
-//!
-//!     s n samples.. after..
-//!
-//! with n samples, and then all n samples as the original's `inpaint_auto` leaves them. Every run that
-//! qualifies is repaired. A sample that is not in range is a NaN within the first such run.
-//!
-//! All other lines are repairs over the whole recording, with three words of settings, 0 where there are fewer:
-//!
-//!     d threshold 0 0 n samples.. after..
-//!     c sensitivity 0 0 n samples.. after..
-//!     q bits strength 0 n samples.. after..
-//!     p bits strength iterations n samples.. after..
-//!
-//! with n samples, and then all n samples as the original leaves them: its cubic `declip_with_method`, its
-//! `decrackle`, its `dequantize`, and its `dequantize_cosparse`. Threshold, sensitivity and strength are words of
-//! f32. Each repair is accepted and names a sample.
+//! Limit, threshold, sensitivity and strength are words of f32. Each repair is accepted and names a sample, and a
+//! scan repairs every run that qualifies. A sample of a scan that is not in range is a NaN within the first such run.
 use cathar_host::draw::{Draw, SEED};
-use cathar_host::inpaint::{inpaint_auto, inpaint_gap, Gap};
+use cathar_host::inpaint::{inpaint_auto, inpaint_gap, Gap, Scan};
 use cathar_host::original::inpaint as original;
 use cathar_host::recording::{in_range, Answer, Recording};
 use cathar_host::shapes::Shape;
@@ -44,9 +37,14 @@ const MOST_BYTES: usize = 60_000;
 /// The shapes of the samples around a gap.
 const SHAPES: [Shape; 4] = [Shape::Tone, Shape::Noise, Shape::Steps, Shape::Words];
 
-/// How many gaps there are, and how long they get.
+/// How many gaps there are, how long they get, and with how many passes they are repaired.
 const GAPS: usize = 60;
 const LONGEST_GAP: usize = 12;
+const PASSES: u32 = 3;
+
+/// The rate of each scan and its limit in milliseconds, which is 48 samples.
+const RATE: u32 = 48_000;
+const LIMIT: f32 = 1.0;
 
 /// The dropouts of each scan, which are as many samples apart as the rest of its n allows: 1 sample does not
 /// qualify and 2 do, 48 do and 49 do not.
@@ -77,22 +75,47 @@ fn recording(samples: &[u32]) -> Recording {
     Recording { samples: samples.to_vec(), marks: vec![0; samples.len()], journal: vec![0; 1000], used: 0 }
 }
 
-fn line(letter: char, words: impl Iterator<Item = u32>) -> String {
-    let words: String = words.map(|word| format!(" {word:08x}")).collect();
-    format!("{letter}{words}\n")
+/// The letter of a call and the words of its settings.
+type Called = (char, [u32; 3]);
+
+/// Words as they stand in a line, each behind a space.
+fn spelled(words: &[u32]) -> String {
+    words.iter().map(|word| format!(" {word:08x}")).collect()
+}
+
+/// The line of a call by its answer, the samples before it, the model after it and the samples that the original leaves.
+fn line((letter, settings): Called, answer: [u32; 3], before: &[u32], model: &Recording, original: &[f32]) -> String {
+    let left: Vec<u32> = original.iter().map(|x| x.to_bits()).collect();
+    assert!(model.samples == left, "the original and the model");
+    let (marked, others): (Vec<usize>, Vec<usize>) = (0..before.len()).partition(|place| model.marks[*place] != 0);
+    assert!(others.iter().all(|place| left[*place] == before[*place]), "the original writes at marked places alone");
+    let after: Vec<u32> = marked.iter().map(|place| left[*place]).collect();
+    let head = [&settings[..], &answer, &[before.len() as u32, after.len() as u32]].concat();
+    let marks: String = model.marks.iter().map(|mark| format!("{mark:x}")).collect();
+    format!("{letter}{}{} {marks}{}\n", spelled(&head), spelled(before), spelled(&after))
+}
+
+/// The answer of a repair as a line has it.
+fn of_repair(answer: Answer) -> [u32; 3] {
+    [answer.number(), answer.value() as u32, 0]
+}
+
+/// The answer of a scan as a line has it.
+fn of_scan(scan: &Scan) -> [u32; 3] {
+    [scan.number(), scan.repaired() as u32, scan.qualified() as u32]
 }
 
 /// The line of one gap, or nothing where a result is not in range.
 fn gap_line(samples: &[u32], gap: Gap) -> Option<String> {
     let Gap { start, len } = gap;
-    let after = original::inpaint_gap(&floats(samples), start, len, 3);
-    let answer = after[start..start + len].iter().map(|x| x.to_bits());
-    let model = inpaint_gap(&mut recording(samples), gap, 3, &mut vec![0; gap.needed(samples.len())]);
-    if model != Answer::Accepted(len) {
+    let mut model = recording(samples);
+    let answer = inpaint_gap(&mut model, gap, PASSES, &mut vec![0; gap.needed(samples.len())]);
+    if answer != Answer::Accepted(len) {
         return None;
     }
-    let numbers = [start as u32, len as u32, samples.len() as u32];
-    Some(line('g', numbers.into_iter().chain(samples.iter().copied()).chain(answer)))
+    let left = original::inpaint_gap(&floats(samples), start, len, PASSES);
+    let called = ('g', [start as u32, len as u32, PASSES]);
+    Some(line(called, of_repair(answer), samples, &model, &left))
 }
 
 /// Gaps in each shape at the start, in the middle and at the end of 6 to 60 samples. With each turn through
@@ -130,16 +153,16 @@ fn dropped(draw: &mut Draw, shape: Shape, n: usize, dropouts: &[usize]) -> Vec<u
 }
 
 fn scan_line(samples: &[u32]) -> String {
-    let after: Vec<u32> = original::inpaint_auto(&floats(samples), 48_000, 1.0).iter().map(|x| x.to_bits()).collect();
     let mut model = recording(samples);
-    let scan = inpaint_auto(&mut model, 48_000, 1.0, &mut vec![0; 10_000]);
+    let scan = inpaint_auto(&mut model, RATE, LIMIT, &mut vec![0; 10_000]);
     assert!(scan.number() == 0 && scan.qualified() > 0, "the scan of a line: {scan:?}");
-    assert!(model.samples == after && after.iter().all(|word| in_range(*word)), "the original and the model");
-    line('s', [samples.len() as u32].into_iter().chain(samples.iter().copied()).chain(after))
+    assert!(model.samples.iter().all(|word| in_range(*word)), "a sample is not in range after the scan");
+    let left = original::inpaint_auto(&floats(samples), RATE, LIMIT);
+    line(('s', [RATE, LIMIT.to_bits(), 0]), of_scan(&scan), samples, &model, &left)
 }
 
-/// The letter of a repair, and the words of its settings.
-fn settings(repair: Repair) -> (char, [u32; 3]) {
+/// A repair over the whole recording as a line has it.
+fn called(repair: Repair) -> Called {
     match repair {
         Repair::Declip { threshold } => ('d', [threshold.to_bits(), 0, 0]),
         Repair::Decrackle { sensitivity } => ('c', [sensitivity.to_bits(), 0, 0]),
@@ -155,11 +178,8 @@ fn whole_line(samples: &[u32], repair: Repair) -> Option<String> {
     if answer.number() != 0 || answer.value() == 0 {
         return None;
     }
-    let after: Vec<u32> = repair.original(&floats(samples)).iter().map(|x| x.to_bits()).collect();
-    assert!(model.samples == after, "the original and the model");
-    let (letter, words) = settings(repair);
-    let numbers = words.into_iter().chain([samples.len() as u32]);
-    Some(line(letter, numbers.chain(samples.iter().copied()).chain(after)))
+    let left = repair.original(&floats(samples));
+    Some(line(called(repair), of_repair(answer), samples, &model, &left))
 }
 
 /// One of the four loudest magnitudes of these samples, or one step below it.
@@ -213,11 +233,13 @@ fn list() -> String {
     text
 }
 
-/// Whether a line's repair over the whole recording changed a sample.
+/// Whether the repair of a line changed a sample.
 fn changes(line: &str) -> bool {
-    let words: Vec<&str> = line.split(' ').skip(5).collect();
-    let (before, after) = words.split_at(words.len() / 2);
-    before != after
+    let parts: Vec<&str> = line.split(' ').collect();
+    let n = usize::from_str_radix(parts[7], 16).expect("a line says how many samples it has");
+    let (before, behind) = parts[9..].split_at(n);
+    let marked = before.iter().zip(behind[0].chars()).filter(|(_, mark)| *mark != '0').map(|(word, _)| word);
+    !marked.eq(&behind[1..])
 }
 
 /// Holds the lines of each letter to their number, and most repairs over the whole recording to a change.

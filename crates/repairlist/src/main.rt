@@ -1,20 +1,31 @@
-// Replays a list of the original's answers for every repair, and compares. The list is text on standard
-// input, a line for each case: a letter and then words of eight hexadecimal digits in lower case, with a
-// space before each.
-//   g start len n, n samples, len words: the gap's words after the repair of one gap at 3 passes
-//   s n, n samples, n samples: all of the recording after a scan at the rate 48,000, limit 1 ms
-//   d threshold 0 0 n, n samples, n samples: all of it after a cubic declip
-//   c sensitivity 0 0 n, n samples, n samples: after a decrackle
-//   q bits strength 0 n, n samples, n samples: after `dequantize`
-//   p bits strength iterations n, n samples, n samples: after `dequantize_cosparse`
-// After a gap all other samples are to be what they were. A setting that is a float stands as its word.
-ghost use Prim.Native.Nat.{_+_, _*_, _≤_, _<_};
+// Replays a list of the original's answers for every repair, and compares: the answer of the call, the mark of
+// every sample and every sample. The list is text on standard input, a line for each case. Its parts are a
+// letter, words of eight hexadecimal digits in lower case and a row of marks, with a space between them.
+//   letter, three settings, number, value, qualified, n, m, n samples, n marks, m samples
+// The letter says which repair it is, and what its settings are; those that are floats stand as their words.
+//   g start len passes                 one gap
+//   s rate limit 0                     the scan, with its limit in milliseconds
+//   d threshold 0 0                    cubic declip
+//   c sensitivity 0 0                  decrackle
+//   q bits strength 0                  `dequantize`
+//   p bits strength iterations         `dequantize_cosparse`
+// Number and value are the answer's, and qualified is 0. Of a scan they are the number of the first refusal, or
+// 0, how many runs it repaired and how many qualified. A mark is one digit. The m samples are the new ones at
+// the places whose mark is not 0, in their order; all others are to be what they were.
+ghost use Prim.Native.Nat.{_+_, _*_, _^_, _≤_, _<_};
+ghost use mathlib.Core.Path.{_≡_};
 ghost use lib.ListN.{length};
+ghost use Rattle.repairlist.specs.Layout.{wordBytes, headBytes, rowBytes};
 use dequant::cosparse::dequantize_cosparse;
 use dequant::passes::dequantize;
+use inpaint::Scanned;
 use inpaint::auto::inpaint_auto;
 use inpaint::gap::inpaint_gap;
 use leaves::words::f32_of_word;
+use recording::Answer;
+use recording::marks::MEASURED;
+use recording::numbers::number_of;
+use recording::numbers::value_of;
 
 // How many samples a recording of the list has at most; what its journal and its workspaces hold.
 const MOST: usize = 120;
@@ -30,20 +41,34 @@ const WORD: usize = 9;
 
 const LETTER: usize = 2;
 
-// The letter and four words: no case is shorter.
-const SHORTEST: usize = 38;
+// The letter and eight words, which each case begins with.
+const HEAD: usize = LETTER + 8 * WORD;
 
-const RATE: u32 = 48_000;
+// Which of the eight words is which; before these stand the settings.
+const NUMBER: usize = 3;
 
-const PASSES: u32 = 3;
+const VALUE: usize = 4;
+
+const QUALIFIED: usize = 5;
+
+const SAMPLES: usize = 6;
+
+const RENEWED: usize = 7;
+
+// What a call answers, as the list has it.
+struct Answered {
+    number: u32,
+    value: usize,
+    qualified: usize,
+}
 
 // The number that an ASCII digit stands for; any other byte counts as 0.
-fn digit(c: u8) -> u32
+fn digit(c: u8) -> u8
     ensures { λ r. ⌜ r ≤ 15 ⌝ }
 {
     match c {
-        b'0'..=b'9' => (c - b'0') as u32,
-        b'a'..=b'f' => (c - b'a' + 10) as u32,
+        b'0'..=b'9' => c - b'0',
+        b'a'..=b'f' => c - b'a' + 10,
         _ => 0,
     }
 }
@@ -51,28 +76,43 @@ fn digit(c: u8) -> u32
 // The word that the eight digits from `at` on spell. Of what stands before a digit the lowest 28 bits
 // stay, which are all there are.
 fn word(list: &[u8], at: usize) -> u32
-    requires { ⌜ at + 9 ≤ length (now list) ⌝ }
+    requires { ⌜ at + wordBytes ≤ length (now list) ⌝ }
 {
     let mut n: u32 = 0;
     let mut i: usize = 0;
     while i < 8 {
-        n = n % 0x1000_0000 * 16 + digit(list[at + i]);
+        n = n % 0x1000_0000 * 16 + digit(list[at + i]) as u32;
         i += 1;
     }
     n
 }
 
-// A word of the list as a count.
-fn count(list: &[u8], at: usize) -> usize
-    requires { ⌜ at + 9 ≤ length (now list) ⌝ }
-    ensures { λ r. ⌜ r ≤ 4294967295 ⌝ }
+// One of the eight words that the case at `at` begins with: which of them, from 0 on.
+fn told_word(list: &[u8], at: usize, which: usize) -> u32
+    requires { ⌜ (at + headBytes ≤ length (now list)) × (which < 8) ⌝ }
 {
-    word(list, at) as usize
+    word(list, at + LETTER + WORD * which)
+}
+
+// The same as a count.
+fn told_count(list: &[u8], at: usize, which: usize) -> usize
+    requires { ⌜ (at + headBytes ≤ length (now list)) × (which < 8) ⌝ }
+    ensures { λ r. ⌜ r < 2 ^ 32 ⌝ }
+{
+    told_word(list, at, which) as usize
+}
+
+// How many bytes a case takes that has so many samples, and so many of them renewed. Each is a count of the list.
+fn case_length(samples: usize, renewed: usize) -> usize
+    requires { ⌜ (samples < 2 ^ 32) × (renewed < 2 ^ 32) ⌝ }
+    ensures { λ r. ⌜ r ≡ headBytes + rowBytes samples renewed ⌝ }
+{
+    HEAD + WORD * samples + (samples + 1) + WORD * renewed
 }
 
 // Fills the samples with the words of the list from `at` on.
 fn load(list: &[u8], at: usize, samples: &mut [u32])
-    requires { ⌜ at + 9 * length (now samples) ≤ length (now list) ⌝ }
+    requires { ⌜ at + wordBytes * length (now samples) ≤ length (now list) ⌝ }
 {
     let mut i: usize = 0;
     while i < samples.len() {
@@ -81,13 +121,13 @@ fn load(list: &[u8], at: usize, samples: &mut [u32])
     }
 }
 
-// Whether the samples are the words of the list from `at` on.
-fn same(list: &[u8], at: usize, samples: &[u32]) -> bool
-    requires { ⌜ at + 9 * length (now samples) ≤ length (now list) ⌝ }
+// Whether the marks are the digits of the list from `at` on.
+fn same_marks(list: &[u8], at: usize, marks: &[u8]) -> bool
+    requires { ⌜ at + length (now marks) ≤ length (now list) ⌝ }
 {
     let mut i: usize = 0;
-    while i < samples.len() {
-        if samples[i] != word(list, at + WORD * i) {
+    while i < marks.len() {
+        if marks[i] != digit(list[at + i]) {
             return false;
         }
         i += 1;
@@ -95,62 +135,99 @@ fn same(list: &[u8], at: usize, samples: &[u32]) -> bool
     true
 }
 
-// Whether the gap of a recording whose samples stand in the list from `at` on, with the gap's new words
-// behind them, is repaired so. The samples and marks are lent, as many as the recording has.
-fn gap_agrees(
-    list: &[u8],
-    at: usize,
-    start: usize,
-    len: usize,
-    samples: &mut [u32],
-    marks: &mut [u8],
-) -> bool
-    requires { ⌜ (at + 9 * (length (now samples) + len) ≤ length (now list)) × (start + len ≤ length (now samples)) ⌝ }
+// Whether the samples are what the list says of them from `at` on, where their words before the repair stand,
+// their marks and the words of those renewed. A sample with a mark is the next of these, and any other is
+// what it was.
+fn same_samples(list: &[u8], at: usize, renewed: usize, samples: &[u32]) -> bool
+    requires { ⌜ at + rowBytes (length (now samples)) renewed ≤ length (now list) ⌝ }
 {
-    let mut journal = [0u32; JOURNAL_WORDS];
-    let mut work = [1.5f64; WORKSPACE];
-    let mut used: usize = 0;
-    load(list, at, samples);
-    inpaint_gap(
-        samples,
-        marks,
-        &mut journal,
-        &mut used,
-        start,
-        len,
-        PASSES,
-        &mut work,
-    );
     let n = samples.len();
-    let end = start + len;
-    if !same(list, at, &samples[0..start]) {
-        return false;
+    let marks = at + WORD * n;
+    let mut passed: usize = 0;
+    let mut i: usize = 0;
+    while i < n {
+        let mut from = at + WORD * i;
+        if digit(list[marks + i]) != MEASURED {
+            if passed == renewed {
+                return false;
+            }
+            from = marks + n + 1 + WORD * passed;
+            passed += 1;
+        }
+        if samples[i] != word(list, from) {
+            return false;
+        }
+        i += 1;
     }
-    if !same(list, at + WORD * n, &samples[start..end]) {
-        return false;
-    }
-    same(list, at + WORD * end, &samples[end..n])
+    passed == renewed
 }
 
-// Whether the recording whose samples stand in the list from `at` on is scanned to those behind them. The
-// samples and marks are lent, as many as the recording has.
-fn scan_agrees(list: &[u8], at: usize, samples: &mut [u32], marks: &mut [u8]) -> bool
-    requires { ⌜ at + 18 * length (now samples) ≤ length (now list) ⌝ }
+// Whether a call answered what the case that begins at `at` says.
+fn same_answer(list: &[u8], at: usize, answered: Answered) -> bool
+    requires { ⌜ at + headBytes ≤ length (now list) ⌝ }
 {
-    let mut journal = [0u32; JOURNAL_WORDS];
+    if answered.number != told_word(list, at, NUMBER) {
+        return false;
+    }
+    if answered.value != told_count(list, at, VALUE) {
+        return false;
+    }
+    answered.qualified == told_count(list, at, QUALIFIED)
+}
+
+// The answer of a repair, as the list has it.
+fn of_repair(answer: Answer) -> Answered {
+    Answered {
+        number: number_of(answer),
+        value: value_of(answer),
+        qualified: 0,
+    }
+}
+
+// The answer of a scan, as the list has it.
+fn of_scan(scanned: Scanned) -> Answered {
+    Answered {
+        number: scanned.refused,
+        value: scanned.repaired,
+        qualified: scanned.qualified,
+    }
+}
+
+// Repairs one gap.
+fn repair_gap(
+    start: u32,
+    len: u32,
+    passes: u32,
+    samples: &mut [u32],
+    marks: &mut [u8],
+    journal: &mut [u32],
+) -> Answered {
     let mut work = [1.5f64; WORKSPACE];
     let mut used: usize = 0;
-    load(list, at, samples);
-    inpaint_auto(
+    of_repair(inpaint_gap(
         samples,
         marks,
-        &mut journal,
+        journal,
         &mut used,
-        RATE,
-        1.0,
+        start as usize,
+        len as usize,
+        passes,
         &mut work,
-    );
-    same(list, at + WORD * samples.len(), samples)
+    ))
+}
+
+// Scans for dropouts up to a limit in milliseconds, which is given by its word.
+fn scan(
+    rate: u32,
+    limit: u32,
+    samples: &mut [u32],
+    marks: &mut [u8],
+    journal: &mut [u32],
+) -> Answered {
+    let mut work = [1.5f64; WORKSPACE];
+    let mut used: usize = 0;
+    let millis = f32_of_word(limit);
+    of_scan(inpaint_auto(samples, marks, journal, &mut used, rate, millis, &mut work))
 }
 
 // Repairs a recording over the whole of it, as a case's letter and its three settings say.
@@ -163,7 +240,7 @@ fn repair_whole(
     marks: &mut [u8],
     journal: &mut [u32],
     work: &mut [u32],
-) {
+) -> Answer {
     let a = f32_of_word(first);
     let b = f32_of_word(second);
     let mut used: usize = 0;
@@ -173,20 +250,78 @@ fn repair_whole(
         b'q' => dequantize(samples, marks, journal, &mut used, first, b, work),
         _ => dequantize_cosparse(samples, marks, journal, &mut used, first, b, third, work),
     }
-    ;
 }
 
-// How many words the case that begins at `at` says that it has.
-fn words_told(list: &[u8], at: usize) -> usize
-    requires { ⌜ at + 38 ≤ length (now list) ⌝ }
-    ensures { λ r. ⌜ r ≤ 8589934594 ⌝ }
+// Repairs the samples as the case that begins at `at` says.
+fn repair(list: &[u8], at: usize, samples: &mut [u32], marks: &mut [u8]) -> Answered
+    requires { ⌜ at + headBytes ≤ length (now list) ⌝ }
 {
-    let first = at + LETTER;
-    match list[at] {
-        b'g' => 3 + count(list, first + WORD) + count(list, first + 2 * WORD),
-        b's' => 1 + 2 * count(list, first),
-        _ => 4 + 2 * count(list, first + 3 * WORD),
+    let letter = list[at];
+    let first = told_word(list, at, 0);
+    let second = told_word(list, at, 1);
+    let third = told_word(list, at, 2);
+    let mut journal = [0u32; JOURNAL_WORDS];
+    match letter {
+        b'g' => repair_gap(first, second, third, samples, marks, &mut journal),
+        b's' => scan(first, second, samples, marks, &mut journal),
+        _ => {
+            let mut work = [7u32; WORKSPACE_WORDS];
+            of_repair(repair_whole(
+                letter,
+                first,
+                second,
+                third,
+                samples,
+                marks,
+                &mut journal,
+                &mut work,
+            ))
+        }
     }
+}
+
+// Whether the case that begins at `at` agrees in its answer, its marks and its samples. Samples and marks are
+// lent, as many as the case has.
+fn repaired_so(
+    list: &[u8],
+    at: usize,
+    renewed: usize,
+    samples: &mut [u32],
+    marks: &mut [u8],
+) -> bool
+    requires { ⌜ (at + (headBytes + rowBytes (length (now samples)) renewed) ≤ length (now list))
+        × (length (now marks) ≡ length (now samples)) ⌝ }
+{
+    let row = at + HEAD;
+    load(list, row, samples);
+    let answered = repair(list, at, samples, marks);
+    if !same_answer(list, at, answered) {
+        return false;
+    }
+    if !same_marks(list, row + WORD * samples.len(), marks) {
+        return false;
+    }
+    same_samples(list, row, renewed, samples)
+}
+
+// Whether the case that begins at `at` agrees; one that is cut off or has too many samples does not.
+fn agrees(list: &[u8], at: usize) -> bool
+    requires { ⌜ at < length (now list) ⌝ }
+{
+    if list.len() - at < HEAD {
+        return false;
+    }
+    let n = told_count(list, at, SAMPLES);
+    let renewed = told_count(list, at, RENEWED);
+    if MOST < n {
+        return false;
+    }
+    if list.len() - at < case_length(n, renewed) {
+        return false;
+    }
+    let mut samples = [0u32; MOST];
+    let mut marks = [MEASURED; MOST];
+    repaired_so(list, at, renewed, &mut samples[..n], &mut marks[..n])
 }
 
 // Where the case that begins at `at` ends, or the list's end where that comes first.
@@ -195,122 +330,14 @@ fn case_end(list: &[u8], at: usize) -> usize
     ensures { λ r. ⌜ (at < r) × (r ≤ length (now (list .entry))) ⌝ }
 {
     let full = list.len();
-    if full - at < SHORTEST {
+    if full - at < HEAD {
         return full;
     }
-    let first = at + LETTER;
-    let words = words_told(list, at);
-    if full - first < WORD * words {
+    let length = case_length(told_count(list, at, SAMPLES), told_count(list, at, RENEWED));
+    if full - at < length {
         full
     } else {
-        first + WORD * words
-    }
-}
-
-// Whether the gap of the case that begins at `at` agrees; one that does not fit its line does not.
-fn gap_case(list: &[u8], at: usize) -> bool
-    requires { ⌜ at + 38 ≤ length (now list) ⌝ }
-{
-    let first = at + LETTER;
-    let start = count(list, first);
-    let len = count(list, first + WORD);
-    let n = count(list, first + 2 * WORD);
-    if MOST < n {
-        return false;
-    }
-    if n < start + len {
-        return false;
-    }
-    if list.len() - first - 3 * WORD < WORD * (n + len) {
-        return false;
-    }
-    let mut samples = [0u32; MOST];
-    let mut marks = [0u8; MOST];
-    gap_agrees(
-        list,
-        first + 3 * WORD,
-        start,
-        len,
-        &mut samples[..n],
-        &mut marks[..n],
-    )
-}
-
-// Whether the scan of the case that begins at `at` agrees.
-fn scan_case(list: &[u8], at: usize) -> bool
-    requires { ⌜ at + 38 ≤ length (now list) ⌝ }
-{
-    let first = at + LETTER;
-    let n = count(list, first);
-    if MOST < n {
-        return false;
-    }
-    if list.len() - first - WORD < 2 * WORD * n {
-        return false;
-    }
-    let mut samples = [0u32; MOST];
-    let mut marks = [0u8; MOST];
-    scan_agrees(list, first + WORD, &mut samples[..n], &mut marks[..n])
-}
-
-// Whether the recording whose samples stand in the list from `at` on is repaired to those behind them, as the
-// letter and the three settings before `at` say. The samples and marks are lent, as many as the recording has.
-fn whole_agrees(list: &[u8], letter: u8, at: usize, samples: &mut [u32], marks: &mut [u8]) -> bool
-    requires { ⌜ (at + 18 * length (now samples) ≤ length (now list)) × (36 ≤ at) ⌝ }
-{
-    load(list, at, samples);
-    let third = word(list, at - 2 * WORD);
-    let second = word(list, at - 3 * WORD);
-    let first = word(list, at - 4 * WORD);
-    let mut journal = [0u32; JOURNAL_WORDS];
-    let mut work = [7u32; WORKSPACE_WORDS];
-    repair_whole(
-        letter,
-        first,
-        second,
-        third,
-        samples,
-        marks,
-        &mut journal,
-        &mut work,
-    );
-    same(list, at + WORD * samples.len(), samples)
-}
-
-// Whether the repair over the whole recording of the case that begins at `at` agrees.
-fn whole_case(list: &[u8], at: usize) -> bool
-    requires { ⌜ at + 38 ≤ length (now list) ⌝ }
-{
-    let first = at + LETTER;
-    let n = count(list, first + 3 * WORD);
-    if MOST < n {
-        return false;
-    }
-    if list.len() - first - 4 * WORD < 2 * WORD * n {
-        return false;
-    }
-    let mut samples = [0u32; MOST];
-    let mut marks = [0u8; MOST];
-    whole_agrees(
-        list,
-        list[at],
-        first + 4 * WORD,
-        &mut samples[..n],
-        &mut marks[..n],
-    )
-}
-
-// Whether the case that begins at `at` agrees.
-fn agrees(list: &[u8], at: usize) -> bool
-    requires { ⌜ at < length (now list) ⌝ }
-{
-    if list.len() - at < SHORTEST {
-        return false;
-    }
-    match list[at] {
-        b'g' => gap_case(list, at),
-        b's' => scan_case(list, at),
-        _ => whole_case(list, at),
+        at + length
     }
 }
 

@@ -26,6 +26,9 @@ shared-slice-read-digit c = search needs
 digit-requires : tie.Need-digit-requires Inv-loop μ-loop
 digit-requires c κs = search needs
 
+cast-n : tie.Need-cast-n Inv-loop μ-loop
+cast-n c = search needs
+
 add-n : tie.Need-add-n Inv-loop μ-loop
 add-n c = search needs
 
@@ -52,6 +55,7 @@ word-spec =
     add-digit
     shared-slice-read-digit
     digit-requires
+    cast-n
     add-n
     add-i
     loop-less

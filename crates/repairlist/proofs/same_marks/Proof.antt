@@ -1,33 +1,30 @@
--- `same` is safe and ends: the list has a word for each sample. Assumes nothing.
+-- `same_marks` is safe and ends: the list has a digit for each mark. Assumes nothing.
 use Prim.Native.Nat.{_-_, _≤_}
 use lib.ListN.{length}
 use borrow.Author.Needs.{needs}
-use Rattle.repairlist.proofs.same.Statement.{statement}
-use Rattle.repairlist.proofs.same.Tie as tie
+use Rattle.repairlist.proofs.same_marks.Statement.{statement}
+use Rattle.repairlist.proofs.same_marks.Tie as tie
 
 abbrev Inv-loop : tie.InvT-loop
-Inv-loop list at samples i₀ i = i ≤ length samples
+Inv-loop list at marks i₀ i = i ≤ length marks
 
 abbrev μ-loop : tie.MeasureT-loop
-μ-loop list at samples i₀ i = length samples - i
+μ-loop list at marks i₀ i = length marks - i
 
 loop-holds : tie.Need-loop-holds Inv-loop μ-loop
 loop-holds c = search needs
 
-mul-if1 : tie.Need-mul-if1 Inv-loop μ-loop
-mul-if1 c = search needs
-
 shared-slice-read-if1 : tie.Need-shared-slice-read-if1 Inv-loop μ-loop
 shared-slice-read-if1 c = search needs
 
-mul-word : tie.Need-mul-word Inv-loop μ-loop
-mul-word c = search needs
+add-digit : tie.Need-add-digit Inv-loop μ-loop
+add-digit c = search needs
 
-add-word : tie.Need-add-word Inv-loop μ-loop
-add-word c = search needs
+shared-slice-read-digit : tie.Need-shared-slice-read-digit Inv-loop μ-loop
+shared-slice-read-digit c = search needs
 
-word-requires : tie.Need-word-requires Inv-loop μ-loop
-word-requires c κs = search needs
+digit-requires : tie.Need-digit-requires Inv-loop μ-loop
+digit-requires c κs = search needs
 
 returns : tie.Need-returns Inv-loop μ-loop
 returns c = search needs
@@ -44,18 +41,17 @@ loop-again c = search needs
 returns-2 : tie.Need-returns-2 Inv-loop μ-loop
 returns-2 c = search needs
 
-pub same-spec : {M : Type 1} → statement M
-same-spec =
+pub same-marks-spec : {M : Type 1} → statement M
+same-marks-spec =
     tie.close
     (tie.spec
     Inv-loop
     μ-loop
     loop-holds
-    mul-if1
     shared-slice-read-if1
-    mul-word
-    add-word
-    word-requires
+    add-digit
+    shared-slice-read-digit
+    digit-requires
     returns
     add-i
     loop-less
