@@ -11,13 +11,11 @@ use lib.Ieee.{Float}
 use native.Mathlib.Omega.{arith}
 use borrow.Author.Tests.{ne-eqb}
 use Rattle.leaves.specs.Choice.{if_then_else_}
+use Rattle.leaves.proofs.Choice.{truth, EitherWay}
 use Rattle.recording.specs.Answers.{number, value, reasonNumber}
 use Rattle.recording.specs.Recording.{State, Ended, Placed, Plan, refuse, change, fitting, carried, performed, undone}
-use Rattle.recording.specs.Marks.{measured, cubicDeclip}
+use Rattle.recording.specs.Marks.{measured}
 use Rattle.recording.specs.Marks as marks
-use Rattle.declip.specs.Declip as declips
-use Rattle.decrackle.specs.Decrackle as decrackles
-use Rattle.dequant.specs.Dequant as dequants
 use Rattle.recording.specs.History as single
 use Rattle.recording.specs.Consequences.{Among, AllName, closings, returned}
 use Rattle.recording.specs.declared.Reason.{Reason}
@@ -26,7 +24,6 @@ use Rattle.recording.specs.declared.Answer.{Answer}
 use Rattle.recording.specs.declared.Answer.the-variants.{Done, Refused}
 use Rattle.recording.proofs.History as history
 use Rattle.recording.proofs.Single.{did-keeps, above-zero, accepted-as-ruled}
-use Rattle.leaves.proofs.Choice.{truth, EitherWay}
 use Rattle.inpaint.specs.Gap.{gapPlan, gapRepair}
 use Rattle.inpaint.specs.Auto.{limit, scannable, automatic, allowed}
 use Rattle.inpaint.specs.Runs.{Stretch, runsOf, gapCalls, runAnswers, firstRefusal}
@@ -34,6 +31,9 @@ use Rattle.inpaint.proofs.Scans.{scan-is-its-runs, scan-counts-its-runs, refuse
 use Rattle.inpaint.specs.Consequences.{EachNumber}
 use Rattle.inpaint.proofs.Rooms.{own-answers}
 use Rattle.inpaint.proofs.Lawful.{gap-lawful}
+use Rattle.declip.specs.Declip as declips
+use Rattle.decrackle.specs.Decrackle as decrackles
+use Rattle.dequant.specs.Dequant as dequants
 use Rattle.declip.specs.Declip.{declipped, declipRepair, declipPlan}
 use Rattle.decrackle.specs.Decrackle.{decrackled, decrackleRepair, decracklePlan}
 use Rattle.dequant.specs.Dequant.{dequantized, dequantizeRepair, dequantizePlan, cosparseRepair, cosparsePlan}
@@ -46,8 +46,9 @@ use Rattle.cathar.specs.Refusals.{plain, asked, applies, anyOut, first, 
 use Rattle.cathar.specs.Demands.{GivenExactlyWhen, OpeningGivenExactlyWhen, OnlyThese, OpeningOnlyThese, RefusalChangesNothing}
 use Rattle.cathar.specs.Demands.{RefusedOpeningChangesNothing, RulesAreLawful, after, AfterAny, Kind, kind, repairs, undoes, scans}
 use Rattle.cathar.specs.Demands.{scanned, counted, rules, CallIsItsRules, Demand2, allRules, Demand3, SurvivorsStand}
-use Rattle.cathar.proofs.Refusals.{first-among, among-more, six-to-nine, opened-keeps, whole-number, gap-number, undo-number, scan-number, opening-number}
 use Rattle.cathar.specs.Demands.{UndoingAll, MeasuredIsRaw, EntriesAreSurvivors}
+use Rattle.cathar.proofs.Refusals.{first-among, among-more, six-to-nine, opened-keeps, whole-number, gap-number, undo-number}
+use Rattle.cathar.proofs.Refusals.{scan-number, opening-number}
 
 -- ---- A call is its rules
 
@@ -133,7 +134,7 @@ by-lines : (c : Call) (s : State) → own c s ≡ turnedAway c s
 unfolding turnedAway declipRepair declipPlan decrackleRepair decracklePlan dequantizeRepair dequantizePlan cosparseRepair cosparsePlan
 by-lines (gap start len passes work) s = gap-number start len passes (length work) s
 by-lines (scan rate millis work) s = scan-number rate millis s
-by-lines (declip threshold work) s = whole-number (declips.allowed threshold) (length work) cubicDeclip (declipped threshold) s
+by-lines (declip threshold work) s = whole-number (declips.allowed threshold) (length work) marks.cubicDeclip (declipped threshold) s
 by-lines (decrackle sensitivity work) s =
     whole-number (decrackles.allowed sensitivity) (length work) marks.decrackle (decrackled sensitivity) s
 by-lines (dequantize bits strength work) s =

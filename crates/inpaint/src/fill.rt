@@ -86,7 +86,8 @@ pub fn repair_by_model(
 ) -> Answer
     requires { ⌜ Fits (given samples marks journal used) × (start + len ≤ length (now samples))
         × (1 ≤ len) × (len ≤ 2048) × (needed (length (now samples)) start len ≤ length (now work)) ⌝ }
-    ensures { λ r. ⌜ (ended r (left samples marks journal used) ≡ carried (lent samples marks journal used) (change gapByModel (span start (model 1 (now (samples .entry)) start len))))
+    ensures { λ r. ⌜ (ended r (left samples marks journal used)
+        ≡ carried (lent samples marks journal used) (change gapByModel (span start (model 1 (now (samples .entry)) start len))))
         × (length (now (work .exit)) ≡ length (now (work .entry)))
         × (drop (needed (length (now (samples .entry))) start len) (now (work .exit))
         ≡ drop (needed (length (now (samples .entry))) start len) (now (work .entry))) ⌝ }

@@ -88,7 +88,8 @@ pub fn repair_by_line(
     len: usize,
 ) -> Answer
     requires { ⌜ Fits (given samples marks journal used) × (start + len ≤ length (now samples)) ⌝ }
-    ensures { λ r. ⌜ ended r (left samples marks journal used) ≡ carried (lent samples marks journal used) (change gapByLine (span start (line (now (samples .entry)) start len))) ⌝ }
+    ensures { λ r. ⌜ ended r (left samples marks journal used)
+        ≡ carried (lent samples marks journal used) (change gapByLine (span start (line (now (samples .entry)) start len))) ⌝ }
 {
     let end = start + len;
     let left = left_of(samples, start);

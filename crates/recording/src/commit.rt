@@ -171,7 +171,8 @@ pub fn commit_picked(
     mark: u8,
 ) -> Answer
     requires { ⌜ Fits (given samples marks journal used) × (length (now samples) + length (now samples) ≤ length (now work)) ⌝ }
-    ensures { λ r. ⌜ ended r (left samples marks journal used) ≡ carried (lent samples marks journal used) (change mark (pickedBy (now (work .entry)) (length (now (samples .entry))))) ⌝ }
+    ensures { λ r. ⌜ ended r (left samples marks journal used)
+        ≡ carried (lent samples marks journal used) (change mark (pickedBy (now (work .entry)) (length (now (samples .entry))))) ⌝ }
 {
     let n = samples.len();
     let checked = check_picked(work, n);

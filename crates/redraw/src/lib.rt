@@ -69,7 +69,8 @@ pub fn finish(
     mark: u8,
 ) -> Answer
     requires { ⌜ Fits (given samples marks journal used) × (needed (length (now samples)) ≤ length (now work)) ⌝ }
-    ensures { λ r. ⌜ (ended r (left samples marks journal used) ≡ carried (lent samples marks journal used) (change mark (pickedBy (now (work .entry)) (length (now (samples .entry))))))
+    ensures { λ r. ⌜ (ended r (left samples marks journal used)
+        ≡ carried (lent samples marks journal used) (change mark (pickedBy (now (work .entry)) (length (now (samples .entry))))))
         × (now (work .exit) ≡ cleared 0 (needed (length (now (samples .entry)))) (now (work .entry))) ⌝ }
 {
     let n = samples.len();

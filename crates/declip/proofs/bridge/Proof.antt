@@ -36,13 +36,15 @@ returns c =
     let call = c .before .before in
     let far = call .before .before in
     let near = far .before in
-    bridge-long _ _ _ _ _ _ _ (near .before .before .difference-or-zero .ensures) (near .before .smaller-of .ensures) (near .smaller-of2 .ensures) _ (far .if1 .taken)
+    bridge-long _ _ _ _ _ _ _ (near .before .before .difference-or-zero .ensures) (near .before .smaller-of .ensures)
+    (near .smaller-of2 .ensures) _ (far .if1 .taken)
     (call .cubic-fill .ensures)
 
 returns-2 : tie.Need-returns-2
 returns-2 c =
     let near = c .before in
-    bridge-short _ _ _ _ _ _ _ (near .before .before .difference-or-zero .ensures) (near .before .smaller-of .ensures) (near .smaller-of2 .ensures) (c .if1 .left)
+    bridge-short _ _ _ _ _ _ _ (near .before .before .difference-or-zero .ensures) (near .before .smaller-of .ensures)
+    (near .smaller-of2 .ensures) (c .if1 .left)
 
 pub bridge-spec : {M : Type 1} → statement M
 bridge-spec =
