@@ -1,6 +1,6 @@
 -- The table of refusals, as specs/Demands.antt states it: the number that each rule gives is that of the first line that applies.
 -- Assumes nothing.
-use mathlib.Core.Path.{_≡_, refl, sym, ap, _∙_}
+use mathlib.Core.Path.{_≡_, refl, ap, _∙_}
 use mathlib.Core.Bool.{Bool, true, false, not, _&&_, _||_}
 use mathlib.Core.List.{List, [], _∷_, _++_}
 use mathlib.Core.Logic.{_⊎_, inl, inr}
@@ -20,7 +20,6 @@ use Rattle.recording.specs.Recording.{unlessRead, unlessRefused, readable, rang
 use Rattle.recording.specs.Recording.{ended, refused, lastCount, malformed, takenBack, undone}
 use Rattle.recording.specs.Consequences.{Among}
 use Rattle.recording.specs.declared.Reason.the-variants.{Read, Result, Nothing, Malformed}
-use Rattle.recording.specs.declared.Answer.{Answer}
 use Rattle.recording.specs.declared.Answer.the-variants.{Done, Refused}
 use Rattle.inpaint.specs.Gap.{gapWrong, byLine, from, needed, knownBefore, knownBehind, allReadable, repaired, gapPlan, gapRepair}
 use Rattle.inpaint.specs.Auto as auto

@@ -7,7 +7,6 @@ use mathlib.Core.Bool.{Bool, true, false, not, _&&_, _||_}
 use mathlib.Core.List.{List, [], _∷_, _++_}
 use lib.ListN.{length}
 use lib.Dec.{leb, ltb, eqb}
-use lib.Ieee.{Float}
 use Rattle.leaves.specs.Choice.{if_then_else_}
 use Rattle.leaves.specs.Floats.{inRange}
 use Rattle.recording.specs.Recording.{State, Placed, Plan, refuse, change, picked, entrySize, differ, tooMany, overUsed, malformed}

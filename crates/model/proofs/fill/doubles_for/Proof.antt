@@ -1,6 +1,5 @@
 -- `model::fill::doubles_for` meets its contract: none of its parts is large. Assumes nothing.
 use native.Mathlib.Omega.{arith}
-use Prim.Native.Nat.{_+_, _*_, _≤_}
 use borrow.Author.Needs.{needs}
 use Rattle.model.proofs.Parts.{band-most}
 use Rattle.model.proofs.fill.doubles_for.Statement.{statement}
