@@ -1,10 +1,12 @@
 //! A recording on both sides: the model's, and the same words lent to the library. The two make each call, and
 //! what is then not the same is told.
+use crate::call::Call;
 use crate::inpaint::{self, Gap, Scan};
-use crate::lent::{Lent, LentWords, LentWork, VALUE_BEFORE};
+use crate::lent::{Lent, VALUE_BEFORE};
 use crate::recording::{Answer, Recording};
 use crate::settings::OfScan;
 use crate::whole::{self, Repair};
+use crate::wrong;
 
 /// What the library does not have as the model has it: parts of the lent memory, or the answer.
 pub type Wrong = Vec<&'static str>;
@@ -23,46 +25,54 @@ impl Both {
 
     /// Both sides open the recording. No value is handed back.
     pub fn open(&mut self) -> (Answer, Wrong) {
-        let answer = self.model.open();
-        let number = self.lent.open();
+        let answer = self.by_model(Call::Open, Recording::open);
+        let number = self.lent.make(Call::Open);
         let wrong = self.lent.wrong(&self.model, VALUE_BEFORE);
         (answer, with_answer(wrong, number, answer.number()))
     }
 
     /// Both sides take back the last entry.
     pub fn undo(&mut self) -> (Answer, Wrong) {
-        let answer = self.model.undo();
-        let number = self.lent.undo();
+        let answer = self.by_model(Call::Undo, Recording::undo);
+        let number = self.lent.make(Call::Undo);
         let wrong = self.lent.wrong(&self.model, answer.value());
         (answer, with_answer(wrong, number, answer.number()))
     }
 
     /// Both sides repair the gap in a workspace of these patterns.
     pub fn inpaint_gap(&mut self, gap: Gap, passes: u32, mut work: Vec<u64>) -> (Answer, Wrong) {
-        let mut lent_work = LentWork::new(&work);
-        let answer = inpaint::inpaint_gap(&mut self.model, gap, passes, &mut work);
-        let number = self.lent.inpaint_gap(gap, passes, &mut lent_work);
+        self.lent.lend_doubles(&work);
+        let call = Call::Gap { gap, passes };
+        let answer = self.by_model(call, |model| inpaint::inpaint_gap(model, gap, passes, &mut work));
+        let number = self.lent.make(call);
         let wrong = with_answer(self.lent.wrong(&self.model, answer.value()), number, answer.number());
-        (answer, with_work(wrong, lent_work.holds(&work)))
+        (answer, with_work(wrong, self.lent.holds_doubles(&work)))
     }
 
     /// Both sides scan in a workspace of these patterns.
     pub fn inpaint_auto(&mut self, (rate, max_gap_ms): OfScan, mut work: Vec<u64>) -> (Scan, Wrong) {
-        let mut lent_work = LentWork::new(&work);
-        let scan = inpaint::inpaint_auto(&mut self.model, rate, max_gap_ms, &mut work);
-        let number = self.lent.inpaint_auto(rate, max_gap_ms, &mut lent_work);
+        self.lent.lend_doubles(&work);
+        let call = Call::Scan { rate, max_gap_ms };
+        let scan = self.by_model(call, |model| inpaint::inpaint_auto(model, rate, max_gap_ms, &mut work));
+        let number = self.lent.make(call);
         let wrong = self.lent.wrong_after_scan(&self.model, [scan.qualified(), scan.repaired()]);
-        let wrong = with_work(with_answer(wrong, number, scan.number()), lent_work.holds(&work));
+        let wrong = with_work(with_answer(wrong, number, scan.number()), self.lent.holds_doubles(&work));
         (scan, wrong)
     }
 
     /// Both sides make a repair over the whole recording in a workspace of these words.
     pub fn repair(&mut self, repair: Repair, mut work: Vec<u32>) -> (Answer, Wrong) {
-        let mut lent_work = LentWords::new(&work);
-        let answer = whole::repair(&mut self.model, repair, &mut work);
-        let number = self.lent.repair(repair, &mut lent_work);
+        self.lent.lend_words(&work);
+        let call = Call::Whole(repair);
+        let answer = self.by_model(call, |model| whole::repair(model, repair, &mut work));
+        let number = self.lent.make(call);
         let wrong = with_answer(self.lent.wrong(&self.model, answer.value()), number, answer.number());
-        (answer, with_work(wrong, lent_work.holds(&work)))
+        (answer, with_work(wrong, self.lent.holds_words(&work)))
+    }
+
+    /// The model makes the call, or what stands in for it does.
+    fn by_model<A>(&mut self, call: Call, make: impl FnOnce(&mut Recording) -> A) -> A {
+        wrong::model(&mut self.model, call, make)
     }
 
     /// The parts of the library's recording that are not what this one has.

@@ -1,6 +1,7 @@
 //! The count of a comparison over many calls, or over many sequences of them: what they were made on, what was
 //! answered, and where library and model differed.
 use crate::tally::line;
+use crate::wrong;
 use std::fmt::Write;
 
 /// How many differences are written out.
@@ -41,10 +42,12 @@ impl<C: std::fmt::Debug> Count<C> {
         }
         if !wrong.is_empty() {
             self.differences += 1;
+            let source = self.sources.last().expect("a source was begun").0;
+            let described = || format!("{source}: {call:?}, differing {wrong:?}");
             if self.shown.len() < SHOWN {
-                let source = self.sources.last().expect("a source was begun").0;
-                self.shown.push(format!("{source}: {call:?}, differing {wrong:?}"));
+                self.shown.push(described());
             }
+            wrong::found(self.in_all(), described);
         }
     }
 
@@ -67,9 +70,13 @@ impl<C: std::fmt::Debug> Count<C> {
         assert_eq!(self.differences, 0, "{}: differences", self.title);
     }
 
+    fn in_all(&self) -> u64 {
+        self.sources.iter().map(|(_, count)| count).sum()
+    }
+
     fn report(&self, seed: u64) -> String {
         let mut text = format!("{}, seed {:#x}\n", self.title, seed);
-        line(&mut text, "in all", self.sources.iter().map(|(_, count)| count).sum());
+        line(&mut text, "in all", self.in_all());
         for (source, count) in &self.sources {
             line(&mut text, source, *count);
         }

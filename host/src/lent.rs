@@ -1,12 +1,13 @@
-//! A recording's memory and a workspace as they are lent to the library. Every part is the middle of a longer
+//! A recording's memory and the workspaces as they are lent to the library. Every part is the middle of a longer
 //! vector, and what stands around it has to stay.
+use crate::call::Call;
 use crate::cathar;
-use crate::inpaint::Gap;
 use crate::recording::Recording;
 use crate::whole::Repair;
+use crate::wrong;
 
 /// How many words stand before a part, and how many after it.
-const GUARDS: usize = 3;
+pub(crate) const GUARDS: usize = 3;
 
 /// What stands in each number that a call hands back, before the call: no answer's value.
 pub const VALUE_BEFORE: usize = 0x0123_4567_89ab_cdef;
@@ -40,8 +41,9 @@ impl Word for f64 {
     }
 }
 
-struct Part<T> {
-    whole: Vec<T>,
+pub(crate) struct Part<T> {
+    /// What is lent, with the guards before and after it.
+    pub(crate) whole: Vec<T>,
     guard: T,
 }
 
@@ -55,12 +57,12 @@ impl<T: Word> Part<T> {
         self.whole.len() - GUARDS
     }
 
-    fn lend(&mut self) -> &mut [T] {
+    pub(crate) fn lend(&mut self) -> &mut [T] {
         let end = self.end();
         &mut self.whole[GUARDS..end]
     }
 
-    fn lent(&self) -> &[T] {
+    pub(crate) fn lent(&self) -> &[T] {
         &self.whole[GUARDS..self.end()]
     }
 
@@ -82,49 +84,31 @@ fn number() -> Part<usize> {
     Part::new(&[VALUE_BEFORE], 0xa5a5_a5a5_a5a5_a5a5)
 }
 
-/// A workspace of doubles.
-pub struct LentWork(Part<f64>);
-
-impl LentWork {
-    /// The doubles of these patterns. Around them stands -0, which a part that is cleared does not have.
-    pub fn new(patterns: &[u64]) -> LentWork {
-        let doubles: Vec<f64> = patterns.iter().map(|pattern| f64::from_bits(*pattern)).collect();
-        LentWork(Part::new(&doubles, -0.0))
-    }
-
-    /// Whether it has these patterns, and the guards around it stand.
-    pub fn holds(&self, patterns: &[u64]) -> bool {
-        self.0.holds(patterns.iter().copied())
-    }
+/// Workspaces. Around them stands -0, which a part that is cleared does not have.
+fn doubles(patterns: &[u64]) -> Part<f64> {
+    let doubles: Vec<f64> = patterns.iter().map(|pattern| f64::from_bits(*pattern)).collect();
+    Part::new(&doubles, -0.0)
 }
 
-/// A workspace of 32-bit words.
-pub struct LentWords(Part<u32>);
-
-impl LentWords {
-    /// These words. Around them stands -0, which a part that is cleared does not have.
-    pub fn new(words: &[u32]) -> LentWords {
-        LentWords(Part::new(words, 0x8000_0000))
-    }
-
-    /// Whether it has these words, and the guards around it stand.
-    pub fn holds(&self, words: &[u32]) -> bool {
-        self.0.holds(patterns(words))
-    }
+fn words(words: &[u32]) -> Part<u32> {
+    Part::new(words, 0x8000_0000)
 }
 
-/// A recording, and two numbers that a call hands back, of which most calls have one or none.
+/// A recording; two numbers that a call hands back, of which most calls have one or none; and the two workspaces, of
+/// which a call has one or none.
 pub struct Lent {
-    samples: Part<u32>,
-    marks: Part<u8>,
-    journal: Part<u32>,
-    used: Part<usize>,
-    numbers: [Part<usize>; 2],
+    pub(crate) samples: Part<u32>,
+    pub(crate) marks: Part<u8>,
+    pub(crate) journal: Part<u32>,
+    pub(crate) used: Part<usize>,
+    pub(crate) numbers: [Part<usize>; 2],
+    pub(crate) doubles: Part<f64>,
+    pub(crate) words: Part<u32>,
 }
 
 impl Lent {
-    /// The same words as the recording has. Around the journal stands 1, which could be an entry's place, m
-    /// or mark, so that a call that takes it for the journal's is found out too.
+    /// The same words as the recording has, and no workspace. Around the journal stands 1, which could be an entry's
+    /// place, m or mark, so that a call that takes it for the journal's is found out too.
     pub fn new(recording: &Recording) -> Lent {
         Lent {
             samples: Part::new(&recording.samples, 0x5a5a_5a5a),
@@ -132,7 +116,29 @@ impl Lent {
             journal: Part::new(&recording.journal, 1),
             used: Part::new(&[recording.used], 0x5a5a_5a5a_5a5a_5a5a),
             numbers: [number(), number()],
+            doubles: doubles(&[]),
+            words: words(&[]),
         }
+    }
+
+    /// From here on a workspace of the doubles of these patterns is lent.
+    pub fn lend_doubles(&mut self, patterns: &[u64]) {
+        self.doubles = doubles(patterns);
+    }
+
+    /// From here on a workspace of these words is lent.
+    pub fn lend_words(&mut self, of: &[u32]) {
+        self.words = words(of);
+    }
+
+    /// Whether the workspace of doubles has these patterns, and the guards around it stand.
+    pub fn holds_doubles(&self, patterns: &[u64]) -> bool {
+        self.doubles.holds(patterns.iter().copied())
+    }
+
+    /// Whether the workspace of words has these, and the guards around it stand.
+    pub fn holds_words(&self, words: &[u32]) -> bool {
+        self.words.holds(patterns(words))
     }
 
     /// The samples as the last call left them.
@@ -140,65 +146,57 @@ impl Lent {
         self.samples.lent()
     }
 
-    /// Before each call, so that one that does not write its numbers is found out.
-    fn forget_numbers(&mut self) {
-        for number in &mut self.numbers {
-            number.lend()[0] = VALUE_BEFORE;
+    /// The recording as it is lent.
+    pub(crate) fn recording(&self) -> Recording {
+        Recording {
+            samples: self.samples.lent().to_vec(),
+            marks: self.marks.lent().to_vec(),
+            journal: self.journal.lent().to_vec(),
+            used: self.used.lent()[0],
         }
     }
 
-    /// The library opens it.
-    pub fn open(&mut self) -> u32 {
-        self.forget_numbers();
-        cathar::open(self.samples.lend(), self.marks.lend(), self.journal.lend(), &mut self.used.lend()[0])
+    /// The recording that is lent becomes this one, which has the same lengths.
+    pub(crate) fn put(&mut self, recording: &Recording) {
+        self.samples.lend().copy_from_slice(&recording.samples);
+        self.marks.lend().copy_from_slice(&recording.marks);
+        self.journal.lend().copy_from_slice(&recording.journal);
+        self.used.lend()[0] = recording.used;
     }
 
-    /// The library takes back its last entry.
-    pub fn undo(&mut self) -> u32 {
-        self.forget_numbers();
-        let value = &mut self.numbers[0].lend()[0];
+    /// The library makes the call, or what stands in for it does. The numbers that it hands back are forgotten before,
+    /// so that one that it does not write is found out.
+    pub fn make(&mut self, call: Call) -> u32 {
+        for number in &mut self.numbers {
+            number.lend()[0] = VALUE_BEFORE;
+        }
+        wrong::library(self, call)
+    }
+
+    /// The library makes the call.
+    pub(crate) fn call(&mut self, call: Call) -> u32 {
+        let (samples, marks, journal) = (self.samples.lend(), self.marks.lend(), self.journal.lend());
         let used = &mut self.used.lend()[0];
-        cathar::undo(self.samples.lend(), self.marks.lend(), self.journal.lend(), used, value)
-    }
-
-    /// The library repairs a gap.
-    pub fn inpaint_gap(&mut self, gap: Gap, passes: u32, work: &mut LentWork) -> u32 {
-        self.forget_numbers();
-        cathar::inpaint_gap(
-            self.samples.lend(),
-            self.marks.lend(),
-            self.journal.lend(),
-            &mut self.used.lend()[0],
-            gap.start,
-            gap.len,
-            passes,
-            work.0.lend(),
-            &mut self.numbers[0].lend()[0],
-        )
-    }
-
-    /// The library finds the dropouts and repairs each.
-    pub fn inpaint_auto(&mut self, rate: u32, max_gap_ms: f32, work: &mut LentWork) -> u32 {
-        self.forget_numbers();
-        let [qualified, repaired] = &mut self.numbers;
-        cathar::inpaint_auto(
-            self.samples.lend(),
-            self.marks.lend(),
-            self.journal.lend(),
-            &mut self.used.lend()[0],
-            rate,
-            max_gap_ms,
-            work.0.lend(),
-            &mut qualified.lend()[0],
-            &mut repaired.lend()[0],
-        )
+        let [first, second] = &mut self.numbers;
+        let (value, other) = (&mut first.lend()[0], &mut second.lend()[0]);
+        let doubles = self.doubles.lend();
+        match call {
+            Call::Open => cathar::open(samples, marks, journal, used),
+            Call::Undo => cathar::undo(samples, marks, journal, used, value),
+            Call::Gap { gap, passes } => {
+                cathar::inpaint_gap(samples, marks, journal, used, gap.start, gap.len, passes, doubles, value)
+            }
+            Call::Scan { rate, max_gap_ms } => {
+                cathar::inpaint_auto(samples, marks, journal, used, rate, max_gap_ms, doubles, value, other)
+            }
+            Call::Whole(repair) => self.repair(repair),
+        }
     }
 
     /// The library makes a repair over the whole recording.
-    pub fn repair(&mut self, repair: Repair, work: &mut LentWords) -> u32 {
-        self.forget_numbers();
+    fn repair(&mut self, repair: Repair) -> u32 {
         let (samples, marks, journal) = (self.samples.lend(), self.marks.lend(), self.journal.lend());
-        let (used, work, value) = (&mut self.used.lend()[0], work.0.lend(), &mut self.numbers[0].lend()[0]);
+        let (used, work, value) = (&mut self.used.lend()[0], self.words.lend(), &mut self.numbers[0].lend()[0]);
         match repair {
             Repair::Declip { threshold } => cathar::declip(samples, marks, journal, used, threshold, work, value),
             Repair::Decrackle { sensitivity } => {

@@ -1,6 +1,7 @@
 //! The functions of the static library, and what the tests hold them to: Rust's own operations for the
 //! float leaves, a model for the recording, and for the samples that a repair writes the original Rust.
 pub mod both;
+pub mod call;
 pub mod cathar;
 pub mod count;
 pub mod damage;
@@ -16,3 +17,4 @@ pub mod shapes;
 pub mod tally;
 mod util;
 pub mod whole;
+pub mod wrong;

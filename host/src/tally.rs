@@ -1,6 +1,7 @@
 //! The count of a comparison over many values: what kinds of value it met, and where the two sides
 //! differed.
 use crate::float::Format;
+use crate::wrong;
 use std::fmt::Write;
 
 /// A kind of value, told by its pattern.
@@ -71,6 +72,7 @@ impl Tally {
             if self.shown.len() < SHOWN {
                 self.shown.push([bits, ours, theirs]);
             }
+            wrong::found(self.values, || described([bits, ours, theirs]));
         }
     }
 
@@ -92,8 +94,8 @@ impl Tally {
             line(&mut text, class.name, *count);
         }
         line(&mut text, "differences", self.differences);
-        for [bits, ours, theirs] in &self.shown {
-            writeln!(text, "    of {bits:#x}: ours {ours:#x}, theirs {theirs:#x}").expect("a String takes all");
+        for shown in &self.shown {
+            writeln!(text, "    {}", described(*shown)).expect("a String takes all");
         }
         text
     }
@@ -101,6 +103,11 @@ impl Tally {
     fn tops_met(&self) -> usize {
         self.tops.iter().filter(|count| **count > 0).count()
     }
+}
+
+/// A pattern, and what both sides made of it.
+fn described([bits, ours, theirs]: [u64; 3]) -> String {
+    format!("of {bits:#x}: ours {ours:#x}, theirs {theirs:#x}")
 }
 
 /// Adds the line of one count.

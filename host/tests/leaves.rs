@@ -15,6 +15,7 @@ use cathar_host::cathar;
 use cathar_host::draw::{self, Draw};
 use cathar_host::float::{word32, word64, F32, F64};
 use cathar_host::tally::Tally;
+use cathar_host::wrong;
 use leaves::{narrow, root, whole};
 
 /// One turn of drawing: hands each pattern on.
@@ -40,7 +41,7 @@ fn square_root() {
     let tally = Tally::new("cathar_sqrt against f64::sqrt", F64, root::CLASSES);
     compare(tally, root::turn, |bits| {
         let x = f64::from_bits(bits);
-        (word64(cathar::sqrt(x)), word64(x.sqrt()))
+        (word64(wrong::sqrt(x)), word64(x.sqrt()))
     });
 }
 
@@ -49,7 +50,7 @@ fn narrowing() {
     let tally = Tally::new("cathar_narrow against `as f32`", F64, narrow::CLASSES);
     compare(tally, narrow::turn, |bits| {
         let x = f64::from_bits(bits);
-        (word32(cathar::narrow(x)), word32(x as f32))
+        (word32(wrong::narrow(x)), word32(x as f32))
     });
 }
 
@@ -58,7 +59,7 @@ fn rounding_to_whole() {
     let tally = Tally::new("cathar_round against f32::round", F32, whole::CLASSES);
     compare(tally, whole::turn, |bits| {
         let x = f32::from_bits(bits as u32);
-        (word32(cathar::round(x)), word32(x.round()))
+        (word32(wrong::round(x)), word32(x.round()))
     });
 }
 

@@ -11,6 +11,7 @@ mod recording {
     pub mod short;
 }
 
+use cathar_host::call::Call;
 use cathar_host::draw::{self, Draw};
 use cathar_host::lent::Lent;
 use cathar_host::recording::{Answer, Recording, MOST_SAMPLES};
@@ -156,8 +157,8 @@ fn quiet() {
     assert_eq!(model.journal, [2, 0, 0, 3, 0, 0, 2, 1]);
     assert_eq!(model.used, 8);
     let mut lent = Lent::new(&model);
-    assert_eq!((lent.undo(), lent.wrong(&opened, 2)), (0, vec![]));
-    assert_eq!((lent.undo(), lent.wrong(&opened, 0)), (10, vec![]));
+    assert_eq!((lent.make(Call::Undo), lent.wrong(&opened, 2)), (0, vec![]));
+    assert_eq!((lent.make(Call::Undo), lent.wrong(&opened, 0)), (10, vec![]));
     assert_eq!(model.undo(), Answer::Accepted(2));
     assert_eq!(model, opened);
     assert_eq!(model.undo(), Answer::Refused(10));

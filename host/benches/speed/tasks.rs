@@ -1,9 +1,10 @@
 //! What is timed: each task by the original and by the library, in turn, on the same samples.
 use super::clock::thread_time;
 use super::inputs;
+use cathar_host::call::Call;
 use cathar_host::draw::{Draw, SEED};
 use cathar_host::inpaint::Gap;
-use cathar_host::lent::{Lent, LentWords, LentWork};
+use cathar_host::lent::Lent;
 use cathar_host::original::inpaint as original;
 use cathar_host::recording::{entry_words, Recording};
 use cathar_host::whole::{self, Repair};
@@ -62,8 +63,8 @@ fn gap(samples: &[f32], gap: Gap, passes: u32) -> Times {
         samples,
         gap.len,
         || original::inpaint_gap(samples, gap.start, gap.len, passes),
-        || LentWork::new(&work),
-        |lent, work| lent.inpaint_gap(gap, passes, work),
+        |lent| lent.lend_doubles(&work),
+        Call::Gap { gap, passes },
     )
 }
 
@@ -75,21 +76,15 @@ fn scan(samples: &[f32]) -> Times {
         samples,
         n,
         || original::inpaint_auto(samples, RATE, LIMIT),
-        || LentWork::new(&work),
-        |lent, work| lent.inpaint_auto(RATE, LIMIT, work),
+        |lent| lent.lend_doubles(&work),
+        Call::Scan { rate: RATE, max_gap_ms: LIMIT },
     )
 }
 
 /// One of the four repairs over the whole recording.
 fn whole(samples: &[f32], repair: Repair) -> Times {
     let work = vec![0; whole::needed(samples.len())];
-    both(
-        samples,
-        samples.len(),
-        || repair.original(samples),
-        || LentWords::new(&work),
-        |lent, work| lent.repair(repair, work),
-    )
+    both(samples, samples.len(), || repair.original(samples), |lent| lent.lend_words(&work), Call::Whole(repair))
 }
 
 /// The undo of a dequantize, which the model makes before it. The raw samples have to come back.
@@ -101,7 +96,7 @@ fn undo(samples: &[f32]) -> Times {
     assert_eq!((answer.number(), answer.value()), (0, samples.len() - 2));
     least(|| {
         let mut lent = Lent::new(&recording);
-        let (library, number) = timed(|| lent.undo());
+        let (library, number) = timed(|| lent.make(Call::Undo));
         assert_eq!(number, 0);
         assert!(lent.samples() == raw.samples, "the samples are not the raw ones");
         Times { original: None, library }
@@ -110,18 +105,19 @@ fn undo(samples: &[f32]) -> Times {
 
 /// Both times of a repair that names at most so many samples. The library is lent a recording and a workspace anew
 /// for each run. Both have to leave the same samples, and others than they found.
-fn both<W>(
+fn both(
     samples: &[f32],
     named: usize,
     original: impl Fn() -> Vec<f32>,
-    work: impl Fn() -> W,
-    library: impl Fn(&mut Lent, &mut W) -> u32,
+    lend_work: impl Fn(&mut Lent),
+    call: Call,
 ) -> Times {
     let recording = opened(samples, named);
     least(|| {
         let (theirs, repaired) = timed(&original);
-        let (mut lent, mut work) = (Lent::new(&recording), work());
-        let (ours, number) = timed(|| library(&mut lent, &mut work));
+        let mut lent = Lent::new(&recording);
+        lend_work(&mut lent);
+        let (ours, number) = timed(|| lent.make(call));
         assert_eq!(number, 0);
         assert!(repaired != samples, "the original leaves the samples as they were");
         assert!(words(&repaired) == lent.samples(), "the samples are not the original's");

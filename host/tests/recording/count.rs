@@ -1,8 +1,10 @@
 //! The count of a comparison over many calls on recordings: what they were made on, what was answered, and
 //! where library and model differed.
+use cathar_host::call::Call;
 use cathar_host::lent::{Lent, VALUE_BEFORE};
 use cathar_host::recording::{Answer, Clause, Recording};
 use cathar_host::tally::line;
+use cathar_host::wrong;
 use std::fmt::Write;
 
 /// How many differences are written out.
@@ -54,7 +56,7 @@ impl Count {
     /// Both sides open the recording. The answer is the model's.
     pub fn open(&mut self, model: &mut Recording, lent: &mut Lent) -> Answer {
         let answer = model.open();
-        let number = lent.open();
+        let number = lent.make(Call::Open);
         self.take(model, answer, number, lent.wrong(model, VALUE_BEFORE));
         answer
     }
@@ -62,7 +64,7 @@ impl Count {
     /// Both sides take back the last entry. The answer is the model's.
     pub fn undo(&mut self, model: &mut Recording, lent: &mut Lent) -> Answer {
         let answer = model.undo();
-        let number = lent.undo();
+        let number = lent.make(Call::Undo);
         self.take(model, answer, number, lent.wrong(model, answer.value()));
         if answer.number() == 11 {
             self.take_clauses(&model.malformed());
@@ -80,9 +82,11 @@ impl Count {
         known.unwrap_or_else(|| panic!("the model answers {answer:?}")).1 += 1;
         if number != answer.number() || !wrong.is_empty() {
             self.differences += 1;
+            let described = || described(model, answer, number, &wrong);
             if self.shown.len() < SHOWN {
-                self.shown.push(described(model, answer, number, &wrong));
+                self.shown.push(described());
             }
+            wrong::found(self.calls(), described);
         }
     }
 

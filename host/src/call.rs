@@ -1,0 +1,12 @@
+//! A call of the library on a recording, without the memory that is lent to it.
+use crate::inpaint::Gap;
+use crate::whole::Repair;
+
+#[derive(Clone, Copy, Debug, PartialEq)]
+pub enum Call {
+    Open,
+    Undo,
+    Gap { gap: Gap, passes: u32 },
+    Scan { rate: u32, max_gap_ms: f32 },
+    Whole(Repair),
+}

@@ -1,0 +1,144 @@
+//! Wrong stand-ins, with which the comparisons are themselves tried. Each is wrong in one way: in what it leaves or
+//! answers in the place of the library, of the model or of both alike, or in what a test keeps account of. With none
+//! of them a comparison finds no difference; with any one of them it has to find one. `CATHAR_WRONG` names the one
+//! that stands in, and `host/wrong` runs each in turn and says which are found.
+mod gaps;
+mod leaves;
+mod recording;
+mod scans;
+mod sequences;
+mod whole;
+
+use crate::call::Call;
+use crate::cathar;
+use crate::lent::Lent;
+use crate::recording::Recording;
+use std::env;
+
+/// A wrong stand-in.
+pub struct Standin {
+    pub name: &'static str,
+    /// What is wrong with it.
+    pub says: &'static str,
+    how: How,
+}
+
+/// In whose place it stands, and what it does there.
+#[derive(Clone, Copy)]
+enum How {
+    /// In the library's: it makes the call, mostly by the library's own, and gives the answer.
+    Library(fn(&mut Lent, Call) -> u32),
+    /// In the model's: it alters what the model left. It is told the call and the recording before it.
+    Model(Alters),
+    /// In the place of both alike.
+    Alike(Alters),
+    /// In what the test of sequences keeps account of, which has a function of this name.
+    Account,
+    /// In the place of a leaf.
+    Root(fn(f64) -> f64),
+    Narrow(fn(f64) -> f32),
+    Round(fn(f32) -> f32),
+}
+
+type Alters = fn(Call, &Recording, &mut Recording);
+
+/// The stand-ins that one test has to find, or is known not to find.
+pub struct Table {
+    /// The file of the test, and its name there.
+    pub file: &'static str,
+    pub test: &'static str,
+    /// Whether none of these can be found: they give what the library gives, since what they leave out follows from
+    /// the rest.
+    pub right: bool,
+    pub standins: &'static [Standin],
+}
+
+/// All of them.
+pub const TABLES: [&[Table]; 6] =
+    [leaves::TABLES, recording::TABLES, gaps::TABLES, scans::TABLES, whole::TABLES, sequences::TABLES];
+
+/// The one that `CATHAR_WRONG` names, if it is set.
+fn named() -> Option<&'static Standin> {
+    let name = env::var("CATHAR_WRONG").ok()?;
+    let mut all = TABLES.iter().copied().flatten().flat_map(|table| table.standins);
+    Some(all.find(|standin| standin.name == name).unwrap_or_else(|| panic!("CATHAR_WRONG: there is no {name}")))
+}
+
+thread_local! {
+    static STANDIN: Option<&'static Standin> = named();
+}
+
+/// The one that stands in, if one does.
+fn standin() -> Option<&'static Standin> {
+    STANDIN.with(|standin| *standin)
+}
+
+fn how() -> Option<How> {
+    standin().map(|standin| standin.how)
+}
+
+/// The library makes the call on what it is lent, or what stands in for it does.
+pub(crate) fn library(lent: &mut Lent, call: Call) -> u32 {
+    match how() {
+        Some(How::Library(makes)) => makes(lent, call),
+        Some(How::Alike(alters)) => {
+            let before = lent.recording();
+            let number = lent.call(call);
+            let mut after = lent.recording();
+            alters(call, &before, &mut after);
+            lent.put(&after);
+            number
+        }
+        _ => lent.call(call),
+    }
+}
+
+/// The model makes the call, or what stands in for it does.
+pub(crate) fn model<A>(model: &mut Recording, call: Call, make: impl FnOnce(&mut Recording) -> A) -> A {
+    match how() {
+        Some(How::Model(alters) | How::Alike(alters)) => {
+            let before = model.clone();
+            let answer = make(model);
+            alters(call, &before, model);
+            answer
+        }
+        _ => make(model),
+    }
+}
+
+/// The name of the stand-in for what the test of sequences keeps account of, if one stands there.
+pub fn account() -> Option<&'static str> {
+    standin().filter(|standin| matches!(standin.how, How::Account)).map(|standin| standin.name)
+}
+
+/// The library's root, or what stands in for it.
+pub fn sqrt(x: f64) -> f64 {
+    match how() {
+        Some(How::Root(of)) => of(x),
+        _ => cathar::sqrt(x),
+    }
+}
+
+/// The library's narrowing, or what stands in for it.
+pub fn narrow(x: f64) -> f32 {
+    match how() {
+        Some(How::Narrow(of)) => of(x),
+        _ => cathar::narrow(x),
+    }
+}
+
+/// The library's rounding to whole, or what stands in for it.
+pub fn round(x: f32) -> f32 {
+    match how() {
+        Some(How::Round(of)) => of(x),
+        _ => cathar::round(x),
+    }
+}
+
+/// A comparison tells a difference, and at the how manieth value, call or sequence it stands. Where a stand-in is
+/// there, that is what was to be seen, and the test ends.
+pub fn found(after: u64, what: impl FnOnce() -> String) {
+    if let Some(standin) = standin() {
+        panic!("{} is found, at number {after}: {}", standin.name, what());
+    }
+}

@@ -1,0 +1,23 @@
+//! Stand-ins for opening and for undo.
+use super::How::Library;
+use super::{Standin, Table};
+use crate::call::Call;
+use crate::lent::Lent;
+
+pub(super) const TABLES: &[Table] = &[Table {
+    file: "recording",
+    test: "undos",
+    right: false,
+    standins: &[Standin {
+        name: "undo_keeps_marks",
+        says: "undo gives back the words and not the marks",
+        how: Library(undo_keeps_marks),
+    }],
+}];
+
+fn undo_keeps_marks(lent: &mut Lent, call: Call) -> u32 {
+    let before = lent.recording();
+    let number = lent.call(call);
+    lent.marks.lend().copy_from_slice(&before.marks);
+    number
+}
