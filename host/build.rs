@@ -1,18 +1,9 @@
-//! Links the static library of the repository that this package stands in, and finds the original Rust.
+//! Links the static library of the repository that this package stands in.
 use std::env;
-use std::fs;
-use std::path::{Path, PathBuf};
-
-/// The files of the original that are taken, each by its name without the ending.
-const TAKEN: [&str; 4] = ["declip", "decrackle", "dequant", "inpaint"];
+use std::path::PathBuf;
 
 fn main() {
     let host = PathBuf::from(env::var_os("CARGO_MANIFEST_DIR").expect("cargo sets CARGO_MANIFEST_DIR"));
-    link_library(&host);
-    name_original();
-}
-
-fn link_library(host: &Path) {
     let folder = host.join("../target/staticlib");
     let archive = folder.join("libcathar.a");
     assert!(
@@ -23,23 +14,4 @@ fn link_library(host: &Path) {
     println!("cargo:rerun-if-changed={}", archive.display());
     println!("cargo:rustc-link-search=native={}", folder.display());
     println!("cargo:rustc-link-lib=static=cathar");
-}
-
-/// Writes the lines that `src/original.rs` includes: a module for each of the original's files.
-fn name_original() {
-    println!("cargo:rerun-if-env-changed=CATHAR_ORIGINAL");
-    let folder = PathBuf::from(env::var_os("CATHAR_ORIGINAL").unwrap_or_default());
-    let mut lines = String::new();
-    for name in TAKEN {
-        let file = folder.join(name).with_extension("rs");
-        assert!(
-            file.is_file(),
-            "there is no {}: set CATHAR_ORIGINAL to the folder with the sources of the original crate `cathar`",
-            file.display()
-        );
-        println!("cargo:rerun-if-changed={}", file.display());
-        lines += &format!("#[path = {file:?}]\npub mod {name};\n");
-    }
-    let out = PathBuf::from(env::var_os("OUT_DIR").expect("cargo sets OUT_DIR"));
-    fs::write(out.join("original.rs"), lines).expect("the lines are written");
 }

@@ -1,6 +1,6 @@
-# What host/test and host/bench share, to be sourced: each sets `me` to its own name first. Builds
-# target/staticlib/libcathar.a from the proved crates, goes into this folder, and gives `run_cargo`, which
-# sets up what is missing and runs cargo.
+# What host/test, host/wrong and host/bench share, to be sourced: each sets `me` to its own name first. Sees that the
+# original's sources are the ones that are compared with, builds target/staticlib/libcathar.a from the proved crates,
+# goes into this folder, and gives `run_cargo`, which sets up what is missing and runs cargo, and `build_second`.
 #
 # The library is for x86-64. There the machine's own cargo is used. On Arm the programs are compiled for
 # x86-64 and run under an emulator, with the packages of Debian 12, which are installed if missing.
@@ -85,8 +85,31 @@ find_original() {
     export CATHAR_ORIGINAL
 }
 
+# The original is vbasky/cathar at this commit, and the files that are taken of it are told by their sums.
+original_commit=f2c2842f89
+
+check_original() {
+    sums=$(pwd)/host/original/files.sha256
+    (cd "$CATHAR_ORIGINAL" && sha256sum --check --quiet "$sums") || {
+        say "the files in $CATHAR_ORIGINAL are not those of vbasky/cathar at $original_commit"
+        exit 2
+    }
+}
+
+# Where the machine is not x86-64: the original as a program of the machine's own processor, by the machine's own
+# cargo. The tests that find CATHAR_SECOND set ask it too, for everything that they ask the original under the emulator.
+build_second() {
+    [ "$(uname -m)" != x86_64 ] || return 0
+    need cargo
+    cargo build --release --locked --quiet --manifest-path original/Cargo.toml --target-dir target/own
+    CATHAR_SECOND=$(pwd)/target/own/release/answers
+    export CATHAR_SECOND
+    say "the original is also asked as a program of $(uname -m), by $(cargo --version)"
+}
+
 cd "$(dirname "$0")/.."
 need rt
 find_original
+check_original
 rt staticlib cathar
 cd host

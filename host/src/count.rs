@@ -1,5 +1,6 @@
 //! The count of a comparison over many calls, or over many sequences of them: what they were made on, what was
 //! answered, and where library and model differed.
+use crate::original;
 use crate::tally::line;
 use crate::wrong;
 use std::fmt::Write;
@@ -54,6 +55,7 @@ impl<C: std::fmt::Debug> Count<C> {
     /// Prints the whole count, and panics where there are too few calls of a class or a call differed.
     pub fn close(&self, seed: u64) {
         self.print(seed);
+        original::print_agreed();
         self.hold();
     }
 

@@ -1,7 +1,7 @@
 //! The repair of a gap and the automatic scan as document 01 has them, over the model of the recording. What
 //! they turn away and what they leave is written from the document's text. The new samples are those that the
 //! original Rust computes, from its own files.
-use crate::original::inpaint as original;
+use crate::original;
 use crate::recording::{in_range, Answer, Recording};
 use std::ops::Range;
 

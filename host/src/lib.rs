@@ -15,6 +15,5 @@ pub mod room;
 pub mod settings;
 pub mod shapes;
 pub mod tally;
-mod util;
 pub mod whole;
 pub mod wrong;

@@ -1,6 +1,7 @@
 //! The count of a comparison over many values: what kinds of value it met, and where the two sides
 //! differed.
 use crate::float::Format;
+use crate::original;
 use crate::wrong;
 use std::fmt::Write;
 
@@ -79,6 +80,7 @@ impl Tally {
     /// Prints the whole count, and panics where a class or a field was never met or a value differed.
     pub fn close(&self, seed: u64) {
         print!("{}", self.report(seed));
+        original::print_agreed();
         for (class, count) in &self.classes {
             assert!(*count > 0, "{}: no value of the class \"{}\"", self.title, class.name);
         }

@@ -1,14 +1,9 @@
 //! The four repairs over the whole recording as document 01 has them, over the model of the recording. What they
 //! turn away, which samples they name and what they leave is written from the document's text. The new samples
 //! are those that the original Rust computes, from its own files.
-use crate::original::declip::{declip_with_method, DeclipMethod};
-use crate::original::decrackle::decrackle;
-use crate::original::dequant::{dequantize, dequantize_cosparse};
+use crate::original;
 use crate::recording::{in_range, Answer, Recording};
 use std::ops::Range;
-
-/// The original takes a rate, and none of the four looks at it.
-const RATE: u32 = 48_000;
 
 /// Which of the four, and its settings.
 #[derive(Clone, Copy, Debug, PartialEq)]
@@ -58,11 +53,11 @@ impl Repair {
     /// All samples as the original leaves them, where all are in range and the settings are allowed.
     pub fn original(self, samples: &[f32]) -> Vec<f32> {
         match self {
-            Repair::Declip { threshold } => declip_with_method(samples, threshold, DeclipMethod::Cubic),
-            Repair::Decrackle { sensitivity } => decrackle(samples, RATE, sensitivity),
-            Repair::Dequantize { bits, strength } => dequantize(samples, RATE, bits, strength),
+            Repair::Declip { threshold } => original::declip(samples, threshold),
+            Repair::Decrackle { sensitivity } => original::decrackle(samples, sensitivity),
+            Repair::Dequantize { bits, strength } => original::dequantize(samples, bits, strength),
             Repair::Cosparse { bits, strength, iterations } => {
-                dequantize_cosparse(samples, RATE, bits, strength, iterations)
+                original::dequantize_cosparse(samples, bits, strength, iterations)
             }
         }
     }

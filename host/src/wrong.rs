@@ -6,6 +6,7 @@ mod gaps;
 mod leaves;
 mod recording;
 mod scans;
+mod second;
 mod sequences;
 mod whole;
 
@@ -38,6 +39,8 @@ enum How {
     Root(fn(f64) -> f64),
     Narrow(fn(f64) -> f32),
     Round(fn(f32) -> f32),
+    /// In the place of the second process: it alters the patterns that this answered.
+    There(fn(&mut [u64])),
 }
 
 type Alters = fn(Call, &Recording, &mut Recording);
@@ -47,15 +50,23 @@ pub struct Table {
     /// The file of the test, and its name there.
     pub file: &'static str,
     pub test: &'static str,
-    /// Whether none of these can be found: they give what the library gives, since what they leave out follows from
-    /// the rest.
-    pub right: bool,
+    pub finds: Finds,
     pub standins: &'static [Standin],
 }
 
+/// Whether a test finds what is wrong.
+#[derive(Clone, Copy, Debug)]
+pub enum Finds {
+    Always,
+    /// Where there is a second process.
+    WithSecond,
+    /// It cannot: the stand-in gives what the library gives, since what it leaves out follows from the rest.
+    Never,
+}
+
 /// All of them.
-pub const TABLES: [&[Table]; 6] =
-    [leaves::TABLES, recording::TABLES, gaps::TABLES, scans::TABLES, whole::TABLES, sequences::TABLES];
+pub const TABLES: [&[Table]; 7] =
+    [leaves::TABLES, recording::TABLES, gaps::TABLES, scans::TABLES, whole::TABLES, sequences::TABLES, second::TABLES];
 
 /// The one that `CATHAR_WRONG` names, if it is set.
 fn named() -> Option<&'static Standin> {
@@ -133,6 +144,14 @@ pub fn round(x: f32) -> f32 {
         Some(How::Round(of)) => of(x),
         _ => cathar::round(x),
     }
+}
+
+/// What the second process answered, or what stands in for that.
+pub(crate) fn there(mut patterns: Vec<u64>) -> Vec<u64> {
+    if let Some(How::There(alters)) = how() {
+        alters(&mut patterns);
+    }
+    patterns
 }
 
 /// A comparison tells a difference, and at the how manieth value, call or sequence it stands. Where a stand-in is

@@ -282,7 +282,7 @@ fn where_the_original_writes_nan() {
         for number in 0..3usize.pow(n) {
             let samples: Vec<u32> = (0..n).map(|place| words[number / 3usize.pow(place) % 3]).collect();
             let before: Vec<f32> = samples.iter().map(|word| f32::from_bits(*word)).collect();
-            let after = original::inpaint::inpaint_auto(&before, 48_000, 1.0);
+            let after = original::inpaint_auto(&before, 48_000, 1.0);
             if before.iter().zip(&after).any(|(x, y)| !x.is_nan() && y.is_nan()) {
                 let model = room::recording(&mut Draw::new(1), samples, 100);
                 let scan = scan(&mut count, &mut Both::new(model), settings::USUAL, vec![1; 1000]);

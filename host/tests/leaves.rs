@@ -14,6 +14,7 @@ mod leaves {
 use cathar_host::cathar;
 use cathar_host::draw::{self, Draw};
 use cathar_host::float::{word32, word64, F32, F64};
+use cathar_host::original::{self, Kind};
 use cathar_host::tally::Tally;
 use cathar_host::wrong;
 use leaves::{narrow, root, whole};
@@ -21,17 +22,21 @@ use leaves::{narrow, root, whole};
 /// One turn of drawing: hands each pattern on.
 type Turn = fn(&mut Draw, &mut dyn FnMut(u64));
 
-/// What our side and then the other side make of a pattern.
-type Sides = fn(u64) -> (u64, u64);
+/// What our side makes of a pattern. Every NaN has one word.
+type Ours = fn(u64) -> u64;
 
-fn compare(mut tally: Tally, turn: Turn, sides: Sides) {
+/// Holds our side to Rust's own operation, which is asked for all values of a turn at once, here and in a second
+/// process, if there is one.
+fn compare(mut tally: Tally, turn: Turn, ours: Ours, theirs: Kind) {
     let seed = draw::seed();
     let mut draw = Draw::new(seed);
     while tally.values() < draw::values() {
-        turn(&mut draw, &mut |bits| {
-            let (ours, theirs) = sides(bits);
-            tally.take(bits, ours, theirs);
-        });
+        let mut values = Vec::new();
+        turn(&mut draw, &mut |bits| values.push(bits));
+        let results = original::leaf(theirs, values.clone());
+        for (bits, result) in values.into_iter().zip(results) {
+            tally.take(bits, ours(bits), original::one_nan(theirs, result));
+        }
     }
     tally.close(seed);
 }
@@ -39,28 +44,19 @@ fn compare(mut tally: Tally, turn: Turn, sides: Sides) {
 #[test]
 fn square_root() {
     let tally = Tally::new("cathar_sqrt against f64::sqrt", F64, root::CLASSES);
-    compare(tally, root::turn, |bits| {
-        let x = f64::from_bits(bits);
-        (word64(wrong::sqrt(x)), word64(x.sqrt()))
-    });
+    compare(tally, root::turn, |bits| word64(wrong::sqrt(f64::from_bits(bits))), Kind::Root);
 }
 
 #[test]
 fn narrowing() {
     let tally = Tally::new("cathar_narrow against `as f32`", F64, narrow::CLASSES);
-    compare(tally, narrow::turn, |bits| {
-        let x = f64::from_bits(bits);
-        (word32(wrong::narrow(x)), word32(x as f32))
-    });
+    compare(tally, narrow::turn, |bits| word32(wrong::narrow(f64::from_bits(bits))), Kind::Narrow);
 }
 
 #[test]
 fn rounding_to_whole() {
     let tally = Tally::new("cathar_round against f32::round", F32, whole::CLASSES);
-    compare(tally, whole::turn, |bits| {
-        let x = f32::from_bits(bits as u32);
-        (word32(wrong::round(x)), word32(x.round()))
-    });
+    compare(tally, whole::turn, |bits| word32(wrong::round(f32::from_bits(bits as u32))), Kind::Round);
 }
 
 /// All 2 ^ 32 of them, with nothing left to chance. It takes a quarter of an hour under an emulator, so it

@@ -23,7 +23,7 @@
 //! scan repairs every run that qualifies. A sample of a scan that is not in range is a NaN within the first such run.
 use cathar_host::draw::{Draw, SEED};
 use cathar_host::inpaint::{inpaint_auto, inpaint_gap, Gap, Scan};
-use cathar_host::original::inpaint as original;
+use cathar_host::original;
 use cathar_host::recording::{in_range, Answer, Recording};
 use cathar_host::shapes::Shape;
 use cathar_host::whole::{self, floats, needed, Repair};

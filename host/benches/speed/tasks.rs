@@ -5,7 +5,7 @@ use cathar_host::call::Call;
 use cathar_host::draw::{Draw, SEED};
 use cathar_host::inpaint::Gap;
 use cathar_host::lent::Lent;
-use cathar_host::original::inpaint as original;
+use cathar_host::original;
 use cathar_host::recording::{entry_words, Recording};
 use cathar_host::whole::{self, Repair};
 use std::time::{Duration, Instant};

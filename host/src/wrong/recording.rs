@@ -1,13 +1,13 @@
 //! Stand-ins for opening and for undo.
 use super::How::Library;
-use super::{Standin, Table};
+use super::{Finds, Standin, Table};
 use crate::call::Call;
 use crate::lent::Lent;
 
 pub(super) const TABLES: &[Table] = &[Table {
     file: "recording",
     test: "undos",
-    right: false,
+    finds: Finds::Always,
     standins: &[Standin {
         name: "undo_keeps_marks",
         says: "undo gives back the words and not the marks",

@@ -4,7 +4,7 @@ use cathar_host::count::{Class, Count};
 use cathar_host::damage;
 use cathar_host::draw::Draw;
 use cathar_host::inpaint::{limit, qualified, Scan};
-use cathar_host::original::inpaint as original;
+use cathar_host::original;
 use cathar_host::recording::entry_words;
 use cathar_host::room::{self, Room};
 use cathar_host::settings::OfScan;
