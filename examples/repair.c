@@ -9,16 +9,16 @@
  *     gap:  answer 0, value 2, 30800000:0 30800000:0 80000000:1 00000000:1 30800000:0 30800000:0
  *     undo: answer 0, value 2, 30800000:0 30800000:0 00000000:0 00000000:0 30800000:0 30800000:0
  *
- * The two samples of the gap became -0 and +0 and are marked 1, gap by model; the others are as measured. After
+ * The two samples of the gap became -0 and +0 and are marked 1, CATHAR_MARK_GAP_BY_MODEL; the others are as measured. After
  * the undo all are. */
 #include "cathar.h"
 
 #include <inttypes.h>
 #include <stdio.h>
 
-#define N 6       /* samples */
-#define JOURNAL 8 /* words: 3m+2 for one repair that names m = 2 samples */
-#define WORK 210  /* doubles: window + len*(p+1) + 3*len + 4*(p+1), of window 6, len 2 and p 32 */
+#define N 6         /* samples */
+#define JOURNAL 20  /* words: cathar_journal_words(N, 1), for one repair, whatever it names */
+#define WORK 210    /* doubles: cathar_gap_work(N, 2, 2), for a gap of 2 samples from place 2 on */
 
 /* Prints what a call gave, and what it left. */
 static void show(const char *call, uint32_t answer, size_t value, const uint32_t *samples, const uint8_t *marks)
@@ -38,12 +38,16 @@ int main(void)
     size_t used, value;
     static double work[WORK];
 
-    /* Opening writes marks, journal and used, so that what they held does not matter. */
-    uint32_t answer = cathar_open(samples, N, marks, N, journal, JOURNAL, &used);
-    if (answer != 0)
+    if (JOURNAL != cathar_journal_words(N, 1) || WORK != cathar_gap_work(N, 2, 2))
         return 1;
 
-    /* The gap of 2 samples from place 2 on, in 1 pass. */
+    /* Opening writes marks, journal and used, so that what they held does not matter. Open raw samples, and once:
+     * a second opening would mark made samples as measured. */
+    uint32_t answer = cathar_open(samples, N, marks, N, journal, JOURNAL, &used);
+    if (answer != CATHAR_ACCEPTED)
+        return 1;
+
+    /* The gap of 2 samples from place 2 on, in 1 pass. A refusal would leave samples and marks as they are. */
     answer = cathar_inpaint_gap(samples, N, marks, N, journal, JOURNAL, &used, 2, 2, 1, work, WORK, &value);
     show("gap: ", answer, value, samples, marks);
 

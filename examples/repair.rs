@@ -37,8 +37,10 @@ fn show(call: &str, answer: u32, value: usize, samples: &[u32], marks: &[u8]) {
 fn main() {
     // Each word is a float's pattern, as f32::to_bits gives it.
     let mut samples = [0x30800000, 0x30800000, 0, 0, 0x30800000, 0x30800000];
-    let (mut marks, mut journal, mut work) = ([0; 6], [0; 8], [0.0; 210]);
+    // 20 journal words are enough for one repair, whatever it names, and 210 doubles for this gap.
+    let (mut marks, mut journal, mut work) = ([0; 6], [0; 20], [0.0; 210]);
     let (mut used, mut value) = (0, 0);
+    // Open raw samples, and once: a second opening would mark made samples as measured.
     // All that is unsafe: each area goes with its own length, no two overlap, and nothing else is asked.
     unsafe {
         let answer = cathar_open(samples.as_ptr(), samples.len(), marks.as_mut_ptr(), marks.len(),

@@ -1,4 +1,5 @@
-/* The functions of libcathar.a, for programs on x86-64 Linux. examples/repair.c is one, with the command that
+/* The functions of libcathar.a, for programs on x86-64 Linux, with names for limits, marks and answers, and
+ * functions that say how much memory a call needs. examples/repair.c is such a program, with the command that
  * compiles it.
  *
  * Each is total: it asks nothing of its arguments but what C asks of a pointer, always returns, and touches
@@ -47,44 +48,77 @@ float cathar_round(float x);
 /* A recording is memory that the caller lends to each call, to cathar_open first:
  *   samples   n words, each the pattern of a float as it stands in memory: that of 1.0f is 0x3f800000, and
  *             memcpy of the 4 bytes makes either of the other. Places count from 0.
- *   marks     marks_n bytes, one for each sample: 0 measured, 1 gap by model, 2 gap by straight line,
- *             3 cubic declip, 4 decrackle, 5 dequantize
+ *   marks     marks_n bytes, one for each sample: what it says of the sample is below
  *   journal   journal_n words
  *   used      one number: how many of the journal's words are taken, from its start on
  * An area and its length, in elements, follow each other. Each area has at least the length given for it. No
  * pointer is null, not even that of an area of length 0; each is aligned for its type; and no two areas
  * overlap, used and value among them, nor a workspace, qualified or repaired.
  *
- * A sample is in range if it is finite and its magnitude is at most 65,536.
+ * A sample is in range if it is finite and its magnitude is at most CATHAR_LOUDEST. */
+#define CATHAR_MOST_SAMPLES 1048576     /* the most samples of a recording */
+#define CATHAR_LOUDEST 65536            /* the largest magnitude that is in range */
+#define CATHAR_MOST_BY_MODEL 2048       /* the longest gap that the model fills; a longer one becomes a line */
+#define CATHAR_MOST_RATE 16777216       /* the highest rate that a scan takes */
+#define CATHAR_LEAST_BITS 4             /* what the bits of both forms of dequantize are held to */
+#define CATHAR_MOST_BITS 24
+#define CATHAR_MOST_ITERATIONS 16       /* as many iterations are made at most */
+
+/* The marks. A repair names the samples that it writes, and no others. Each gets its result, which may be the word
+ * that it had, and the repair's mark. So, where nothing but these calls writes a recording, a mark tells which
+ * repair was the last to name the sample, and a sample that is marked as measured has the word that it was opened
+ * with.
  *
- * A repair names the samples that it writes, and no others. Each gets its result, which may be the word that
- * it had, and the repair's mark. So, where nothing but these calls writes a recording, a mark tells which
- * repair was the last to name the sample, and a sample with mark 0 has the word that it was opened with.
+ * What a repair reads it takes as it stands: a sample that an earlier repair made counts like a measured one, in
+ * gaps, in scans and in the repairs over the whole recording. Who wants a repair to rest on measured samples alone
+ * looks at the marks before. */
+#define CATHAR_MARK_MEASURED 0          /* as it came from the pump */
+#define CATHAR_MARK_GAP_BY_MODEL 1
+#define CATHAR_MARK_GAP_BY_LINE 2       /* a straight line */
+#define CATHAR_MARK_CUBIC_DECLIP 3
+#define CATHAR_MARK_DECRACKLE 4
+#define CATHAR_MARK_DEQUANTIZE 5        /* in either form */
+
+/* The answers. Each call on a recording answers CATHAR_ACCEPTED, and else the number of the refusal. Where several
+ * apply, it is the lowest.
  *
- * The journal holds one entry for each accepted repair that named a sample, the oldest first. An entry
+ * A call that is refused leaves samples, marks, journal and used as they were. Of its workspace 8 and 9 leave the
+ * needed part cleared, and the others leave all of it. A scan, cathar_inpaint_auto, is several repairs, and answers
+ * for the first of them that is refused: by 6 to 9 it tells of that run alone, and others may have been repaired. */
+#define CATHAR_ACCEPTED 0
+#define CATHAR_REFUSED_COUNTS 1         /* marks and samples differ in number */
+#define CATHAR_REFUSED_TOO_MANY 2       /* more than CATHAR_MOST_SAMPLES samples */
+#define CATHAR_REFUSED_USED 3           /* used exceeds the journal's length */
+#define CATHAR_REFUSED_SETTING 4        /* a setting is not allowed */
+#define CATHAR_REFUSED_GAP 5            /* gap length 0, start at or past the end, or gap past the end */
+#define CATHAR_REFUSED_WORKSPACE 6      /* workspace shorter than needed */
+#define CATHAR_REFUSED_READ 7           /* a sample that the repair reads is not in range */
+#define CATHAR_REFUSED_RESULT 8         /* a result at a named sample is not in range */
+#define CATHAR_REFUSED_ROOM 9           /* fewer than 3m+2 free journal words, where m samples are named, at least 1 */
+#define CATHAR_REFUSED_NOTHING 10       /* undo: used is 0 */
+#define CATHAR_REFUSED_MALFORMED 11     /* undo: the last entry is malformed */
+
+/* The journal holds one entry for each accepted repair that named a sample, the oldest first. An entry
  * that names m samples takes 3m+2 words:
  *   for each named sample, ascending, its place, its old word and its old mark;
  *   then m;
  *   then the mark that the repair set.
- * For any one call, a scan among them, 3n+2 free words are enough.
- *
- * Each call on a recording answers 0 where it was accepted, and else the number of the refusal. Where
- * several apply, it is the lowest. A refusal changes nothing in samples, marks, journal and used. (A scan,
- * cathar_inpaint_auto, is several repairs, and answers for the first that is refused.)
- *    1   marks and samples differ in number
- *    2   more than 1,048,576 samples
- *    3   used exceeds the journal's length
- *    4   a setting is not allowed
- *    5   gap length 0, start at or past the end, or gap past the end
- *    6   workspace shorter than needed
- *    7   a sample that the repair reads is not in range
- *    8   a result at a named sample is not in range
- *    9   the journal has fewer than 3m+2 free words, for a repair that names m samples, m at least 1
- *   10   undo: used is 0
- *   11   undo: the last entry is malformed */
+ * For so many repairs of n samples, whatever they name, this gives as many words as are enough, a scan counting as
+ * one repair. (Those over the whole recording never name the first and the last sample; where they name all others,
+ * as cathar_dequantize does, k of them take k times 3(n-2)+2 words.) */
+static inline size_t cathar_journal_words(size_t n, size_t repairs)
+{
+    return repairs * (3 * n + 2);
+}
 
 /* Opens a recording: sets all marks, all journal words and used to 0. What they held has no say. The samples
  * stay as they are, and may be any words.
+ *
+ * WARNING: open raw samples, and open them once. This function takes the samples as they stand for measured. Called
+ * again on a recording that was repaired, it marks every made sample as measured, and its journal no longer knows
+ * what stood there: a repaired curve is then shown as sound from the pump, and no call can tell. Who needs room in
+ * the journal undoes repairs, or keeps the old marks elsewhere before opening and joins them to the new ones.
+ *
  * Refusals: 1, 2. */
 uint32_t cathar_open(const uint32_t *samples, size_t n, uint8_t *marks, size_t marks_n,
                      uint32_t *journal, size_t journal_n, size_t *used);
@@ -105,18 +139,16 @@ uint32_t cathar_undo(uint32_t *samples, size_t n, uint8_t *marks, size_t marks_n
                      uint32_t *journal, size_t journal_n, size_t *used, size_t *value);
 
 /* Repairs the gap of len samples from start on: it names just these. What stood there has no say in what
- * comes to stand there. A gap longer than 2048 becomes a straight line between its neighbours, a missing
- * one counting as 0: mark 2, and the neighbours are read. Any other is filled from an autoregressive model
+ * comes to stand there. A gap longer than CATHAR_MOST_BY_MODEL becomes a straight line between its neighbours, a
+ * missing one counting as 0: mark 2, and the neighbours are read. Any other is filled from an autoregressive model
  * of the samples around it: mark 1, and all samples of the window are read that lie outside the gap.
  *   context   the larger of 4*len and 1024
  *   window    from max(0, start-context) to before min(n, start+len+context)
  *   p         len, but at least 32 and at most 128
  * Any number of passes is allowed, 0 among them, and every number gives the same.
- * work is the workspace: work_n doubles, of any contents. Of these it needs
- *   len       for the straight line
- *   window + len*(p+1) + 3*len + 4*(p+1) for the model, with the window's samples counted: at most 289,284
- * so that the larger of n and 289,284 is enough for any gap. The needed doubles, from the first on, are all
- * +0 after an acceptance or after refusal 8 or 9, and else they stay. All others stay.
+ * work is the workspace: work_n doubles, of any contents. Of these it needs as many as cathar_gap_work says,
+ * below. The needed doubles, from the first on, are all +0 after an acceptance or after refusal 8 or 9, and else
+ * they stay. All others stay.
  * value receives len where it was accepted, for refusals 7 and 8 the lowest place whose sample or result is
  * not in range, and 0 for the others; what it held has no say.
  * Refusals: 1, 2, 3, 5, 6, 7, 8, 9. */
@@ -125,6 +157,34 @@ uint32_t cathar_inpaint_gap(uint32_t *samples, size_t n, uint8_t *marks, size_t 
                             size_t start, size_t len, uint32_t passes,
                             double *work, size_t work_n, size_t *value);
 
+/* How many doubles that workspace needs:
+ *   len       for the straight line
+ *   window + len*(p+1) + 3*len + 4*(p+1) for the model, with the window's samples counted: at most 289,284
+ * and 0 for a gap that is not within n samples, which is refused whatever the workspace has. */
+static inline size_t cathar_gap_work(size_t n, size_t start, size_t len)
+{
+    size_t context, from, to, p;
+    if (len == 0 || start >= n || len > n - start)
+        return 0;
+    if (len > CATHAR_MOST_BY_MODEL)
+        return len;
+    context = 4 * len > 1024 ? 4 * len : 1024;
+    from = start > context ? start - context : 0;
+    to = n - (start + len) > context ? start + len + context : n;
+    p = len < 32 ? 32 : len > 128 ? 128 : len;
+    return (to - from) + len * (p + 1) + 3 * len + 4 * (p + 1);
+}
+
+/* How many doubles are enough for any gap of at most `longest` samples, among n: where longest is n, for any gap
+ * at all. For one by model that is what it needs in the middle of a recording. */
+static inline size_t cathar_longest_gap_work(size_t n, size_t longest)
+{
+    size_t by_line = longest < n ? longest : n;
+    size_t len = by_line < CATHAR_MOST_BY_MODEL ? by_line : CATHAR_MOST_BY_MODEL;
+    size_t by_model = cathar_gap_work(n, (n - len) / 2, len);
+    return by_line > CATHAR_MOST_BY_MODEL && by_line > by_model ? by_line : by_model;
+}
+
 /* Finds the dropouts, from the first on, and repairs each as cathar_inpaint_gap does. A dropout is a
  * longest run of samples that are zeros or NaN; it qualifies if it has at least 2 samples and at most as
  * many as the limit, and touches neither end of the recording. The limit is (max_gap_ms/1000)*rate in
@@ -132,13 +192,14 @@ uint32_t cathar_inpaint_gap(uint32_t *samples, size_t n, uint8_t *marks, size_t 
  * A run whose repair is refused stays as it was, and the scan goes on after it. Each run that is repaired
  * has an entry of its own in the journal, so that cathar_undo takes back one run at a time.
  * work is lent to the repair of one run after the other, and left by each as cathar_inpaint_gap says; a run
- * for which it is too short has refusal 6. Where the limit is 48 samples, 4,788 doubles are enough.
+ * for which it is too short has refusal 6. cathar_longest_gap_work(n, limit) doubles are enough for every run: at
+ * most 4,788 where the limit is 48 samples.
  * qualified receives the number of runs that qualify, and repaired that of those repaired; both receive 0
  * where refusal 1 to 4 was given. What they held has no say. The answer is 0, or the number of the first
  * refusal: 1 to 4 for the whole scan, which then changes nothing, work among it, or 6 to 9 for a run, beside
  * which others may have been repaired.
  * Refusals: 1, 2, 3, 4, 6, 7, 8, 9. Refusal 4 is given where
- *   rate exceeds 16,777,216, or
+ *   rate exceeds CATHAR_MOST_RATE, or
  *   max_gap_ms is an infinity or a NaN. */
 uint32_t cathar_inpaint_auto(uint32_t *samples, size_t n, uint8_t *marks, size_t marks_n,
                              uint32_t *journal, size_t journal_n, size_t *used,
@@ -149,11 +210,18 @@ uint32_t cathar_inpaint_auto(uint32_t *samples, size_t n, uint8_t *marks, size_t
  * and works its results out in a workspace of words before it writes any. To name no sample is no refusal, and
  * makes no entry in the journal. A setting that is held to a..b counts as a where it is lower, and as b where it
  * is higher, infinities among them.
- * work is the workspace: work_n words, of any contents. Of these it needs 2n: the first 2n are all 0 after an
- * acceptance or after refusal 8 or 9, and else they stay. All others stay.
+ * work is the workspace: work_n words, of any contents. Of these it needs as many as cathar_whole_work says, below:
+ * the needed ones, from the first on, are all 0 after an acceptance or after refusal 8 or 9, and else they stay. All
+ * others stay.
  * value receives the number m of named samples where it was accepted, which may be 0, for refusals 7 and 8 the
  * lowest place whose sample or result is not in range, and 0 for the others; what it held has no say.
  * Refusals of each: 1, 2, 3, 4, 6, 7, 8, 9. */
+
+/* How many words that workspace needs for n samples. */
+static inline size_t cathar_whole_work(size_t n)
+{
+    return 2 * n;
+}
 
 /* Bridges clipped runs by a cubic: mark 3. A run is a longest stretch of samples with a magnitude at or above
  * the threshold, as they stood before the call, from s to before e. With a = max(0, s-4) and
@@ -174,14 +242,16 @@ uint32_t cathar_decrackle(uint32_t *samples, size_t n, uint8_t *marks, size_t ma
                           float sensitivity, uint32_t *work, size_t work_n, size_t *value);
 
 /* Moves samples that were recorded with so many bits, in steps of 2/2^bits, toward what their neighbours predict:
- * mark 5. Each prediction is kept within half a step of the level nearest to the sample. bits is held to 4..24 and
- * strength to 0..1. Where strength is above 0 and n at least 3 it names places 1 to n-2, and else none.
+ * mark 5. Each prediction is kept within half a step of the level nearest to the sample. bits is held to
+ * CATHAR_LEAST_BITS..CATHAR_MOST_BITS and strength to 0..1. Where strength is above 0 and n at least 3 it names places
+ * 1 to n-2, and else none.
  * Refusal 4 is given where strength is a NaN. */
 uint32_t cathar_dequantize(uint32_t *samples, size_t n, uint8_t *marks, size_t marks_n,
                            uint32_t *journal, size_t journal_n, size_t *used,
                            uint32_t bits, float strength, uint32_t *work, size_t work_n, size_t *value);
 
-/* The same from two neighbours on either side, in as many iterations as are asked for and 16 at most: mark 5.
+/* The same from two neighbours on either side, in as many iterations as are asked for and CATHAR_MOST_ITERATIONS
+ * at most: mark 5.
  * Where strength and iterations are above 0 and n is at least 5 it names places 2 to n-3, and else none.
  * Refusal 4 is given where strength is a NaN. */
 uint32_t cathar_dequantize_cosparse(uint32_t *samples, size_t n, uint8_t *marks, size_t marks_n,

@@ -1,10 +1,20 @@
 //! The header compiles by itself, as C and as C++, without a warning. Where there is no such compiler, that
-//! is said. And what it declares is what the crate `cathar` exports, type by type, as are the declarations in Rust.
-use std::collections::BTreeSet;
+//! is said. What it declares is what the crate `cathar` exports, type by type, as are the declarations in Rust. Its
+//! names for limits, marks and answers have the numbers of the sources, and its functions on memory give what the model
+//! says is needed.
+use cathar_host::inpaint::Gap;
+use cathar_host::recording::{entry_words, MOST_SAMPLES};
+use cathar_host::whole;
+use std::collections::{BTreeMap, BTreeSet};
+use std::env;
 use std::fs;
-use std::io::ErrorKind;
+use std::io::{ErrorKind, Write};
 use std::path::{Path, PathBuf};
-use std::process::Command;
+use std::process::{Command, Stdio};
+
+/// Where the machine is not x86-64, `setup.sh` names a C compiler for it, and what runs its programs.
+const LINKER: &str = "CARGO_TARGET_X86_64_UNKNOWN_LINUX_GNU_LINKER";
+const RUNNER: &str = "CARGO_TARGET_X86_64_UNKNOWN_LINUX_GNU_RUNNER";
 
 /// How many functions there are.
 const EXPORTS: usize = 11;
@@ -56,7 +66,7 @@ fn in_c(type_: &str) -> &'static str {
 
 /// The functions that a file in Rattle or Rust declares, each as C would without its parameters' names.
 fn declared(name: &str) -> BTreeSet<String> {
-    let text = fs::read_to_string(file(name)).expect("the file is there");
+    let text = text(name);
     let function = |text: &str| {
         let (name, rest) = text.split_once('(').expect("parameters");
         let (parameters, rest) = rest.split_once(')').expect("the end of the parameters");
@@ -67,19 +77,178 @@ fn declared(name: &str) -> BTreeSet<String> {
     text.split("fn cathar_").skip(1).map(function).collect()
 }
 
-/// Likewise those of the header, without its comments and the lines that are not C's.
+/// The text of a file of the repository.
+fn text(name: &str) -> String {
+    fs::read_to_string(file(name)).unwrap_or_else(|error| panic!("{name}: {error}"))
+}
+
+/// The header without its comments.
+fn without_comments() -> String {
+    text("include/cathar.h").split("/*").map(|part| part.split_once("*/").map_or(part, |(_, after)| after)).collect()
+}
+
+/// Likewise the functions that the header declares and does not define: it is left without the lines that are not C's
+/// or that only C++ has, and a definition counts up to its body.
 fn declared_in_header() -> BTreeSet<String> {
-    let text = fs::read_to_string(file("include/cathar.h")).expect("the header is there");
-    let code: String = text.split("/*").map(|part| part.split_once("*/").map_or(part, |(_, after)| after)).collect();
-    let lines: Vec<&str> = code.lines().map(str::trim).filter(|line| !line.contains(['#', '{', '}'])).collect();
+    let code = without_comments();
+    let plain = |line: &&str| !line.starts_with('#') && !line.starts_with("extern");
+    let (mut depth, mut outside) = (0, String::new());
+    for c in code.lines().filter(plain).collect::<Vec<_>>().join(" ").chars() {
+        match c {
+            '{' => depth += 1,
+            // The bracket that only C++ has is closed outside all.
+            '}' if depth > 0 => {
+                depth -= 1;
+                outside.push(';');
+            }
+            _ if depth == 0 => outside.push(c),
+            _ => {}
+        }
+    }
     let without_name =
         |parameter: &str| String::from(parameter.trim_end_matches(|c: char| c != ' ' && c != '*').trim());
     let function = |text: &str| {
         let (name, parameters) = text.trim().split_once('(')?;
         let types: Vec<String> = parameters.trim_end_matches(')').split(',').map(without_name).collect();
-        Some(format!("{name}({})", types.join(", ")))
+        (!name.starts_with("static")).then(|| format!("{name}({})", types.join(", ")))
     };
-    lines.join(" ").split(';').filter_map(function).collect()
+    outside.split(';').filter_map(function).collect()
+}
+
+/// The names that the header defines, each with its number.
+fn defined() -> BTreeMap<String, u64> {
+    let code = without_comments();
+    let names = code.lines().filter_map(|line| line.strip_prefix("#define ")?.trim().split_once(' '));
+    names.map(|(name, number)| (String::from(name), number.trim().parse().expect("a number"))).collect()
+}
+
+/// A number in Rattle's writing.
+fn number(text: &str) -> u64 {
+    text.replace('_', "").parse().unwrap_or_else(|_| panic!("no number: {text}"))
+}
+
+/// A constant of a file in Rattle.
+fn constant(name: &str, of: &str) -> u64 {
+    let text = text(of);
+    let line = text.lines().find(|line| line.trim_start_matches("pub ").starts_with(&format!("const {name}: ")));
+    let line = line.unwrap_or_else(|| panic!("{of} has no {name}"));
+    number(line.trim_end_matches(';').rsplit(' ').next().expect("a number"))
+}
+
+/// `TooMany` as `TOO_MANY`.
+fn in_capitals(name: &str) -> String {
+    let letter = |(at, c): (usize, char)| (c.is_uppercase() && at > 0).then(|| '_').into_iter().chain([c]);
+    name.char_indices().flat_map(letter).collect::<String>().to_uppercase()
+}
+
+/// The names and numbers that the sources have: each mark is a constant, and each reason's number a line of a match.
+fn in_sources() -> BTreeMap<String, u64> {
+    let marks = text("crates/recording/src/marks.rt");
+    let marks =
+        marks.lines().filter_map(|line| line.strip_prefix("pub const ")?.trim_end_matches(';').split_once(": u8 = "));
+    let mut found: BTreeMap<String, u64> =
+        marks.map(|(name, mark)| (format!("CATHAR_MARK_{name}"), number(mark))).collect();
+    let numbers = text("crates/recording/src/numbers.rt");
+    let (reasons, _) = numbers.split_once("fn reason_place").expect("the numbers stand before the places");
+    for line in reasons.lines().filter_map(|line| line.trim().strip_prefix("Reason::")) {
+        let (name, of) = line.trim_end_matches(',').split_once(" => ").expect("a number for each reason");
+        let name = in_capitals(name.trim_end_matches("(_)"));
+        found.insert(format!("CATHAR_REFUSED_{name}"), number(of));
+    }
+    assert!(numbers.contains("Answer::Done(_) => 0,"), "an acceptance is 0");
+    assert!(text("crates/leaves/src/words.rt").contains("if -65536.0 <= x { x <= 65536.0 }"), "what is in range");
+    found.insert(String::from("CATHAR_ACCEPTED"), 0);
+    found.insert(String::from("CATHAR_LOUDEST"), 65_536);
+    for (name, of, source) in [
+        ("MOST_SAMPLES", "MOST_SAMPLES", "crates/recording/src/open.rt"),
+        ("MOST_BY_MODEL", "MAX_SOLVE", "crates/inpaint/src/window.rt"),
+        ("MOST_RATE", "MOST_RATE", "crates/inpaint/src/auto.rt"),
+        ("LEAST_BITS", "LEAST_BITS", "crates/dequant/src/lattice.rt"),
+        ("MOST_BITS", "MOST_BITS", "crates/dequant/src/lattice.rt"),
+        ("MOST_ITERATIONS", "MOST_ITERATIONS", "crates/dequant/src/cosparse.rt"),
+    ] {
+        found.insert(format!("CATHAR_{name}"), constant(of, source));
+    }
+    found
+}
+
+#[test]
+fn names_as_in_the_sources() {
+    assert_eq!(defined(), in_sources());
+}
+
+/// What the header's functions on memory give for each of these lines of three numbers, n, start and length: what a gap
+/// needs, what is enough for any gap up to that length, what a repair over the whole recording needs, and the journal
+/// for so many repairs. They are compiled and run as a C program.
+fn given(lines: &str) -> String {
+    let folder = Path::new(env!("CARGO_TARGET_TMPDIR"));
+    let (source, program) = (folder.join("needs.c"), folder.join("needs"));
+    let set = |name: &str, otherwise: &str| env::var(name).unwrap_or_else(|_| String::from(otherwise));
+    fs::write(&source, NEEDS).expect("the program's text is written");
+    let flags = ["-std=c99", "-Wall", "-Wextra", "-pedantic", "-Werror", "-I"];
+    let mut compiler = Command::new(set(LINKER, "cc"));
+    compiler.args(flags).arg(file("include")).arg(&source).arg("-o").arg(&program);
+    assert!(compiler.status().expect("the compiler runs").success(), "{compiler:?}");
+    let mut command = Command::new(set(RUNNER, "env"));
+    let mut running = command.arg(&program).stdin(Stdio::piped()).stdout(Stdio::piped()).spawn().expect("it runs");
+    let mut input = running.stdin.take().expect("its input is a pipe");
+    let lines = String::from(lines);
+    let writer = std::thread::spawn(move || input.write_all(lines.as_bytes()));
+    let output = running.wait_with_output().expect("it ends");
+    writer.join().expect("the writer ends").expect("all lines are read");
+    String::from_utf8(output.stdout).expect("it prints text")
+}
+
+/// The program.
+const NEEDS: &str = "#include \"cathar.h\"
+#include <stdio.h>
+int main(void)
+{
+    size_t n, start, len;
+    while (scanf(\"%zu %zu %zu\", &n, &start, &len) == 3)
+        printf(\"%zu %zu %zu %zu\\n\", cathar_gap_work(n, start, len), cathar_longest_gap_work(n, len),
+               cathar_whole_work(n), cathar_journal_words(n, len));
+    return 0;
+}
+";
+
+/// Numbers on which something turns, and their neighbours.
+const EDGES: [usize; 12] = [0, 1, 2, 32, 128, 256, 1024, 2048, 3000, 16_384, 20_000, MOST_SAMPLES];
+
+/// What is enough for any gap up to this length among n samples, by trying each length that is not by line, at the
+/// middle, which needs no less than any other place, and at every place where there are few.
+fn enough(n: usize, longest: usize) -> usize {
+    let most = longest.min(n);
+    let needed = |len: usize| {
+        let middle = Gap { start: (n - len) / 2, len }.needed(n);
+        let places = if n <= 40 { 0..n - len + 1 } else { 0..0 };
+        places.map(|start| Gap { start, len }.needed(n)).fold(middle, usize::max)
+    };
+    let by_model = (1..=most.min(2048)).map(needed).max().unwrap_or(0);
+    if most > 2048 {
+        by_model.max(most)
+    } else {
+        by_model
+    }
+}
+
+#[test]
+fn memory_as_needed() {
+    let edges: Vec<usize> = EDGES.iter().flat_map(|at| [at.saturating_sub(1), *at, at + 1]).collect();
+    let (mut lines, mut expected) = (String::new(), String::new());
+    for &n in edges.iter().filter(|n| **n <= MOST_SAMPLES) {
+        for &len in &edges {
+            let enough = enough(n, len);
+            for start in [0, 1, 5, 1023, 1024, 1025, n / 2, n.saturating_sub(len), n.saturating_sub(1), n, usize::MAX] {
+                let within = len > 0 && start < n && len <= n - start;
+                let gap = if within { Gap { start, len }.needed(n) } else { 0 };
+                lines += &format!("{n} {start} {len}\n");
+                expected += &format!("{gap} {enough} {} {}\n", whole::needed(n), len * entry_words(n));
+            }
+        }
+    }
+    assert!(given(&lines) == expected, "what the header's functions give is not what is needed");
+    println!("what the header's functions give for {} cases is what is needed", expected.lines().count());
 }
 
 #[test]
