@@ -298,3 +298,29 @@ fn where_the_original_writes_nan() {
     assert!(!found.is_empty());
     count.close(1);
 }
+
+/// What the original's scan makes of `[1, 0, 0, 1]` at settings that the rules do not allow: where the run of two is
+/// within its limit, it becomes -0 and 0.
+#[test]
+fn where_the_original_takes_any_setting() {
+    let mut count: Scans = Count::new("where the original takes any setting", &[]);
+    count.begin("refused by the rules");
+    let samples = [1.0f32, 0.0, 0.0, 1.0];
+    for (rate, max_gap_ms, within) in [
+        (MOST_RATE + 1, 1.0, true),
+        (1, f32::INFINITY, true),
+        (48_000, f32::INFINITY, true),
+        (0, f32::INFINITY, false),
+        (48_000, f32::NEG_INFINITY, false),
+        (0, f32::NEG_INFINITY, false),
+        (48_000, f32::NAN, false),
+    ] {
+        let after = original::inpaint_auto(&samples, rate, max_gap_ms);
+        let words = |samples: &[f32]| samples.iter().map(|x| x.to_bits()).collect::<Vec<u32>>();
+        assert_eq!(words(&after) != words(&samples), within, "rate {rate}, {max_gap_ms} ms: {after:?}");
+        let model = room::recording(&mut Draw::new(1), words(&samples), 100);
+        let scan = scan(&mut count, &mut Both::new(model), (rate, max_gap_ms), vec![1; 1000]);
+        assert_eq!(scan, Scan::Refused(4));
+    }
+    count.close(1);
+}

@@ -63,3 +63,12 @@ fn of_declips() {
     println!("the shortest fill with a result that is not in range has {fewest:?} steps");
     assert_eq!(fewest, Some(8195));
 }
+
+/// Fewer than 5 samples `dequantize_cosparse` leaves alone, and fewer than 8 `decrackle`.
+#[test]
+fn of_the_others() {
+    let after = original::dequantize_cosparse(&[-MOST, MOST, MOST, MOST, -MOST], 4, 1.0, 1);
+    assert_eq!(after[2], 65536.0625);
+    let after = original::decrackle(&[-MOST, MOST, MOST, MOST, 0.0, 0.0, 0.0, 0.0], 5.0);
+    assert!((after[3] - 77672.3).abs() < 0.1, "{after:?}");
+}
