@@ -96,15 +96,16 @@ check_original() {
     }
 }
 
-# Where the machine is not x86-64: the original as a program of the machine's own processor, by the machine's own
-# cargo. The tests that find CATHAR_SECOND set ask it too, for everything that they ask the original under the emulator.
+# On Arm: the original as a program of the machine's own processor, by the machine's own cargo (that of Debian's
+# packages, where it has no other). The tests that find CATHAR_SECOND set ask it too, for everything that they ask the
+# original under the emulator.
 build_second() {
-    [ "$(uname -m)" != x86_64 ] || return 0
-    need cargo
+    [ "$(uname -m)" = aarch64 ] || return 0
+    set_up_arm
     cargo build --release --locked --quiet --manifest-path original/Cargo.toml --target-dir target/own
     CATHAR_SECOND=$(pwd)/target/own/release/answers
     export CATHAR_SECOND
-    say "the original is also asked as a program of $(uname -m), by $(cargo --version)"
+    say "the original is also asked as a program of $(uname -m), by $(rustc --version)"
 }
 
 cd "$(dirname "$0")/.."
