@@ -148,6 +148,10 @@ fn decrackles() {
         let how = settings::decrackle(draw, samples);
         repair_any(&mut count, draw, samples, how);
     });
+    count.begin("a click at the limit, in silence");
+    crackled::at_limit(&mut |samples, how| {
+        repair_any(&mut count, &mut draw, samples, how);
+    });
     count.begin("every sensitivity, on samples with clicks");
     decrackle_clicked(&mut count, &mut draw);
     repair_refused(&mut count, &mut draw, &limits::decrackle());

@@ -2,6 +2,7 @@
 use super::calls::Call;
 use cathar_host::count::Class;
 use cathar_host::draw::Draw;
+use cathar_host::settings;
 use cathar_host::whole::{flagged, floats, Repair};
 use std::ops::Range;
 
@@ -30,6 +31,28 @@ pub fn each(draw: &mut Draw, put: &mut dyn FnMut(&mut Draw, &[u32])) {
             put(draw, &samples);
         }
     }
+}
+
+/// Hands on silence with one click in it, at which the detector's magnitude is just the limit by the least floor, or one
+/// step below it or above. The floor has to have fallen below 1e-6 by then, so that there are some samples before.
+pub fn at_limit(put: &mut dyn FnMut(&[u32], Repair)) {
+    for sensitivity in settings::SENSITIVITIES {
+        let limit = (12.0 - sensitivity.clamp(1.0, 10.0)) * 1e-6f32;
+        for word in limit.to_bits() - 1..limit.to_bits() + 2 {
+            for place in 1..40 {
+                let mut samples = vec![0; 41];
+                samples[place] = word;
+                put(&samples, Repair::Decrackle { sensitivity });
+            }
+        }
+    }
+}
+
+/// Whether a sample is not flagged whose detector's magnitude is just the limit by the least floor.
+fn is_at_limit(call: &Call) -> bool {
+    let limit = (12.0 - sensitivity(call).clamp(1.0, 10.0)) * 1e-6f32;
+    let silence_but = |word: &&u32| **word != 0;
+    call.is_accepted() && call.before.0.iter().filter(silence_but).eq([&limit.to_bits()])
 }
 
 fn sensitivity(call: &Call) -> f32 {
@@ -80,6 +103,7 @@ pub const CLASSES: &[Class<Call>] = &[
     Class { name: "a run to place n-3", least: 500, holds: |c| any_run(c, |run| run.end == c.n() - 2) },
     Class { name: "two runs, one sample between", least: 500, holds: |c| are_apart(c, 1) },
     Class { name: "two runs, two samples between", least: 500, holds: |c| are_apart(c, 2) },
+    Class { name: "a click just at the limit", least: 500, holds: |c| !c.names() && is_at_limit(c) },
     Class { name: "answered 8", least: 100, holds: |c| c.number() == 8 },
     Class { name: "answered 8 past the first named", least: 10, holds: is_past_first },
 ];

@@ -5,12 +5,12 @@ use crate::lent::{Lent, GUARDS};
 use crate::recording::{entry_words, in_range, Answer, Recording};
 use crate::whole::{floats, needed};
 use crate::wrong::How::Library;
-use crate::wrong::{Standin, Table};
+use crate::wrong::{Finds, Standin, Table};
 
 pub(super) const IN_DECLIPS: Table = Table {
     file: "whole",
     test: "declips",
-    right: false,
+    finds: Finds::Always,
     standins: &[
         Standin {
             name: "whole_7_at_last",
@@ -48,7 +48,7 @@ pub(super) const IN_DECLIPS: Table = Table {
 pub(super) const IN_DECRACKLES: Table = Table {
     file: "whole",
     test: "decrackles",
-    right: false,
+    finds: Finds::Always,
     standins: &[
         Standin {
             name: "whole_7_only_if_named",
@@ -91,7 +91,7 @@ pub(super) const IN_DECRACKLES: Table = Table {
 pub(super) const IN_DEQUANTIZES: Table = Table {
     file: "whole",
     test: "dequantizes",
-    right: false,
+    finds: Finds::Always,
     standins: &[
         Standin {
             name: "whole_4_after_7",
@@ -134,7 +134,7 @@ pub(super) const IN_DEQUANTIZES: Table = Table {
 pub(super) const IN_COSPARSE: Table = Table {
     file: "whole",
     test: "cosparse",
-    right: false,
+    finds: Finds::Always,
     standins: &[
         Standin {
             name: "whole_work_cleared_after_7",

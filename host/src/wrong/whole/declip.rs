@@ -5,12 +5,12 @@ use crate::lent::Lent;
 use crate::recording::{entry_words, Answer};
 use crate::whole::{fills, floats, Repair};
 use crate::wrong::How::Library;
-use crate::wrong::{Standin, Table};
+use crate::wrong::{Finds, Standin, Table};
 
 pub(super) const WRONG: Table = Table {
     file: "whole",
     test: "declips",
-    right: false,
+    finds: Finds::Always,
     standins: &[
         Standin {
             name: "declip_marks_clipped_only",
@@ -99,7 +99,7 @@ pub(super) const WRONG: Table = Table {
 pub(super) const RIGHT: Table = Table {
     file: "whole",
     test: "declips",
-    right: true,
+    finds: Finds::Never,
     standins: &[Standin {
         name: "declip_z_from_e",
         says: "z is min(e+4, n-1), without holding e to n-1 first, which gives the same",

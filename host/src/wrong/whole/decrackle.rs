@@ -4,13 +4,13 @@ use crate::call::Call;
 use crate::lent::Lent;
 use crate::whole::{flagged, floats, Repair};
 use crate::wrong::How::Library;
-use crate::wrong::{Standin, Table};
+use crate::wrong::{Finds, Standin, Table};
 use std::ops::Range;
 
 pub(super) const WRONG: Table = Table {
     file: "whole",
     test: "decrackles",
-    right: false,
+    finds: Finds::Always,
     standins: &[
         Standin {
             name: "decrackle_floor_after_flag",

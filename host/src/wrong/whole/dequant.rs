@@ -4,12 +4,12 @@ use crate::call::Call;
 use crate::lent::Lent;
 use crate::whole::Repair;
 use crate::wrong::How::Library;
-use crate::wrong::{Standin, Table};
+use crate::wrong::{Finds, Standin, Table};
 
 pub(super) const WRONG: Table = Table {
     file: "whole",
     test: "dequantizes",
-    right: false,
+    finds: Finds::Always,
     standins: &[
         Standin {
             name: "dequantize_first_on_snapshot",
@@ -73,7 +73,7 @@ pub(super) const WRONG: Table = Table {
 pub(super) const RIGHT: Table = Table {
     file: "whole",
     test: "dequantizes",
-    right: true,
+    finds: Finds::Never,
     standins: &[Standin {
         name: "dequantize_second_on_4",
         says: "there is a second pass on 4 samples as well, which has no place to write to",
@@ -84,7 +84,7 @@ pub(super) const RIGHT: Table = Table {
 pub(super) const WRONG_COSPARSE: Table = Table {
     file: "whole",
     test: "cosparse",
-    right: false,
+    finds: Finds::Always,
     standins: &[
         Standin {
             name: "cosparse_17_iterations",
