@@ -9,6 +9,7 @@ mod sequences {
     pub mod calls;
     pub mod classes;
     pub mod history;
+    pub mod slips;
 }
 
 use cathar_host::both::Wrong;

@@ -1,3 +1,666 @@
-use super::Table;
+//! Stand-ins for the test of sequences: for the model alone, for the library alone where only a sequence shows it, for
+//! both alike, and for the test's account.
+use super::How::{Account, Alike, Library, Model};
+use super::{Alters, Finds, Standin, Table};
+use crate::call::Call;
+use crate::lent::Lent;
+use crate::recording::{entry_words, Recording};
+use crate::whole::floats;
+use std::cell::Cell;
 
-pub(super) const TABLES: &[Table] = &[];
+pub(super) const TABLES: &[Table] = &[
+    Table { file: "sequences", test: "all_calls", finds: Finds::Always, standins: OF_MODEL },
+    Table { file: "sequences", test: "all_calls", finds: Finds::Always, standins: OF_LIBRARY },
+    Table { file: "sequences", test: "all_calls", finds: Finds::Always, standins: OF_BOTH_AT_ONCE },
+    Table { file: "sequences", test: "all_calls", finds: Finds::Always, standins: OF_BOTH_BY_REPLAY },
+    Table { file: "sequences", test: "all_calls", finds: Finds::Always, standins: OF_BOTH_BY_UNDOING_ALL },
+    Table { file: "sequences", test: "all_calls", finds: Finds::Always, standins: OF_BOTH_BY_EITHER },
+    Table { file: "sequences", test: "all_calls", finds: Finds::Always, standins: OF_ACCOUNT },
+];
+
+const OF_MODEL: &[Standin] = &[
+    Standin {
+        name: "seq_model_undo_keeps_marks",
+        says: "the model's undo gives back the words and not the marks",
+        how: Model(undo_keeps_marks),
+    },
+    Standin {
+        name: "seq_model_undo_keeps_words",
+        says: "the model's undo gives back the marks and not the words",
+        how: Model(undo_keeps_words),
+    },
+    Standin {
+        name: "seq_model_undo_keeps_journal",
+        says: "the model's undo leaves the freed journal words",
+        how: Model(undo_keeps_journal),
+    },
+    Standin {
+        name: "seq_model_undo_keeps_used",
+        says: "the model's undo leaves used",
+        how: Model(|call, before, after| {
+            if call == Call::Undo {
+                after.used = before.used;
+            }
+        }),
+    },
+    Standin {
+        name: "seq_model_undo_marks_measured",
+        says: "the model's undo sets marks to 0 instead of giving back the old ones",
+        how: Model(undo_marks_measured),
+    },
+    Standin {
+        name: "seq_model_later_only_mark",
+        says: "the model's repairs from the second on only mark",
+        how: Model(later_only_mark),
+    },
+    Standin {
+        name: "seq_model_last_named_not_marked",
+        says: "the model's repairs do not mark the last sample that they name",
+        how: Model(|_, before, after| {
+            if let Some(place) = named(before, after).last().map(|at| after.journal[*at] as usize) {
+                after.marks[place] = before.marks[place];
+            }
+        }),
+    },
+    Standin {
+        name: "seq_model_entry_has_new_word",
+        says: "the model's entries have the new word for the old one",
+        how: Model(entry_has_new_word),
+    },
+    Standin {
+        name: "seq_model_entry_has_new_mark",
+        says: "the model's entries have the new mark for the old one",
+        how: Model(entry_has_new_mark),
+    },
+    Standin {
+        name: "seq_model_scan_enters_first_run",
+        says: "the model's scan enters only its first run",
+        how: Model(scan_enters_first_run),
+    },
+    Standin {
+        name: "seq_model_open_keeps_last_word",
+        says: "the model's opening leaves the last journal word",
+        how: Model(|call, before, after| {
+            if let (Call::Open, Some(word)) = (call, after.journal.last_mut()) {
+                *word = before.journal[before.journal.len() - 1];
+            }
+        }),
+    },
+    Standin {
+        name: "seq_model_open_keeps_marks",
+        says: "the model's opening leaves the marks",
+        how: Model(open_keeps_marks),
+    },
+    Standin {
+        name: "seq_model_open_keeps_used",
+        says: "the model's opening leaves used",
+        how: Model(|call, before, after| {
+            if call == Call::Open {
+                after.used = before.used;
+            }
+        }),
+    },
+];
+
+/// These are right on a recording that was just opened.
+const OF_LIBRARY: &[Standin] = &[
+    Standin {
+        name: "seq_made_sample_keeps_mark",
+        says: "a repair leaves the mark of a sample that a repair made before",
+        how: Library(|lent, call| altered(lent, call, made_sample_keeps_mark)),
+    },
+    Standin {
+        name: "seq_made_sample_keeps_word",
+        says: "a repair marks a sample that a repair made before, and leaves its word",
+        how: Library(|lent, call| altered(lent, call, made_sample_keeps_word)),
+    },
+    Standin {
+        name: "seq_made_sample_enters_mark_0",
+        says: "an entry has 0 for the old mark of a sample that a repair made before",
+        how: Library(|lent, call| altered(lent, call, made_sample_enters_mark_0)),
+    },
+    Standin {
+        name: "seq_made_sample_enters_raw_word",
+        says: "an entry has the raw word for the old word of a sample that a repair made before",
+        how: Library(|lent, call| altered(lent, call, made_sample_enters_raw_word)),
+    },
+    Standin {
+        name: "seq_later_entry_at_start",
+        says: "where the journal has an entry already, the next is written at the journal's start",
+        how: Library(|lent, call| altered(lent, call, later_entry_at_start)),
+    },
+    Standin {
+        name: "seq_later_only_mark",
+        says: "repairs from the second on only mark",
+        how: Library(|lent, call| altered(lent, call, later_only_mark)),
+    },
+    Standin {
+        name: "seq_later_does_not_fill_journal",
+        says: "where the journal has an entry already, one that takes all free words is refused with 9",
+        how: Library(later_does_not_fill_journal),
+    },
+    Standin {
+        name: "seq_after_undo_only_mark",
+        says: "once something was undone, repairs only mark",
+        how: Library(|lent, call| altered(lent, call, after_undo_only_mark)),
+    },
+    Standin {
+        name: "seq_undo_marks_measured",
+        says: "undo sets marks to 0, also of a sample that an earlier repair made",
+        how: Library(|lent, call| altered(lent, call, undo_marks_measured)),
+    },
+    Standin {
+        name: "seq_undo_gives_raw_word",
+        says: "undo gives back the raw word, also of a sample that an earlier repair made",
+        how: Library(|lent, call| altered(lent, call, undo_gives_raw_word)),
+    },
+    Standin {
+        name: "seq_undo_keeps_journal_with_entries",
+        says: "undo leaves the freed journal words where an entry is left",
+        how: Library(|lent, call| altered(lent, call, undo_keeps_journal_with_entries)),
+    },
+];
+
+/// On both sides, and to be found after a call by what has to hold whatever the model says.
+const OF_BOTH_AT_ONCE: &[Standin] = &[
+    Standin {
+        name: "seq_both_changed_not_marked",
+        says: "a repair leaves a sample that it changes marked as measured",
+        how: Alike(changed_not_marked),
+    },
+    Standin {
+        name: "seq_both_measured_changed",
+        says: "a repair changes a measured sample that it does not name",
+        how: Alike(measured_changed),
+    },
+    Standin {
+        name: "seq_both_entry_has_new_word",
+        says: "entries have the new word for the old one",
+        how: Alike(entry_has_new_word),
+    },
+    Standin {
+        name: "seq_both_entry_has_place_before",
+        says: "entries have for each place the one before it",
+        how: Alike(entry_has_place_before),
+    },
+    Standin {
+        name: "seq_both_entry_a_place_too_few",
+        says: "entries lack the last sample that is named",
+        how: Alike(entry_a_place_too_few),
+    },
+    Standin {
+        name: "seq_both_used_not_raised",
+        says: "repairs do not raise used",
+        how: Alike(|_, before, after| after.used = after.used.min(before.used)),
+    },
+    Standin {
+        name: "seq_both_undo_marks_measured",
+        says: "undo sets marks to 0 instead of giving back the old ones",
+        how: Alike(undo_marks_measured),
+    },
+    Standin {
+        name: "seq_both_undo_keeps_words",
+        says: "undo gives back the marks and not the words",
+        how: Alike(undo_keeps_words),
+    },
+    Standin {
+        name: "seq_both_refused_gap_changes_mark",
+        says: "the repair of a gap changes the first mark where it is refused",
+        how: Alike(refused_gap_changes_mark),
+    },
+    Standin {
+        name: "seq_both_refused_undo_changes_mark",
+        says: "an undo with used 0 changes the first mark",
+        how: Alike(refused_undo_changes_mark),
+    },
+    Standin {
+        name: "seq_both_naming_none_enters",
+        says: "a repair that names nothing appends an entry",
+        how: Alike(naming_none_enters),
+    },
+    Standin {
+        name: "seq_both_scan_enters_first_run",
+        says: "a scan enters only its first run",
+        how: Alike(scan_enters_first_run),
+    },
+    Standin {
+        name: "seq_both_scan_enters_runs_reversed",
+        says: "a scan enters its last run first",
+        how: Alike(scan_enters_runs_reversed),
+    },
+    Standin {
+        name: "seq_both_open_changes_sample",
+        says: "opening changes the first sample",
+        how: Alike(open_changes_sample),
+    },
+];
+
+/// On both sides, and to be found only when the survivors are made alone.
+const OF_BOTH_BY_REPLAY: &[Standin] = &[
+    Standin {
+        name: "seq_both_made_changed",
+        says: "a repair changes a sample that it does not name and that a repair made before",
+        how: Alike(made_changed),
+    },
+    Standin {
+        name: "seq_both_made_sample_enters_word_0",
+        says: "an entry has 0 for the old word of a sample that a repair made before",
+        how: Alike(made_sample_enters_word_0),
+    },
+    Standin {
+        name: "seq_both_later_only_mark",
+        says: "repairs from the second on only mark, though not the later runs of a scan",
+        how: Alike(later_only_mark),
+    },
+    Standin {
+        name: "seq_both_after_undo_only_mark",
+        says: "once something was undone, repairs only mark",
+        how: Alike(after_undo_only_mark),
+    },
+    Standin {
+        name: "seq_both_undo_keeps_made_words",
+        says: "undo does not give back the word of a sample that an earlier repair made",
+        how: Alike(undo_keeps_made_words),
+    },
+];
+
+/// On both sides, and to be found only when all is undone.
+const OF_BOTH_BY_UNDOING_ALL: &[Standin] = &[Standin {
+    name: "seq_both_open_marks_1",
+    says: "opening sets all marks to 1",
+    how: Alike(|call, _, after| {
+        if call == Call::Open {
+            after.marks.fill(1);
+        }
+    }),
+}];
+
+/// On both sides, and to be found by either of the two.
+const OF_BOTH_BY_EITHER: &[Standin] = &[
+    Standin {
+        name: "seq_both_marks_one_more",
+        says: "a repair marks the sample before those that it names too",
+        how: Alike(marks_one_more),
+    },
+    Standin {
+        name: "seq_both_entry_has_new_mark",
+        says: "entries have the new mark for the old one",
+        how: Alike(entry_has_new_mark),
+    },
+    Standin {
+        name: "seq_both_undo_keeps_marks",
+        says: "undo gives back the words and not the marks",
+        how: Alike(undo_keeps_marks),
+    },
+    Standin {
+        name: "seq_both_undo_keeps_words_and_marks",
+        says: "undo gives back neither words nor marks",
+        how: Alike(undo_keeps_words_and_marks),
+    },
+    Standin {
+        name: "seq_both_undo_misses_last",
+        says: "undo does not give back the last sample of an entry",
+        how: Alike(undo_misses_last),
+    },
+    Standin {
+        name: "seq_both_undo_keeps_journal",
+        says: "undo leaves the freed journal words",
+        how: Alike(undo_keeps_journal),
+    },
+    Standin { name: "seq_both_open_keeps_marks", says: "opening leaves the marks", how: Alike(open_keeps_marks) },
+    Standin {
+        name: "seq_both_open_keeps_journal",
+        says: "opening leaves the journal words",
+        how: Alike(open_keeps_journal),
+    },
+    Standin {
+        name: "seq_both_open_enters_number",
+        says: "opening writes the number of samples in the last journal word",
+        how: Alike(open_enters_number),
+    },
+];
+
+/// What each does is in the test's own files.
+const OF_ACCOUNT: &[Standin] = &[
+    Standin {
+        name: "seq_account_undo_takes_first",
+        says: "in the account an undo takes off the first survivor instead of the last",
+        how: Account,
+    },
+    Standin { name: "seq_account_undo_takes_none", says: "in the account an undo takes off no survivor", how: Account },
+    Standin {
+        name: "seq_account_undo_takes_two",
+        says: "in the account an undo takes off two survivors",
+        how: Account,
+    },
+    Standin { name: "seq_account_scan_is_one", says: "in the account a scan is one survivor", how: Account },
+    Standin {
+        name: "seq_account_scan_is_last_run",
+        says: "in the account only the last run of a scan survives",
+        how: Account,
+    },
+    Standin { name: "seq_account_m_one_more", says: "in the account m is one too many", how: Account },
+    Standin {
+        name: "seq_account_open_keeps_survivors",
+        says: "in the account an opening does not begin anew",
+        how: Account,
+    },
+    Standin { name: "seq_account_refused_survives", says: "in the account a refused repair survives", how: Account },
+    Standin {
+        name: "seq_account_naming_none_survives",
+        says: "in the account a repair that names nothing survives",
+        how: Account,
+    },
+    Standin { name: "seq_account_gap_one_longer", says: "in the account a gap is one sample longer", how: Account },
+    Standin { name: "seq_account_gap_one_later", says: "in the account a gap starts one sample later", how: Account },
+    Standin {
+        name: "seq_account_strength_halved",
+        says: "in the account the strength of dequantize is half of what it was",
+        how: Account,
+    },
+    Standin {
+        name: "seq_account_last_two_swapped",
+        says: "in the account the last two survivors have changed places",
+        how: Account,
+    },
+];
+
+/// The library makes the call, and what it left is altered.
+fn altered(lent: &mut Lent, call: Call, alters: Alters) -> u32 {
+    let before = lent.recording();
+    let number = lent.call(call);
+    let mut after = lent.recording();
+    alters(call, &before, &mut after);
+    lent.put(&after);
+    number
+}
+
+/// The entries from this word on up to used: where each starts, and how many samples it names.
+fn entries(of: &Recording, from: usize) -> Vec<(usize, usize)> {
+    let mut found = Vec::new();
+    let mut end = of.used;
+    while end > from {
+        let m = of.journal[end - 2] as usize;
+        end -= entry_words(m);
+        found.push((end, m));
+    }
+    found.reverse();
+    found
+}
+
+/// Where the entries from this word on have a sample: the place, and after it the old word and the old mark.
+fn samples_of(of: &Recording, from: usize) -> Vec<usize> {
+    entries(of, from).into_iter().flat_map(|(start, m)| (start..start + 3 * m).step_by(3)).collect()
+}
+
+/// Where the journal has the samples that a call has named.
+fn named(before: &Recording, after: &Recording) -> Vec<usize> {
+    samples_of(after, before.used)
+}
+
+/// Where the journal has those of them that a repair had made before.
+fn named_made(before: &Recording, after: &Recording) -> Vec<usize> {
+    let made = |at: &usize| before.marks[after.journal[*at] as usize] != 0;
+    named(before, after).into_iter().filter(made).collect()
+}
+
+/// The place before the first that a call has named, if there is one.
+fn before_named(before: &Recording, after: &Recording) -> Option<usize> {
+    named(before, after).first().and_then(|at| (after.journal[*at] as usize).checked_sub(1))
+}
+
+/// The places that an undo has taken back.
+fn taken_back(call: Call, before: &Recording, after: &Recording) -> Vec<usize> {
+    let samples = if call == Call::Undo { samples_of(before, after.used) } else { Vec::new() };
+    samples.into_iter().map(|at| before.journal[at] as usize).collect()
+}
+
+/// The word that a sample of this place had before the first entry that names it.
+fn raw_word(of: &Recording, place: usize) -> Option<u32> {
+    samples_of(of, 0).into_iter().find(|at| of.journal[*at] as usize == place).map(|at| of.journal[at + 1])
+}
+
+fn undo_keeps_marks(call: Call, before: &Recording, after: &mut Recording) {
+    if call == Call::Undo {
+        after.marks = before.marks.clone();
+    }
+}
+
+fn undo_keeps_words(call: Call, before: &Recording, after: &mut Recording) {
+    if call == Call::Undo {
+        after.samples = before.samples.clone();
+    }
+}
+
+fn undo_keeps_words_and_marks(call: Call, before: &Recording, after: &mut Recording) {
+    undo_keeps_words(call, before, after);
+    undo_keeps_marks(call, before, after);
+}
+
+fn undo_keeps_journal(call: Call, before: &Recording, after: &mut Recording) {
+    if call == Call::Undo {
+        after.journal = before.journal.clone();
+    }
+}
+
+fn undo_keeps_journal_with_entries(call: Call, before: &Recording, after: &mut Recording) {
+    if after.used > 0 {
+        undo_keeps_journal(call, before, after);
+    }
+}
+
+fn undo_marks_measured(call: Call, before: &Recording, after: &mut Recording) {
+    for place in taken_back(call, before, after) {
+        after.marks[place] = 0;
+    }
+}
+
+fn undo_keeps_made_words(call: Call, before: &Recording, after: &mut Recording) {
+    for place in taken_back(call, before, after) {
+        if after.marks[place] != 0 {
+            after.samples[place] = before.samples[place];
+        }
+    }
+}
+
+fn undo_gives_raw_word(call: Call, before: &Recording, after: &mut Recording) {
+    for place in taken_back(call, before, after) {
+        after.samples[place] = raw_word(after, place).unwrap_or(after.samples[place]);
+    }
+}
+
+fn undo_misses_last(call: Call, before: &Recording, after: &mut Recording) {
+    if let Some(place) = taken_back(call, before, after).last() {
+        after.samples[*place] = before.samples[*place];
+        after.marks[*place] = before.marks[*place];
+    }
+}
+
+fn refused_undo_changes_mark(call: Call, before: &Recording, after: &mut Recording) {
+    if call == Call::Undo && before.used == 0 {
+        after.marks.iter_mut().take(1).for_each(|mark| *mark ^= 1);
+    }
+}
+
+fn later_only_mark(_: Call, before: &Recording, after: &mut Recording) {
+    if before.used > 0 && after.used > before.used {
+        after.samples = before.samples.clone();
+    }
+}
+
+thread_local! {
+    /// Whether something was undone since the last opening.
+    static UNDONE: Cell<bool> = Cell::new(false);
+}
+
+fn after_undo_only_mark(call: Call, before: &Recording, after: &mut Recording) {
+    if call == Call::Open || after.used < before.used {
+        UNDONE.with(|undone| undone.set(call == Call::Undo));
+    } else if UNDONE.with(Cell::get) {
+        after.samples = before.samples.clone();
+    }
+}
+
+fn later_entry_at_start(_: Call, before: &Recording, after: &mut Recording) {
+    if before.used > 0 && after.used > before.used {
+        let entry = after.journal[before.used..after.used].to_vec();
+        after.journal = before.journal.clone();
+        after.journal[..entry.len()].copy_from_slice(&entry);
+    }
+}
+
+fn later_does_not_fill_journal(lent: &mut Lent, call: Call) -> u32 {
+    let before = lent.recording();
+    let number = lent.call(call);
+    let used = lent.used.lent()[0];
+    let is_single = matches!(call, Call::Gap { .. } | Call::Whole(_));
+    if is_single && before.used > 0 && used > before.used && used == before.journal.len() {
+        lent.put(&before);
+        lent.numbers[0].lend()[0] = 0;
+        return 9;
+    }
+    number
+}
+
+fn made_sample_keeps_mark(_: Call, before: &Recording, after: &mut Recording) {
+    for at in named_made(before, after) {
+        let place = after.journal[at] as usize;
+        after.marks[place] = before.marks[place];
+    }
+}
+
+fn made_sample_keeps_word(_: Call, before: &Recording, after: &mut Recording) {
+    for at in named_made(before, after) {
+        let place = after.journal[at] as usize;
+        after.samples[place] = before.samples[place];
+    }
+}
+
+fn made_sample_enters_mark_0(_: Call, before: &Recording, after: &mut Recording) {
+    for at in named_made(before, after) {
+        after.journal[at + 2] = 0;
+    }
+}
+
+fn made_sample_enters_word_0(_: Call, before: &Recording, after: &mut Recording) {
+    for at in named_made(before, after) {
+        after.journal[at + 1] = 0;
+    }
+}
+
+fn made_sample_enters_raw_word(_: Call, before: &Recording, after: &mut Recording) {
+    for at in named_made(before, after) {
+        after.journal[at + 1] = raw_word(before, after.journal[at] as usize).unwrap_or(after.journal[at + 1]);
+    }
+}
+
+fn entry_has_new_word(_: Call, before: &Recording, after: &mut Recording) {
+    for at in named(before, after) {
+        after.journal[at + 1] = after.samples[after.journal[at] as usize];
+    }
+}
+
+fn entry_has_new_mark(_: Call, before: &Recording, after: &mut Recording) {
+    for at in named(before, after) {
+        after.journal[at + 2] = after.marks[after.journal[at] as usize].into();
+    }
+}
+
+fn entry_has_place_before(_: Call, before: &Recording, after: &mut Recording) {
+    if before_named(before, after).is_some() {
+        for at in named(before, after) {
+            after.journal[at] -= 1;
+        }
+    }
+}
+
+fn entry_a_place_too_few(_: Call, before: &Recording, after: &mut Recording) {
+    if let Some((start, m)) = entries(after, before.used).pop() {
+        let (m_at, mark) = (start + 3 * (m - 1), after.journal[after.used - 1]);
+        after.journal[m_at..after.used].fill(0);
+        after.journal[m_at] = m as u32 - 1;
+        after.journal[m_at + 1] = mark;
+        after.used = m_at + 2;
+    }
+}
+
+fn scan_enters_first_run(call: Call, before: &Recording, after: &mut Recording) {
+    if let (Call::Scan { .. }, Some((second, _))) = (call, entries(after, before.used).get(1)) {
+        after.journal[*second..after.used].fill(0);
+        after.used = *second;
+    }
+}
+
+fn scan_enters_runs_reversed(call: Call, before: &Recording, after: &mut Recording) {
+    if let Call::Scan { .. } = call {
+        let entry = |(start, m): (usize, usize)| after.journal[start..start + entry_words(m)].to_vec();
+        let reversed: Vec<u32> = entries(after, before.used).into_iter().rev().flat_map(entry).collect();
+        after.journal[before.used..before.used + reversed.len()].copy_from_slice(&reversed);
+    }
+}
+
+fn changed_not_marked(_: Call, before: &Recording, after: &mut Recording) {
+    for at in named(before, after) {
+        let place = after.journal[at] as usize;
+        if after.samples[place] != before.samples[place] {
+            after.marks[place] = 0;
+        }
+    }
+}
+
+fn measured_changed(_: Call, before: &Recording, after: &mut Recording) {
+    if let Some(place) = before_named(before, after).filter(|place| after.marks[*place] == 0) {
+        after.samples[place] ^= 1;
+    }
+}
+
+fn made_changed(_: Call, before: &Recording, after: &mut Recording) {
+    if let Some(place) = before_named(before, after).filter(|place| after.marks[*place] != 0) {
+        after.samples[place] ^= 1;
+    }
+}
+
+fn marks_one_more(_: Call, before: &Recording, after: &mut Recording) {
+    if let Some(place) = before_named(before, after) {
+        after.marks[place] = after.marks[place + 1];
+    }
+}
+
+fn refused_gap_changes_mark(call: Call, before: &Recording, after: &mut Recording) {
+    if matches!(call, Call::Gap { .. }) && after.used == before.used {
+        after.marks.iter_mut().take(1).for_each(|mark| *mark ^= 1);
+    }
+}
+
+fn naming_none_enters(call: Call, before: &Recording, after: &mut Recording) {
+    if let Call::Whole(repair) = call {
+        if repair.named(&floats(&before.samples)).is_empty() && after.journal.len() - after.used >= entry_words(0) {
+            after.journal[after.used + 1] = repair.mark().into();
+            after.used += entry_words(0);
+        }
+    }
+}
+
+fn open_keeps_marks(call: Call, before: &Recording, after: &mut Recording) {
+    if call == Call::Open {
+        after.marks = before.marks.clone();
+    }
+}
+
+fn open_keeps_journal(call: Call, before: &Recording, after: &mut Recording) {
+    if call == Call::Open {
+        after.journal = before.journal.clone();
+    }
+}
+
+fn open_changes_sample(call: Call, _: &Recording, after: &mut Recording) {
+    if call == Call::Open {
+        after.samples.iter_mut().take(1).for_each(|word| *word ^= 1);
+    }
+}
+
+fn open_enters_number(call: Call, _: &Recording, after: &mut Recording) {
+    if let (Call::Open, Some(word)) = (call, after.journal.last_mut()) {
+        *word = after.samples.len() as u32;
+    }
+}

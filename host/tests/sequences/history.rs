@@ -1,5 +1,6 @@
 //! A recording with what has been done to it since it was opened: the raw words, and the repairs that survive.
 use super::calls::{Call, Outcome};
+use super::slips;
 use cathar_host::both::{Both, Wrong};
 use cathar_host::draw::Draw;
 use cathar_host::recording::{entry_words, Recording};
@@ -66,6 +67,7 @@ impl History {
             self.begin_anew(&before);
         }
         let over = self.survive(&before, call, &outcome);
+        slips::slip(self, call, &outcome, undone);
         wrong.extend(self.broken(&before, call, &outcome));
         let (samples, free) = (before.samples.len(), before.journal.len().saturating_sub(before.used));
         (Step { call, outcome, samples, free, survivors, undone, over, after_undo }, wrong)

@@ -1,0 +1,127 @@
+//! Slips in what a history keeps account of: what the stand-ins for the account do.
+use super::calls::{Call, Outcome};
+use super::history::{History, Survivor};
+use cathar_host::whole::Repair;
+use cathar_host::wrong;
+use std::cell::RefCell;
+
+thread_local! {
+    /// The survivors after the call before.
+    static EARLIER: RefCell<Vec<Survivor>> = RefCell::new(Vec::new());
+}
+
+/// After a call of which the account is kept, it is altered as the stand-in for it says, if one stands there.
+pub fn slip(history: &mut History, call: Call, outcome: &Outcome, undone: Option<Survivor>) {
+    if let Some(name) = wrong::account() {
+        let alters = named(name);
+        alters(history, call, outcome, undone);
+        EARLIER.with(|earlier| *earlier.borrow_mut() = history.survivors.clone());
+    }
+}
+
+/// What a slip is told: the history, the call, what came of it, and the survivor that it took back.
+type Alters = fn(&mut History, Call, &Outcome, Option<Survivor>);
+
+/// The slip of this name.
+fn named(name: &str) -> Alters {
+    match name {
+        "seq_account_undo_takes_first" => undo_takes_first,
+        "seq_account_undo_takes_none" => |history, _, _, undone| history.survivors.extend(undone),
+        "seq_account_undo_takes_two" => undo_takes_two,
+        "seq_account_scan_is_one" => scan_is_one,
+        "seq_account_scan_is_last_run" => scan_is_last_run,
+        "seq_account_m_one_more" => {
+            |history, _, outcome, _| each_joined(history, outcome, |survivor, _| survivor.m += 1)
+        }
+        "seq_account_open_keeps_survivors" => open_keeps_survivors,
+        "seq_account_refused_survives" => refused_survives,
+        "seq_account_naming_none_survives" => naming_none_survives,
+        "seq_account_gap_one_longer" => |history, _, outcome, _| each_joined(history, outcome, gap_one_longer),
+        "seq_account_gap_one_later" => |history, _, outcome, _| each_joined(history, outcome, gap_one_later),
+        "seq_account_strength_halved" => |history, _, outcome, _| each_joined(history, outcome, strength_halved),
+        "seq_account_last_two_swapped" => last_two_swapped,
+        _ => panic!("the account has no slip {name}"),
+    }
+}
+
+/// Alters each survivor that a call has made. The number of samples is told.
+fn each_joined(history: &mut History, outcome: &Outcome, alter: impl Fn(&mut Survivor, usize)) {
+    let n = history.both.model.samples.len();
+    let joined = history.survivors.iter_mut().rev().take(outcome.named.len());
+    joined.for_each(|survivor| alter(survivor, n));
+}
+
+fn undo_takes_first(history: &mut History, _: Call, _: &Outcome, undone: Option<Survivor>) {
+    if let Some(last) = undone {
+        history.survivors.push(last);
+        history.survivors.remove(0);
+    }
+}
+
+fn undo_takes_two(history: &mut History, _: Call, _: &Outcome, undone: Option<Survivor>) {
+    if undone.is_some() {
+        history.survivors.pop();
+    }
+}
+
+fn scan_is_one(history: &mut History, call: Call, outcome: &Outcome, _: Option<Survivor>) {
+    if matches!(call, Call::Scan { .. }) {
+        let first = history.survivors.len() - outcome.named.len();
+        let runs = history.survivors.split_off(first);
+        let m = runs.iter().map(|run| run.m).sum();
+        history.survivors.extend(runs.first().map(|run| Survivor { call, m, ..*run }));
+    }
+}
+
+fn scan_is_last_run(history: &mut History, call: Call, outcome: &Outcome, _: Option<Survivor>) {
+    if matches!(call, Call::Scan { .. }) {
+        let first = history.survivors.len() - outcome.named.len();
+        let runs = history.survivors.split_off(first);
+        history.survivors.extend(runs.last());
+    }
+}
+
+fn open_keeps_survivors(history: &mut History, call: Call, _: &Outcome, _: Option<Survivor>) {
+    if call == Call::Open && history.opened > 1 {
+        history.survivors = EARLIER.with(|earlier| earlier.borrow().clone());
+    }
+}
+
+fn refused_survives(history: &mut History, call: Call, outcome: &Outcome, _: Option<Survivor>) {
+    if outcome.number != 0 && matches!(call, Call::Gap { .. } | Call::Whole { .. }) {
+        history.survivors.push(Survivor { call, m: 1, scan: None, over: false });
+    }
+}
+
+fn naming_none_survives(history: &mut History, call: Call, outcome: &Outcome, _: Option<Survivor>) {
+    if outcome.number == 0 && outcome.named.is_empty() && matches!(call, Call::Whole { .. }) {
+        history.survivors.push(Survivor { call, m: 0, scan: None, over: false });
+    }
+}
+
+fn gap_one_longer(survivor: &mut Survivor, n: usize) {
+    if let Call::Gap { gap, work, .. } = &mut survivor.call {
+        gap.len += 1;
+        *work = gap.needed(n);
+    }
+}
+
+fn gap_one_later(survivor: &mut Survivor, n: usize) {
+    if let Call::Gap { gap, work, .. } = &mut survivor.call {
+        gap.start += 1;
+        *work = gap.needed(n);
+    }
+}
+
+fn strength_halved(survivor: &mut Survivor, _: usize) {
+    if let Call::Whole { repair: Repair::Dequantize { strength, .. }, .. } = &mut survivor.call {
+        *strength /= 2.0;
+    }
+}
+
+fn last_two_swapped(history: &mut History, _: Call, outcome: &Outcome, _: Option<Survivor>) {
+    let count = history.survivors.len();
+    if count >= 2 && !outcome.named.is_empty() {
+        history.survivors.swap(count - 2, count - 1);
+    }
+}
