@@ -14,7 +14,7 @@ mod recording {
 use cathar_host::call::Call;
 use cathar_host::draw::{self, Draw};
 use cathar_host::lent::Lent;
-use cathar_host::recording::{Answer, Recording, MOST_SAMPLES};
+use cathar_host::recording::{entry_words, Answer, Recording, MOST_SAMPLES};
 use recording::built::{build, marks, words, Built};
 use recording::count::Count;
 use recording::damage::Damage;
@@ -71,6 +71,15 @@ fn undos() {
     let seed = draw::seed();
     let mut draw = Draw::new(seed);
     let mut count = Count::new("cathar_undo against the model", &[0, 1, 2, 3, 10, 11]);
+    count.begin("several refusals apply, few samples");
+    limits::small(&mut |recording| {
+        undo_all(&mut count, recording);
+    });
+    count.begin("beside the most samples");
+    limits::large(&mut |recording| {
+        undo_all(&mut count, recording);
+    });
+    assert_eq!(undo_all(&mut count, limits::longest()), Answer::Refused(10));
     count.begin("well-formed, to the raw words and once more");
     for _ in 0..BUILT {
         undo_built(&mut count, build(&mut draw));
@@ -87,15 +96,6 @@ fn undos() {
     short::each(&mut |recording| {
         undo_all(&mut count, recording);
     });
-    count.begin("several refusals apply, few samples");
-    limits::small(&mut |recording| {
-        undo_all(&mut count, recording);
-    });
-    count.begin("beside the most samples");
-    limits::large(&mut |recording| {
-        undo_all(&mut count, recording);
-    });
-    assert_eq!(undo_all(&mut count, limits::longest()), Answer::Refused(10));
     count.close(seed);
     count.close_clauses();
     assert!(count.calls() >= UNDOS, "fewer undos than {UNDOS}");
@@ -133,6 +133,8 @@ fn opens() {
     for _ in 0..1000 {
         open(&mut count, build(&mut draw).recording);
     }
+    count.begin("the longest journal that can be filled, and a word more");
+    open(&mut count, limits::recording(3, 3, &vec![9; entry_words(MOST_SAMPLES) + 1], 7));
     count.begin("beside the most samples");
     for (n, marks, number) in [
         (MOST_SAMPLES, MOST_SAMPLES, 0),

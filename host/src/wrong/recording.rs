@@ -60,6 +60,16 @@ const OPENINGS: &[Standin] = &[
         how: Library(|lent, _| open_and(lent, |lent, before| keeps_words_from(lent, before, before.used))),
     },
     Standin {
+        name: "open_clears_65536_words",
+        says: "opening clears the first 65,536 journal words only",
+        how: Library(|lent, _| open_and(lent, |lent, before| keeps_words_from(lent, before, 65_536))),
+    },
+    Standin {
+        name: "open_clears_most_samples_words",
+        says: "opening clears the first 1,048,576 journal words only",
+        how: Library(|lent, _| open_and(lent, |lent, before| keeps_words_from(lent, before, MOST_SAMPLES))),
+    },
+    Standin {
         name: "open_clears_word_past_journal",
         says: "opening clears one journal word too many",
         how: Library(|lent, _| open_and(lent, |lent, before| lent.journal.whole[GUARDS + before.journal.len()] = 0)),
@@ -298,6 +308,11 @@ const UNDO_REFUSALS: &[Standin] = &[
         name: "undo_misses_3_one_past",
         says: "undo does not give 3 where used exceeds the journal's length by one",
         how: Library(undo_misses_3_one_past),
+    },
+    Standin {
+        name: "undo_reads_used_as_32_bits",
+        says: "of used undo reads the last 32 binary digits",
+        how: Library(undo_reads_used_as_32_bits),
     },
     Standin {
         name: "undo_gives_3_for_full_journal",
@@ -809,6 +824,16 @@ fn undo_misses_3_one_past(lent: &mut Lent, call: Call) -> u32 {
     let journal = &mut lent.journal.whole[GUARDS..GUARDS + length + 1];
     let (used, value) = (&mut lent.used.lend()[0], &mut lent.numbers[0].lend()[0]);
     cathar::undo(lent.samples.lend(), lent.marks.lend(), journal, used, value)
+}
+
+fn undo_reads_used_as_32_bits(lent: &mut Lent, call: Call) -> u32 {
+    let used = lent.used.lent()[0];
+    lent.used.lend()[0] = used as u32 as usize;
+    let number = lent.call(call);
+    if number != 0 {
+        lent.used.lend()[0] = used;
+    }
+    number
 }
 
 fn undo_gives_3_for_full_journal(lent: &mut Lent, call: Call) -> u32 {

@@ -1,12 +1,15 @@
 //! Recordings at and past what refusals 1 to 3 and 10 allow, so that several numbers apply at once.
 use cathar_host::recording::{entry_words, Answer, Recording, MOST_SAMPLES};
 
-/// Hands on recordings of few samples: each number of marks, each journal and each used beside the right one.
+/// Hands on recordings of few samples: each number of marks, each journal and each used beside the right one, also where
+/// only its last 32 binary digits are.
 pub fn small(put: &mut dyn FnMut(Recording)) {
     for n in 0..4 {
         for marks in 0..5 {
             for journal in [&[][..], &[4], &[0, 3], &[0, 7, 9, 1, 2], &[6, 6, 0, 7, 9, 1, 2], &[0, 7, 9, 1, 2, 0, 0]] {
-                for used in (0..journal.len() + 3).chain([usize::MAX / 2, usize::MAX]) {
+                let beside = 0..journal.len() + 3;
+                let past_32_bits = beside.clone().map(|used| used + (1 << 32));
+                for used in beside.chain(past_32_bits).chain([usize::MAX / 2, usize::MAX]) {
                     put(recording(n, marks, journal, used));
                 }
             }
