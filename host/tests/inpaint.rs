@@ -102,23 +102,23 @@ fn repairs() {
     let seed = draw::seed();
     let mut draw = Draw::new(seed);
     let mut count = Count::new("cathar_inpaint_gap against model and original", &[gaps::CLASSES]);
-    count.begin("all recordings of up to 5 samples");
-    repair_short(&mut count, &mut draw);
+    count.begin("outside, and several refusals apply");
+    repair_refused(&mut count, &mut draw);
+    count.begin("a sample not in range beside the window");
+    lengths::windows(&mut count, &mut draw);
     repair_random(&mut count, &mut draw);
     count.begin("every length from 1 to 200");
     lengths::every(&mut count, &mut draw);
-    count.begin("a sample not in range beside the window");
-    lengths::windows(&mut count, &mut draw);
-    count.begin("longer than 500");
-    lengths::long(&mut count, &mut draw, LONG);
     count.begin("around 1024, 2048 and 4095");
     lengths::edges(&mut count, &mut draw);
     count.begin("longer than 2048");
     lengths::lines(&mut count, &mut draw, LINES);
-    count.begin("outside, and several refusals apply");
-    repair_refused(&mut count, &mut draw);
     count.begin("beside the most samples");
     repair_large(&mut count, &mut draw);
+    count.begin("longer than 500");
+    lengths::long(&mut count, &mut draw, LONG);
+    count.begin("all recordings of up to 5 samples");
+    repair_short(&mut count, &mut draw);
     count.close(seed);
 }
 
@@ -207,10 +207,10 @@ fn scanned() {
     let seed = draw::seed();
     let mut draw = Draw::new(seed);
     let mut count = Count::new("cathar_inpaint_auto against model and original", &[scans::CLASSES]);
-    count.begin("all recordings of up to 5 samples");
-    short::each(&mut |samples| {
-        scan_any(&mut count, &mut draw, samples, settings::USUAL);
-    });
+    count.begin("every setting");
+    scan_settings(&mut count, &mut draw);
+    count.begin("several refusals apply");
+    scan_refused(&mut count, &mut draw);
     count.begin("random ones of 6 to 60 samples");
     for _ in 0..RANDOM_SCANS {
         let samples = short::random(&mut draw);
@@ -218,17 +218,17 @@ fn scanned() {
     }
     count.begin("each shape with dropouts");
     scan_shapes(&mut count, &mut draw);
-    count.begin("of 3,000 samples and more");
-    scan_long(&mut count, &mut draw);
-    count.begin("every setting");
-    scan_settings(&mut count, &mut draw);
-    count.begin("several refusals apply");
-    scan_refused(&mut count, &mut draw);
     count.begin("beside the most samples");
     let works: Vec<u64> = room::work(&mut draw, 5000);
     limits::large(&mut draw, &mut |model| {
         scan(&mut count, &mut Both::new(model), settings::USUAL, works.clone());
     });
+    count.begin("all recordings of up to 5 samples");
+    short::each(&mut |samples| {
+        scan_any(&mut count, &mut draw, samples, settings::USUAL);
+    });
+    count.begin("of 3,000 samples and more");
+    scan_long(&mut count, &mut draw);
     count.close(seed);
 }
 
