@@ -138,12 +138,12 @@ const STANDINS: &[Standin] = &[
     },
     Standin {
         name: "gap_7_not_first",
-        says: "7 is not given for the window's first sample",
+        says: "7 is not given for the window's first sample, where that is not the recording's",
         how: Library(gap_7_not_first),
     },
     Standin {
         name: "gap_7_not_last",
-        says: "7 is not given for the window's last sample",
+        says: "7 is not given for the window's last sample, where that is not the recording's",
         how: Library(gap_7_not_last),
     },
     Standin {
@@ -206,6 +206,11 @@ const STANDINS: &[Standin] = &[
         how: Library(gap_5_not_of_length_0),
     },
     Standin { name: "gap_6_before_5", says: "6 is answered where 5 applies too", how: Library(gap_6_before_5) },
+    Standin {
+        name: "gap_6_before_5_near_end",
+        says: "6 is answered where 5 applies too, for a gap past the end that is no longer than the recording",
+        how: Library(gap_6_before_5_near_end),
+    },
     Standin {
         name: "gap_6_one_fewer",
         says: "a workspace that is one double short is taken as enough",
@@ -739,11 +744,17 @@ fn refused_in_window(samples: &[u32], gap: Gap, place: usize) -> Option<usize> {
 }
 
 fn gap_7_not_first(lent: &mut Lent, call: Call) -> u32 {
-    reads_not(lent, call, |samples, gap| refused_in_window(samples, gap, window(gap, samples.len()).start))
+    reads_not(lent, call, |samples, gap| {
+        let first = window(gap, samples.len()).start;
+        refused_in_window(samples, gap, first).filter(|_| first > 0)
+    })
 }
 
 fn gap_7_not_last(lent: &mut Lent, call: Call) -> u32 {
-    reads_not(lent, call, |samples, gap| refused_in_window(samples, gap, window(gap, samples.len()).end - 1))
+    reads_not(lent, call, |samples, gap| {
+        let end = window(gap, samples.len()).end;
+        refused_in_window(samples, gap, end - 1).filter(|_| end < samples.len())
+    })
 }
 
 fn gap_7_line_not_right(lent: &mut Lent, call: Call) -> u32 {
@@ -897,6 +908,17 @@ fn gap_5_not_of_length_0(lent: &mut Lent, call: Call) -> u32 {
 }
 
 fn gap_6_before_5(lent: &mut Lent, call: Call) -> u32 {
+    let number = lent.call(call);
+    let (gap, n) = (gap_of(call), lent.samples().len());
+    let needed = if gap.is_line() || gap.start <= n { gap.needed(n) } else { 0 };
+    if number == 5 && lent.doubles.lent().len() < needed {
+        6
+    } else {
+        number
+    }
+}
+
+fn gap_6_before_5_near_end(lent: &mut Lent, call: Call) -> u32 {
     let number = lent.call(call);
     let (gap, n) = (gap_of(call), lent.samples().len());
     if is_past_end(number, lent, gap) && gap.len <= n && lent.doubles.lent().len() < gap.needed(n) {
