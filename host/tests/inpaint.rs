@@ -80,7 +80,7 @@ fn repair_random(count: &mut Gaps, draw: &mut Draw) {
     }
 }
 
-/// Gaps that are not within the recording, most of them, and calls to which several refusals apply.
+/// Gaps that are not within the recording, most of them, calls to which several refusals apply, and full journals.
 fn repair_refused(count: &mut Gaps, draw: &mut Draw) {
     for samples in [&[][..], &LOUD[..1], &LOUD[..2], &LOUD] {
         limits::gaps(samples.len().max(1), &mut |gap| {
@@ -90,9 +90,14 @@ fn repair_refused(count: &mut Gaps, draw: &mut Draw) {
         });
     }
     for faults in Faults::each() {
-        let (model, work) = faults.made(draw);
         let outside = [Gap { start: 6, len: 0 }, Gap { start: 13, len: 2 }, Gap { start: 14, len: 1 }];
-        let gap = if faults.of_gap() { outside[draw.below(3) as usize] } else { LOUD_GAP };
+        for gap in if faults.of_gap() { outside } else { [LOUD_GAP; 3] } {
+            let (model, work) = faults.made(draw);
+            repair(count, &mut Both::new(model), gap, 1, work);
+        }
+    }
+    for gap in [LOUD_GAP, Gap { start: 0, len: 1 }] {
+        let (model, work) = (room::recording(draw, LOUD.to_vec(), 0), room::work(draw, 1000));
         repair(count, &mut Both::new(model), gap, 1, work);
     }
 }
@@ -147,17 +152,26 @@ fn each_setting(put: &mut dyn FnMut(OfScan)) {
     }
 }
 
-/// Scans of one recording with every setting. It has runs of 1 to 6 samples, and one of 3 at each end.
+/// Limits that are another number where the product is taken first, where it is worked out in doubles, or where only
+/// its last 32 binary digits are kept.
+const LIMITS: [OfScan; 4] = [(19, 157.894_73), (48_000, 4.5), (1_000, 4_294_967_296.0), (1_000, 4_294_967_300.0)];
+
+/// Scans of one recording with every setting. It has runs of 1 to 6 samples, one of 3 at each end, and subnormals, which
+/// are sound.
 fn scan_settings(count: &mut Scans, draw: &mut Draw) {
     let mut samples = vec![0; 3];
     for run in 1..=6 {
         samples.extend([0x3f80_0000, 0xbf00_0000]);
         samples.extend(vec![0x8000_0000; run]);
     }
+    samples.extend([0x3f80_0000, 1, 0x8000_0001, 0x007f_ffff]);
     samples.extend([0x3f80_0000, 0, 0, 0]);
     each_setting(&mut |settings| {
         scan_any(count, draw, &samples, settings);
     });
+    for settings in LIMITS {
+        scan_any(count, draw, &samples, settings);
+    }
     for length in 0..8 {
         for _ in 0..40 {
             let settings = settings::near(draw, length);
