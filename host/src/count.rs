@@ -44,7 +44,7 @@ impl<C: std::fmt::Debug> Count<C> {
         if !wrong.is_empty() {
             self.differences += 1;
             let source = self.sources.last().expect("a source was begun").0;
-            let described = || format!("{source}: {call:?}, differing {wrong:?}");
+            let described = || format!("{source}: differing {wrong:?}: {call:?}");
             if self.shown.len() < SHOWN {
                 self.shown.push(described());
             }
