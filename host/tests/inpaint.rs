@@ -20,7 +20,7 @@ use cathar_host::room::{self, Room};
 use cathar_host::settings::{self, OfScan};
 use cathar_host::shapes::Shape;
 use inpaint::gaps::{self, repair, repair_with, Gaps};
-use inpaint::limits::{self, Faults, LOUD, LOUD_GAP};
+use inpaint::limits::{self, louder, Faults, LOUD, LOUDER_GAP, LOUD_GAP};
 use inpaint::scans::{self, dropped, scan, scan_any, Scans};
 use inpaint::{lengths, short};
 
@@ -80,7 +80,8 @@ fn repair_random(count: &mut Gaps, draw: &mut Draw) {
     }
 }
 
-/// Gaps that are not within the recording, most of them, calls to which several refusals apply, and full journals.
+/// Gaps that are not within the recording, most of them, calls to which several refusals apply, full
+/// journals, and two results that are not in range.
 fn repair_refused(count: &mut Gaps, draw: &mut Draw) {
     for samples in [&[][..], &LOUD[..1], &LOUD[..2], &LOUD] {
         limits::gaps(samples.len().max(1), &mut |gap| {
@@ -100,6 +101,8 @@ fn repair_refused(count: &mut Gaps, draw: &mut Draw) {
         let (model, work) = (room::recording(draw, LOUD.to_vec(), 0), room::work(draw, 1000));
         repair(count, &mut Both::new(model), gap, 1, work);
     }
+    let answer = repair_with(count, &mut Draw::new(1), &louder(), LOUDER_GAP, 1, [Room::Exact, Room::Exact]);
+    assert_eq!(answer, Answer::RefusedAt(8, 10), "of two results not in range the place of the lowest");
 }
 
 #[test]

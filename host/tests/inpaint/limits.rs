@@ -24,6 +24,13 @@ pub const LOUD: [u32; 14] = [
 ];
 pub const LOUD_GAP: Gap = Gap { start: 6, len: 2 };
 
+/// Samples whose gap `LOUDER_GAP` gets two results that are not in range.
+pub fn louder() -> Vec<u32> {
+    let sample = |sign| if sign == '-' { 0xc780_0000 } else { 0x4780_0000 };
+    "+-++-++-++..-+-+-+-+".chars().map(sample).collect()
+}
+pub const LOUDER_GAP: Gap = Gap { start: 10, len: 2 };
+
 /// What is wrong with a call, each or not: the marks, used, the gap or the settings, the workspace, a sample,
 /// the results and the journal's room.
 pub struct Faults {
