@@ -9,6 +9,7 @@ pub mod draw;
 pub mod float;
 pub mod inpaint;
 pub mod lent;
+pub mod machine;
 pub mod original;
 pub mod recording;
 pub mod room;

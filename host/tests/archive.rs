@@ -1,21 +1,13 @@
 //! What `libcathar.a` is made of: it defines the exported functions and nothing else that a program could name, it
 //! asks for `memset` and for nothing else, and it has no instruction that divides whole numbers. The tools that read
 //! it are the C compiler's own.
+use cathar_host::machine::{c_compiler, file};
 use std::collections::BTreeSet;
-use std::env;
 use std::fs;
-use std::path::{Path, PathBuf};
 use std::process::Command;
-
-/// The C compiler for x86-64, which `setup.sh` names where the machine has another processor.
-const LINKER: &str = "CARGO_TARGET_X86_64_UNKNOWN_LINUX_GNU_LINKER";
 
 /// The fewest instructions that the archive is thought to have: fewer mean that it was not read.
 const INSTRUCTIONS: usize = 1_000;
-
-fn file(name: &str) -> PathBuf {
-    Path::new(env!("CARGO_MANIFEST_DIR")).join("..").join(name)
-}
 
 fn printed(command: &mut Command) -> String {
     let output = command.output().unwrap_or_else(|error| panic!("{command:?}: {error}"));
@@ -25,8 +17,7 @@ fn printed(command: &mut Command) -> String {
 
 /// What one of the compiler's tools tells of the archive.
 fn told(tool: &str, flags: &[&str]) -> String {
-    let compiler = env::var(LINKER).unwrap_or_else(|_| String::from("cc"));
-    let path = printed(Command::new(compiler).arg(format!("-print-prog-name={tool}")));
+    let path = printed(Command::new(c_compiler()).arg(format!("-print-prog-name={tool}")));
     printed(Command::new(path.trim()).args(flags).arg(file("target/staticlib/libcathar.a")))
 }
 

@@ -1,34 +1,23 @@
 //! The examples of the use from C and from Rust: each compiles without a warning by the command in its head, against
 //! the library, and prints what `examples/repair.out` has and its head shows. A missing compiler is a failure.
+use cathar_host::machine;
 use std::env;
 use std::fs;
-use std::path::{Path, PathBuf};
+use std::path::Path;
 use std::process::Command;
 
-/// Where the machine is not x86-64, `setup.sh` hands cargo these: what to compile for, the C compiler that does, and
-/// what runs the program. The examples are compiled and run by the same.
+/// Where the machine is not x86-64, `setup.sh` tells cargo what to compile for. The examples are compiled for the same.
 const TARGET: &str = "CARGO_BUILD_TARGET";
-const LINKER: &str = "CARGO_TARGET_X86_64_UNKNOWN_LINUX_GNU_LINKER";
-const RUNNER: &str = "CARGO_TARGET_X86_64_UNKNOWN_LINUX_GNU_RUNNER";
-
-/// What the environment sets, or else this.
-fn set(name: &str, otherwise: &str) -> String {
-    env::var(name).unwrap_or_else(|_| String::from(otherwise))
-}
-
-/// The repository, from which the commands are run.
-fn root() -> PathBuf {
-    Path::new(env!("CARGO_MANIFEST_DIR")).join("..")
-}
 
 /// The text of a file of the repository.
 fn read(file: &str) -> String {
-    fs::read_to_string(root().join(file)).unwrap_or_else(|error| panic!("{file}: {error}"))
+    fs::read_to_string(machine::file(file)).unwrap_or_else(|error| panic!("{file}: {error}"))
 }
 
 /// What a command prints, where it succeeds.
 fn printed(command: &mut Command) -> String {
-    let output = command.current_dir(root()).output().unwrap_or_else(|error| panic!("{command:?}: {error}"));
+    let output =
+        command.current_dir(machine::file(".")).output().unwrap_or_else(|error| panic!("{command:?}: {error}"));
     let told = String::from_utf8_lossy(&output.stderr);
     assert!(output.status.success() && told.is_empty(), "{command:?}: {}\n{told}", output.status);
     String::from_utf8(output.stdout).expect("a program prints text")
@@ -49,8 +38,7 @@ fn holds(example: &str, said: &str, compiler: &str, flags: &[&str]) {
     let (program, words) = words.split_last().expect("the program's name is the last word");
     let program = Path::new(env!("CARGO_TARGET_TMPDIR")).join(format!("{program}-by-{said}"));
     printed(Command::new(compiler).args(flags).args(words).arg(&program));
-    // `env` runs what it is given as it is.
-    let told = printed(Command::new(set(RUNNER, "env")).arg(&program));
+    let told = printed(Command::new(machine::runner()).arg(&program));
     let expected = read("examples/repair.out");
     assert_eq!(told, expected, "what {example} prints");
     assert!(expected.lines().all(|line| source.contains(line)), "the head of {example} shows what it prints");
@@ -59,14 +47,14 @@ fn holds(example: &str, said: &str, compiler: &str, flags: &[&str]) {
 #[test]
 fn from_c() {
     let flags = ["-std=c99", "-Wall", "-Wextra", "-pedantic", "-Werror"];
-    holds("examples/repair.c", "cc", &set(LINKER, "cc"), &flags);
+    holds("examples/repair.c", "cc", &machine::c_compiler(), &flags);
 }
 
 #[test]
 fn from_rust() {
-    let linker = format!("linker={}", set(LINKER, "cc"));
+    let linker = format!("linker={}", machine::c_compiler());
     let target = env::var(TARGET).map(|target| format!("--target={target}"));
     let mut flags = vec!["-D", "warnings", "-C", &linker];
     flags.extend(target.as_deref());
-    holds("examples/repair.rs", "rustc", &set("RUSTC", "rustc"), &flags);
+    holds("examples/repair.rs", "rustc", &machine::set("RUSTC", "rustc"), &flags);
 }

@@ -3,26 +3,17 @@
 //! names for limits, marks and answers have the numbers of the sources, and its functions on memory give what the model
 //! says is needed.
 use cathar_host::inpaint::Gap;
+use cathar_host::machine::{c_compiler, file, runner};
 use cathar_host::recording::{entry_words, MOST_SAMPLES};
 use cathar_host::whole;
 use std::collections::{BTreeMap, BTreeSet};
-use std::env;
 use std::fs;
 use std::io::{ErrorKind, Write};
-use std::path::{Path, PathBuf};
+use std::path::Path;
 use std::process::{Command, Stdio};
-
-/// Where the machine is not x86-64, `setup.sh` names a C compiler for it, and what runs its programs.
-const LINKER: &str = "CARGO_TARGET_X86_64_UNKNOWN_LINUX_GNU_LINKER";
-const RUNNER: &str = "CARGO_TARGET_X86_64_UNKNOWN_LINUX_GNU_RUNNER";
 
 /// How many functions there are.
 const EXPORTS: usize = 11;
-
-/// A file of the repository.
-fn file(name: &str) -> PathBuf {
-    Path::new(env!("CARGO_MANIFEST_DIR")).join("..").join(name)
-}
 
 fn compiles(compiler: &str, standard: &str, language: &str) {
     let header = file("include/cathar.h");
@@ -183,13 +174,12 @@ fn names_as_in_the_sources() {
 fn given(lines: &str) -> String {
     let folder = Path::new(env!("CARGO_TARGET_TMPDIR"));
     let (source, program) = (folder.join("needs.c"), folder.join("needs"));
-    let set = |name: &str, otherwise: &str| env::var(name).unwrap_or_else(|_| String::from(otherwise));
     fs::write(&source, NEEDS).expect("the program's text is written");
     let flags = ["-std=c99", "-Wall", "-Wextra", "-pedantic", "-Werror", "-I"];
-    let mut compiler = Command::new(set(LINKER, "cc"));
+    let mut compiler = Command::new(c_compiler());
     compiler.args(flags).arg(file("include")).arg(&source).arg("-o").arg(&program);
     assert!(compiler.status().expect("the compiler runs").success(), "{compiler:?}");
-    let mut command = Command::new(set(RUNNER, "env"));
+    let mut command = Command::new(runner());
     let mut running = command.arg(&program).stdin(Stdio::piped()).stdout(Stdio::piped()).spawn().expect("it runs");
     let mut input = running.stdin.take().expect("its input is a pipe");
     let lines = String::from(lines);

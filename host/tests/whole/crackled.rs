@@ -33,12 +33,17 @@ pub fn each(draw: &mut Draw, put: &mut dyn FnMut(&mut Draw, &[u32])) {
     }
 }
 
+/// The limit by the least floor: above it a detector value's sample is flagged.
+fn least_limit(sensitivity: f32) -> f32 {
+    (12.0 - sensitivity.clamp(1.0, 10.0)) * 1e-6
+}
+
 /// Hands on silence with one click in it, at which the detector's magnitude is just the limit by the least floor, or one
 /// step below it or above. The floor has to have fallen below 1e-6 by then, so that there are some samples before.
 pub fn at_limit(put: &mut dyn FnMut(&[u32], Repair)) {
     for sensitivity in settings::SENSITIVITIES {
-        let limit = (12.0 - sensitivity.clamp(1.0, 10.0)) * 1e-6f32;
-        for word in limit.to_bits() - 1..limit.to_bits() + 2 {
+        let limit = least_limit(sensitivity).to_bits();
+        for word in limit - 1..limit + 2 {
             for place in 1..40 {
                 let mut samples = vec![0; 41];
                 samples[place] = word;
@@ -50,9 +55,9 @@ pub fn at_limit(put: &mut dyn FnMut(&[u32], Repair)) {
 
 /// Whether a sample is not flagged whose detector's magnitude is just the limit by the least floor.
 fn is_at_limit(call: &Call) -> bool {
-    let limit = (12.0 - sensitivity(call).clamp(1.0, 10.0)) * 1e-6f32;
+    let limit = least_limit(sensitivity(call)).to_bits();
     let silence_but = |word: &&u32| **word != 0;
-    call.is_accepted() && call.before.0.iter().filter(silence_but).eq([&limit.to_bits()])
+    call.is_accepted() && call.before.0.iter().filter(silence_but).eq([&limit])
 }
 
 fn sensitivity(call: &Call) -> f32 {
