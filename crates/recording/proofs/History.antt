@@ -4,25 +4,25 @@
 use mathlib.Core.Path.{_≡_, refl, sym, ap, _∙_}
 use mathlib.Core.Bool.{false}
 use mathlib.Core.List.{List, [], _∷_, _++_, map, map-append, reverse, reverse-cons, reverse-append}
-use mathlib.Core.Logic.{inl, inr}
+use mathlib.Core.Logic.{_⊎_, inl, inr}
 use Prim.Native.Nat.{ℕ, zero, suc, _-_, _≤_, _<_}
 use native.Mathlib.Omega.{arith}
 use lib.ListN.{length, getD, replicate, length-reverse}
+use lib.Dec.{eqb}
 use Rattle.recording.specs.Answers.{value}
 use Rattle.recording.specs.Recording.{State, Ended, ended, Placed, committed, Plan, change, performed, called}
-use Rattle.recording.specs.Marks.{made}
-use Rattle.recording.specs.Recording.{undone, opened, differ, tooMany}
+use Rattle.recording.specs.Marks.{measured, notReceived, made}
+use Rattle.recording.specs.Recording.{undone, alike, keptMark, openedWith}
 use Rattle.recording.specs.History.{Repair, Call, repair, undo, did, run, surviving, survivorsOver, survivors}
 use Rattle.recording.specs.History.{replay, fresh}
-use Rattle.recording.specs.History.{OpeningIsFresh, Bytes, Keeps, Lawful, AfterAny, Demand3}
+use Rattle.recording.specs.History.{OpeningIsFresh, Bytes, RawMarks, Keeps, Lawful, AfterAny, Demand3}
 use Rattle.recording.specs.Consequences.{AllName, SurvivorsStand, UndoingAll, MeasuredIsRaw, UnmadeIsRaw}
 use Rattle.recording.specs.Consequences.{FreeIsZero}
 use Rattle.recording.specs.Consequences.{Closing, closings, markOf, returned, EntriesAreSurvivors}
-use Rattle.recording.specs.declared.Reason.the-variants.{Counts, TooMany}
 use Rattle.recording.specs.declared.Answer.{Answer}
 use Rattle.recording.specs.declared.Answer.the-variants.{Done, Refused}
 use Rattle.recording.proofs.Journal.{all-zero}
-use Rattle.leaves.proofs.Choice.{truth, EitherWay}
+use Rattle.leaves.proofs.Choice.{picks-by}
 use Rattle.recording.proofs.Tests.{undone-idle}
 use Rattle.recording.proofs.Entering.{Enters, SameAt, Sound, Ending, unnamed, turned-away, enters, ending}
 use Rattle.recording.proofs.Entering.{enters-ends, after-sound, after-unmade, after-earlier, after-used}
@@ -198,18 +198,25 @@ reached-closings j (more {r} {kept} {s} {mark} {cs} before p e) agree =
 
 -- an accepted opening makes one
 pub opening-is-fresh : OpeningIsFresh
-unfolding opened
-opening-is-fresh s h = go (truth (differ s)) (truth (tooMany s))
+unfolding openedWith
+opening-is-fresh marks s h = go (alike s) refl
   where
-    go : EitherWay (differ s) → EitherWay (tooMany s)
-        → opened s .after ≡ fresh (s .samples) (replicate (length (s .marks)) 0) (length (s .journal))
-    go (inl a) b = let no-done : Refused Counts ≡ Done 0 = rw a at h in cc
-    go (inr a) (inl b) = let no-done : Refused TooMany ≡ Done 0 = rw (a, b) at h in cc
-    go (inr a) (inr b) = rw (a, b)
+    go : (a : Answer) → alike s ≡ a → openedWith marks s .after ≡ fresh (s .samples) marks (length (s .journal))
+    go (Done m) e = rw e
+    go (Refused why) e = let no-done : Refused why ≡ Done 0 = rw e at h in cc
 
 -- whose marks are bytes
 pub zeros-are-bytes : (n : ℕ) → Bytes (replicate n 0)
 zeros-are-bytes n i = rw all-zero (omega arith)
+
+-- a mark that was kept says measured or not received
+pub kept-or-measured : RawMarks
+kept-or-measured [] i = inl refl
+kept-or-measured (k ∷ marks) zero = picks-by (λ m. (m ≡ measured) ⊎ (m ≡ notReceived)) (eqb k notReceived) _ _ (λ h. inr refl) (λ h. inl refl)
+kept-or-measured (k ∷ marks) (suc i) = kept-or-measured marks i
+
+pub kept-are-bytes : (marks : List ℕ) → Bytes (map keptMark marks)
+kept-are-bytes marks i = elim (kept-or-measured marks i) [ inl h ↦ omega arith | inr h ↦ omega arith ]
 
 -- after any calls it is one that the survivors reach
 reached : AfterAny (λ raw cs. Reached raw (survivorsOver [] cs raw) (run cs raw))

@@ -9,7 +9,7 @@ use native.Mathlib.Omega.{arith}
 use lib.Dec.{ltb, eqb}
 use lib.ListN.{length, drop, replicate, length-replicate}
 use lib.Seq.{sets-eq}
-use Rattle.recording.specs.Recording.{State, Ended, ended, differ, tooMany, overUsed, fitting, cleared, clears}
+use Rattle.recording.specs.Recording.{State, Ended, ended, differ, tooMany, overUsed, fitting, alike, cleared, clears}
 use Rattle.recording.specs.Recording.{workAfter, unlessRead}
 use Rattle.recording.specs.Recording.{Placed, entrySize, entered, ranged, Plan, change, span, picked, carried, performed}
 use Rattle.recording.specs.History.{Ascending, Keeps}
@@ -36,7 +36,7 @@ module _ (s : State) (p : Plan) (a : Answer) (sized : a ≡ fitting s) where
 
 -- refusals 1 to 3 keep its contents
 pub fitting-keeps : (s : State) (why : Reason) → fitting s ≡ Refused why → clears (fitting s) ≡ false
-unfolding fitting
+unfolding fitting alike
 fitting-keeps s why h = one (truth (differ s)) (truth (tooMany s)) (truth (overUsed s))
   where
     one : EitherWay (differ s) → EitherWay (tooMany s) → EitherWay (overUsed s) → clears (fitting s) ≡ false

@@ -1,12 +1,12 @@
--- What document 01 says of an answer: its number, and the value that goes with it. Definitions only.
+-- What documents 01 and 02 say of an answer: its number, and the value that goes with it. Definitions only.
 use Prim.Native.Nat.{ℕ}
 use Rattle.recording.specs.declared.Reason.{Reason}
 use Rattle.recording.specs.declared.Reason.the-variants.{Counts, TooMany, Used, Setting, Gap, Workspace, Read}
-use Rattle.recording.specs.declared.Reason.the-variants.{Result, Room, Nothing, Malformed}
+use Rattle.recording.specs.declared.Reason.the-variants.{Result, Room, Nothing, Malformed, Frames}
 use Rattle.recording.specs.declared.Answer.{Answer}
 use Rattle.recording.specs.declared.Answer.the-variants.{Done, Refused}
 
--- "What is turned away": the table's number of each reason
+-- "What is turned away": the table's number of each reason; from 12 on document 02's
 abbrev pub reasonNumber : Reason → ℕ
 reasonNumber Counts = 1
 reasonNumber TooMany = 2
@@ -19,6 +19,7 @@ reasonNumber (Result place) = 8
 reasonNumber Room = 9
 reasonNumber Nothing = 10
 reasonNumber Malformed = 11
+reasonNumber Frames = 12
 
 -- "the reason carries the sample's place for 7 and 8"; for the others 0 stands there
 abbrev pub reasonPlace : Reason → ℕ
@@ -33,6 +34,7 @@ reasonPlace (Result place) = place
 reasonPlace Room = 0
 reasonPlace Nothing = 0
 reasonPlace Malformed = 0
+reasonPlace Frames = 0
 
 -- 0 for an acceptance, and else the number of the refusal
 abbrev pub number : Answer → ℕ

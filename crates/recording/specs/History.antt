@@ -6,10 +6,11 @@ use Prim.Native.Nat.{ℕ, zero, suc, _+_, _≤_, _<_}
 use mathlib.Core.Path.{_≡_}
 use mathlib.Core.Bool.{true}
 use mathlib.Core.List.{List, [], _∷_, map, reverse}
+use mathlib.Core.Logic.{_⊎_}
 use lib.ListN.{length, getD, replicate}
 use Rattle.recording.specs.Recording.{State, state, Ended, Placed, Plan, refuse, change}
-use Rattle.recording.specs.Marks.{measured, made}
-use Rattle.recording.specs.Recording.{called, undone, opened}
+use Rattle.recording.specs.Marks.{measured, notReceived, made}
+use Rattle.recording.specs.Recording.{called, undone, keptMark, openedWith}
 use Rattle.recording.specs.declared.Answer.{Answer}
 use Rattle.recording.specs.declared.Answer.the-variants.{Done, Refused}
 
@@ -69,14 +70,20 @@ replay rs s = run (map repair rs) s
 abbrev pub fresh : List ℕ → List ℕ → ℕ → State
 fresh words marks room = state words marks (replicate room 0) 0
 
--- an accepted opening gives such a recording, with every sample marked measured
+-- an accepted opening gives such a recording, under the raw marks that it sets
 abbrev pub OpeningIsFresh : Type 0
 OpeningIsFresh =
-    (s : State) → opened s .answer ≡ Done 0 → opened s .after ≡ fresh (s .samples) (replicate (length (s .marks)) measured) (length (s .journal))
+    (marks : List ℕ) (s : State) → openedWith marks s .answer ≡ Done 0
+    → openedWith marks s .after ≡ fresh (s .samples) marks (length (s .journal))
 
 -- a mark is a byte
 abbrev pub Bytes : List ℕ → Type 0
 Bytes marks = (i : ℕ) → getD marks i 0 < 256
+
+-- request P2: where a recording opens as it was received, "raw marks are 0 or 6", whatever marks are lent
+abbrev pub RawMarks : Type 0
+RawMarks =
+    (marks : List ℕ) (i : ℕ) → let raw = getD (map keptMark marks) i 0 in (raw ≡ measured) ⊎ (raw ≡ notReceived)
 
 -- ---- What the rule of a repair keeps to, whatever the samples
 

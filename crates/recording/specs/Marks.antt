@@ -1,5 +1,5 @@
--- The marks: what document 01 says of a sample by its byte, in the sentence that the comment quotes. The code has them by the same
--- names in src/marks.rt. Definitions only.
+-- The marks: what documents 01 and 02 say of a sample by its byte, in the sentence that the comment quotes. The code has them by the
+-- same names in src/marks.rt. Definitions only.
 use Prim.Native.Nat.{ℕ}
 use mathlib.Core.Bool.{Bool, _&&_}
 use lib.Dec.{leb}
@@ -23,6 +23,10 @@ decrackle = 4
 abbrev pub dequantize : ℕ
 dequantize = 5
 
--- the marks that a repair sets: 1 to 5
+-- request P2: "the new mark 6, not received"
+abbrev pub notReceived : ℕ
+notReceived = 6
+
+-- the marks that a repair sets: 1 to 5. "No repair sets mark 6".
 abbrev pub made : ℕ → Bool
 made k = leb gapByModel k && leb k dequantize

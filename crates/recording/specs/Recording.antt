@@ -1,9 +1,10 @@
--- The recording: document 01, "The recording" and "What is turned away", whose sentences the comments quote. A list's
+-- The recording: document 01, "The recording" and "What is turned away", whose sentences the comments quote, with those of document 02
+-- that amend them. A list's
 -- element i is `getD l i 0`; `set l i x` has x there instead, and `sets l i xs` has all of xs from place i on.
 -- Definitions only.
 use Prim.Native.Nat.{ℕ, zero, suc, _+_, _-_, _*_}
 use mathlib.Core.Bool.{Bool, false, not, _||_}
-use mathlib.Core.List.{List, [], _∷_, _++_}
+use mathlib.Core.List.{List, [], _∷_, _++_, map}
 use lib.ListN.{length, getD, set, replicate}
 use lib.Seq.{sets}
 use lib.Dec.{leb, ltb, eqb}
@@ -14,7 +15,7 @@ use Rattle.recording.specs.declared.Reason.the-variants.{Counts, TooMany
 use Rattle.recording.specs.declared.Answer.{Answer}
 use Rattle.recording.specs.declared.Answer.the-variants.{Done, Refused}
 use Rattle.recording.specs.Answers.{number}
-use Rattle.recording.specs.Marks.{measured, made}
+use Rattle.recording.specs.Marks.{measured, notReceived, made}
 
 -- ---- The recording
 
@@ -58,18 +59,22 @@ tooMany s = ltb mostSamples (length (s .samples))
 abbrev pub overUsed : State → Bool
 overUsed s = ltb (length (s .journal)) (s .used)
 
--- the refusal among 1 to 3, or else an acceptance
-unfoldable pub fitting : State → Answer
-fitting s =
-    if differ s then Refused Counts else
-    if tooMany s then Refused TooMany else
-    if overUsed s then Refused Used else
-    Done 0
-
 -- the first refusal of two tests, or else an acceptance
 abbrev pub orElse : Answer → Answer → Answer
 orElse (Done m) later = later
 orElse (Refused why) later = Refused why
+
+-- the refusal among 1 and 2, or else an acceptance
+unfoldable pub alike : State → Answer
+alike s =
+    if differ s then Refused Counts else
+    if tooMany s then Refused TooMany else
+    Done 0
+
+-- the refusal among 1 to 3, or else an acceptance
+unfoldable pub fitting : State → Answer
+unfolding alike
+fitting s = orElse (alike s) (if overUsed s then Refused Used else Done 0)
 
 -- a refusal where there is one, and else the rest of the call
 abbrev pub unlessRefused : Answer → State → Ended → Ended
@@ -207,16 +212,28 @@ workAfter nought n a work = if clears a then cleared nought n work else work
 
 -- ---- Opening
 
--- "Opening sets all marks and all journal words to 0 and used to 0."
-abbrev pub blank : State → State
-blank s = state (s .samples) (replicate (length (s .marks)) measured) (replicate (length (s .journal)) 0) 0
+-- "all journal words to 0 and used to 0", under these raw marks
+abbrev pub blank : List ℕ → State → State
+blank marks s = state (s .samples) marks (replicate (length (s .journal)) 0) 0
 
 -- "It gives refusals 1 and 2 only, and returns 0 when accepted."
+unfoldable pub openedWith : List ℕ → State → Ended
+unfolding alike
+openedWith marks s = unlessRefused (alike s) s (ended (Done 0) (blank marks s))
+
+-- "Opening sets all marks and all journal words to 0 and used to 0."
 unfoldable pub opened : State → Ended
-opened s =
-    if differ s then refused s Counts else
-    if tooMany s then refused s TooMany else
-    ended (Done 0) (blank s)
+unfolding openedWith
+opened s = openedWith (replicate (length (s .marks)) measured) s
+
+-- request P2: "The recording opens from the result, keeping these marks, so demand 3's raw marks are 0 or 6": of the marks that are
+-- lent, those that say not received
+abbrev pub keptMark : ℕ → ℕ
+keptMark mark = if eqb mark notReceived then notReceived else measured
+
+unfoldable pub openedReceived : State → Ended
+unfolding openedWith
+openedReceived s = openedWith (map keptMark (s .marks)) s
 
 -- ---- Undo
 

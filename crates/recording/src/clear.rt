@@ -20,20 +20,28 @@ pub fn clear_doubles(work: &mut [f64], needed: usize)
     }
 }
 
+// The `count` words from `start` on become `word`, and the others stay.
+pub fn set_words(words: &mut [u32], start: usize, count: usize, word: u32)
+    requires { ⌜ start + count ≤ length (now words) ⌝ }
+    ensures { λ _. ⌜ now (words .exit) ≡ sets (now (words .entry)) start (replicate count word) ⌝ }
+{
+    let mut i: usize = 0;
+    while i < count {
+        words[start + i] = word;
+        i += 1;
+    }
+}
+
 // The `count` words from `start` on become 0, and the others stay.
 pub fn clear_words(words: &mut [u32], start: usize, count: usize)
     requires { ⌜ start + count ≤ length (now words) ⌝ }
     ensures { λ _. ⌜ now (words .exit) ≡ sets (now (words .entry)) start (replicate count 0) ⌝ }
 {
-    let mut i: usize = 0;
-    while i < count {
-        words[start + i] = 0;
-        i += 1;
-    }
+    set_words(words, start, count, 0);
 }
 
 // The `count` marks from `start` on become `mark`, and the others stay.
-pub(crate) fn set_marks(marks: &mut [u8], start: usize, count: usize, mark: u8)
+pub fn set_marks(marks: &mut [u8], start: usize, count: usize, mark: u8)
     requires { ⌜ start + count ≤ length (now marks) ⌝ }
     ensures { λ _. ⌜ now (marks .exit) ≡ sets (now (marks .entry)) start (replicate count mark) ⌝ }
 {

@@ -34,6 +34,8 @@ pub enum Reason {
     Nothing,
     // 11: the last entry is malformed.
     Malformed,
+    // 12: the bus's input is not whole frames, or the room for its samples or marks is short.
+    Frames,
 }
 
 // How a call ends: accepted, with the number of samples that it named or took back, or refused.

@@ -20,6 +20,9 @@ pub const DECRACKLE: u8 = 4;
 // Dequantize moved it, in either form.
 pub const DEQUANTIZE: u8 = 5;
 
+// The bus lost its frame: the sample was not received, and the word that stands there is a NaN.
+pub const NOT_RECEIVED: u8 = 6;
+
 // Whether a journal word is a mark that a repair sets: the first of these is 1, and the last 5.
 pub fn is_made(word: u32) -> bool
     ensures { λ r. ⌜ r ≡ made word ⌝ }

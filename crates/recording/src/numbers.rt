@@ -20,6 +20,7 @@ fn reason_number(why: Reason) -> u32
         Reason::Room => 9,
         Reason::Nothing => 10,
         Reason::Malformed => 11,
+        Reason::Frames => 12,
     }
 }
 
@@ -39,6 +40,7 @@ fn reason_place(why: Reason) -> usize
         Reason::Room => 0,
         Reason::Nothing => 0,
         Reason::Malformed => 0,
+        Reason::Frames => 0,
     }
 }
 

@@ -1,19 +1,24 @@
-// The tests that every call begins with, and the opening of a recording.
+// The tests that every call begins with, and the two openings of a recording.
+ghost use Prim.Native.Nat.{ℕ};
 ghost use mathlib.Core.Path.{_≡_};
-ghost use Rattle.recording.specs.Recording.{ended, fitting, opened};
+ghost use mathlib.Core.List.{[], map};
+ghost use lib.ListN.{length, replicate};
+ghost use Rattle.recording.specs.Recording.{state, ended, alike, fitting, opened, keptMark, openedReceived};
 ghost use Rattle.recording.specs.Lent.{lent, leftReading, seen};
 use super::Answer;
 use super::Reason;
 use super::clear::clear_words;
 use super::clear::set_marks;
 use super::marks::MEASURED;
+use super::marks::NOT_RECEIVED;
 
 // The number of samples that a recording has at most.
 pub const MOST_SAMPLES: usize = 1_048_576;
 
-// Refusals 1, 2 and 3, in this order; accepted, with 0, where none of them applies.
-pub fn check_sizes(samples: &[u32], marks: &[u8], journal: &[u32], used: usize) -> Answer
-    ensures { λ r. ⌜ r ≡ fitting (seen samples marks journal used) ⌝ }
+// Refusals 1 and 2, in this order; accepted, with 0, where neither of them applies. Journal and used have
+// no say in them.
+fn check_counts(samples: &[u32], marks: &[u8]) -> Answer
+    ensures { λ r. ⌜ r ≡ alike (state (now (samples .entry)) (now (marks .entry)) [] 0) ⌝ }
 {
     if marks.len() != samples.len() {
         return Answer::Refused(Reason::Counts);
@@ -21,10 +26,30 @@ pub fn check_sizes(samples: &[u32], marks: &[u8], journal: &[u32], used: usize) 
     if MOST_SAMPLES < samples.len() {
         return Answer::Refused(Reason::TooMany);
     }
+    Answer::Done(0)
+}
+
+// Refusals 1, 2 and 3, in this order; accepted, with 0, where none of them applies.
+pub fn check_sizes(samples: &[u32], marks: &[u8], journal: &[u32], used: usize) -> Answer
+    ensures { λ r. ⌜ r ≡ fitting (seen samples marks journal used) ⌝ }
+{
+    let counted = check_counts(samples, marks);
+    let Answer::Done(_) = counted else {
+        return counted;
+    };
     if journal.len() < used {
         return Answer::Refused(Reason::Used);
     }
     Answer::Done(0)
+}
+
+// Empties a journal: all its words become 0, and none is used.
+fn empty_journal(journal: &mut [u32], used: &mut usize)
+    ensures { λ _. ⌜ (now (journal .exit) ≡ replicate (length (now (journal .entry))) 0) × (now (used .exit) ≡ 0) ⌝ }
+{
+    let room = journal.len();
+    clear_words(journal, 0, room);
+    *used = 0;
 }
 
 // Opens a recording: every mark says measured, and the journal is empty. Whatever stood in marks,
@@ -32,16 +57,53 @@ pub fn check_sizes(samples: &[u32], marks: &[u8], journal: &[u32], used: usize) 
 pub fn open(samples: &[u32], marks: &mut [u8], journal: &mut [u32], used: &mut usize) -> Answer
     ensures { λ r. ⌜ ended r (leftReading samples marks journal used) ≡ opened (lent samples marks journal used) ⌝ }
 {
-    if marks.len() != samples.len() {
-        return Answer::Refused(Reason::Counts);
-    }
-    if MOST_SAMPLES < samples.len() {
-        return Answer::Refused(Reason::TooMany);
-    }
+    let counted = check_counts(samples, marks);
+    let Answer::Done(_) = counted else {
+        return counted;
+    };
     let count = marks.len();
-    let room = journal.len();
     set_marks(marks, 0, count, MEASURED);
-    clear_words(journal, 0, room);
-    *used = 0;
+    empty_journal(journal, used);
+    Answer::Done(0)
+}
+
+// What a lent mark becomes where a recording opens as it was received.
+fn kept_mark(mark: u8) -> u8
+    ensures { λ r. ⌜ r ≡ keptMark mark ⌝ }
+{
+    if mark == NOT_RECEIVED {
+        NOT_RECEIVED
+    } else {
+        MEASURED
+    }
+}
+
+// Every mark that does not say not received becomes measured, one after the other.
+fn keep_received(marks: &mut [u8])
+    ensures { λ _. ⌜ now (marks .exit) ≡ map keptMark (now (marks .entry)) ⌝ }
+{
+    let mut i: usize = 0;
+    while i < marks.len() {
+        marks[i] = kept_mark(marks[i]);
+        i += 1;
+    }
+}
+
+// Opens a recording as the bus's frames left it: a mark that says not received stays, every other one
+// says measured, and all else is as `open` has it.
+pub fn open_received(
+    samples: &[u32],
+    marks: &mut [u8],
+    journal: &mut [u32],
+    used: &mut usize,
+) -> Answer
+    ensures { λ r. ⌜ ended r (leftReading samples marks journal used) ≡ openedReceived (lent samples marks journal used) ⌝ }
+{
+    let counted = check_counts(samples, marks);
+    let Answer::Done(_) = counted else {
+        return counted;
+    };
+    keep_received(marks);
+    empty_journal(journal, used);
     Answer::Done(0)
 }

@@ -1,42 +1,55 @@
--- `recording::open::open` meets its contract: each way out is a line of the rule, and runs of 0 over all marks and words
--- are what it leaves. Assumes nothing.
-use Rattle.recording.proofs.open.Laws.{opened-counts, opened-too-many, opened-done}
+-- `recording::open::open` meets its contract: each way out is a line of the rule, and a run of 0 over all marks is what it leaves of
+-- them. Assumes nothing.
+use Rattle.recording.proofs.open.Laws.{opened-refused, opened-done}
 use borrow.Author.Needs.{needs}
 use Rattle.recording.proofs.open.open.Statement.{statement}
 use Rattle.recording.proofs.open.open.Tie as tie
 
-returns : tie.Need-returns
-returns c = opened-counts _ (c .if1 .taken)
+check-counts-requires : tie.Need-check-counts-requires
+check-counts-requires c κs = search needs
 
-returns-2 : tie.Need-returns-2
-returns-2 c = opened-too-many _ (c .before .if1 .left) (c .if2 .taken)
+enum-told : tie.Need-enum-told
+enum-told c = search needs
 
-set-marks-requires : tie.Need-set-marks-requires
-set-marks-requires c κs = search needs
-
-clear-words-requires : tie.Need-clear-words-requires
-clear-words-requires c κs = search needs
+enum-told-2 : tie.Need-enum-told-2
+enum-told-2 c = search needs
 
 same-length : tie.Need-same-length
 same-length c = search needs
 
+returns : tie.Need-returns
+returns c = opened-refused _ _ (c .before .before .check-counts .ensures) _ (c .enum-told2 .given .1)
+
+set-marks-requires : tie.Need-set-marks-requires
+set-marks-requires c κs = search needs
+
+empty-journal-requires : tie.Need-empty-journal-requires
+empty-journal-requires c κs = search needs
+
 same-length-2 : tie.Need-same-length-2
 same-length-2 c = search needs
 
-returns-3 : tie.Need-returns-3
-returns-3 c =
-    let marks = c .before .before .before .before .before .before in
-    let tests = marks .before .before in
-    opened-done _ (tests .before .if1 .left) (tests .if2 .left) _ _ (marks .set-marks .ensures) (c .before .before .clear-words .ensures)
+same-length-3 : tie.Need-same-length-3
+same-length-3 c = search needs
+
+returns-2 : tie.Need-returns-2
+returns-2 c =
+    let marks = c .before .before .before .before .before .before .before in
+    let told = marks .before .before in
+    opened-done _ _ (told .before .before .check-counts .ensures) _ _ _ _ (told .enum-told .given .1) (marks .set-marks .ensures)
+    (c .before .before .empty-journal .ensures)
 
 pub open-spec : {M : Type 1} → statement M
 open-spec =
     tie.close
     (tie.spec
-    returns
-    returns-2
-    set-marks-requires
-    clear-words-requires
+    check-counts-requires
+    enum-told
+    enum-told-2
     same-length
+    returns
+    set-marks-requires
+    empty-journal-requires
     same-length-2
-    returns-3)
+    same-length-3
+    returns-2)

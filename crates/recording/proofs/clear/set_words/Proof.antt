@@ -1,4 +1,4 @@
--- `recording::clear::clear_words` meets its contract. The loop's invariant: storing 0 at what is left gives the whole. The
+-- `recording::clear::set_words` meets its contract. The loop's invariant: storing the word at what is left gives the whole. The
 -- measure is how many places are left. Assumes nothing.
 use Prim.Native.Nat.{_+_, _-_, _≤_}
 use native.Mathlib.Omega.{arith}
@@ -7,16 +7,16 @@ use mathlib.Core.Path.{_≡_, refl}
 use lib.ListN.{length, length-set, replicate}
 use lib.Seq.{sets}
 use Rattle.leaves.proofs.Stores.{run-more, all-stored}
-use Rattle.recording.proofs.clear.clear_words.Statement.{statement}
-use Rattle.recording.proofs.clear.clear_words.Tie as tie
+use Rattle.recording.proofs.clear.set_words.Statement.{statement}
+use Rattle.recording.proofs.clear.set_words.Tie as tie
 
 abbrev Inv-loop : tie.InvT-loop
-Inv-loop words₀ start count i₀ words i =
+Inv-loop words₀ start count word i₀ words i =
     (i ≤ count) × (length words ≡ length words₀)
-    × (sets words (start + i) (replicate (count - i) 0) ≡ sets words₀ start (replicate count 0))
+    × (sets words (start + i) (replicate (count - i) word) ≡ sets words₀ start (replicate count word))
 
 abbrev μ-loop : tie.MeasureT-loop
-μ-loop words₀ start count i₀ words i = count - i
+μ-loop words₀ start count word i₀ words i = count - i
 
 loop-holds : tie.Need-loop-holds Inv-loop μ-loop
 loop-holds c = (omega arith, refl, simp (add-zero, sub-zero))
@@ -50,8 +50,8 @@ same-length c = c .before .loop .inv .1
 returns : tie.Need-returns Inv-loop μ-loop
 returns c = all-stored _ _ _ _ _ _ (c .loop-test .left) (c .before .loop .inv .2)
 
-pub clear-words-spec : {M : Type 1} → statement M
-clear-words-spec =
+pub set-words-spec : {M : Type 1} → statement M
+set-words-spec =
     tie.close
     (tie.spec
     Inv-loop

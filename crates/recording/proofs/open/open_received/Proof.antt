@@ -1,0 +1,54 @@
+-- `recording::open::open_received` meets its contract: each way out is a line of the rule. Assumes nothing.
+use Rattle.recording.proofs.open.Laws.{received-refused, received-done}
+use borrow.Author.Needs.{needs}
+use Rattle.recording.proofs.open.open_received.Statement.{statement}
+use Rattle.recording.proofs.open.open_received.Tie as tie
+
+check-counts-requires : tie.Need-check-counts-requires
+check-counts-requires c κs = search needs
+
+enum-told : tie.Need-enum-told
+enum-told c = search needs
+
+enum-told-2 : tie.Need-enum-told-2
+enum-told-2 c = search needs
+
+same-length : tie.Need-same-length
+same-length c = search needs
+
+returns : tie.Need-returns
+returns c = received-refused _ _ (c .before .before .check-counts .ensures) _ (c .enum-told2 .given .1)
+
+keep-received-requires : tie.Need-keep-received-requires
+keep-received-requires c κs = search needs
+
+empty-journal-requires : tie.Need-empty-journal-requires
+empty-journal-requires c κs = search needs
+
+same-length-2 : tie.Need-same-length-2
+same-length-2 c = search needs
+
+same-length-3 : tie.Need-same-length-3
+same-length-3 c = search needs
+
+returns-2 : tie.Need-returns-2
+returns-2 c =
+    let marks = c .before .before .before .before .before .before .before in
+    let told = marks .before .before in
+    received-done _ _ (told .before .before .check-counts .ensures) _ _ _ _ (told .enum-told .given .1) (marks .keep-received .ensures)
+    (c .before .before .empty-journal .ensures)
+
+pub open-received-spec : {M : Type 1} → statement M
+open-received-spec =
+    tie.close
+    (tie.spec
+    check-counts-requires
+    enum-told
+    enum-told-2
+    same-length
+    returns
+    keep-received-requires
+    empty-journal-requires
+    same-length-2
+    same-length-3
+    returns-2)
