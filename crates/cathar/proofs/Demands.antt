@@ -2,7 +2,7 @@
 -- `recording` shows of any sequence of rules holds of any sequence of calls. Assumes nothing.
 use mathlib.Core.Path.{_≡_, refl, sym, ap, subst, _∙_}
 use mathlib.Core.Bool.{Bool, true, false, false≢true}
-use mathlib.Core.List.{List, [], _∷_, _++_, reverse}
+use mathlib.Core.List.{List, [], _∷_, _++_, map, reverse}
 use mathlib.Core.Logic.{_⊎_, inl, inr}
 use Prim.Native.Nat.{ℕ, zero, suc, _≤_, _<_}
 use lib.ListN.{length, getD, replicate}
@@ -14,7 +14,7 @@ use Rattle.leaves.specs.Choice.{if_then_else_}
 use Rattle.leaves.proofs.Choice.{truth, EitherWay}
 use Rattle.recording.specs.Answers.{number, value, reasonNumber}
 use Rattle.recording.specs.Recording.{State, Ended, Placed, Plan, refuse, change, fitting, carried, performed, undone}
-use Rattle.recording.specs.Marks.{measured}
+use Rattle.recording.specs.Recording.{keptMark, openedWith, opened, openedReceived}
 use Rattle.recording.specs.Marks as marks
 use Rattle.recording.specs.History as single
 use Rattle.recording.specs.Consequences.{Among, AllName, closings, returned}
@@ -22,6 +22,7 @@ use Rattle.recording.specs.declared.Reason.{Reason}
 use Rattle.recording.specs.declared.Reason.the-variants.{Setting}
 use Rattle.recording.specs.declared.Answer.{Answer}
 use Rattle.recording.specs.declared.Answer.the-variants.{Done, Refused}
+use Rattle.recording.proofs.Journal.{all-zero}
 use Rattle.recording.proofs.History as history
 use Rattle.recording.proofs.Single.{did-keeps, above-zero, accepted-as-ruled}
 use Rattle.inpaint.specs.Gap.{gapPlan, gapRepair}
@@ -42,11 +43,13 @@ use Rattle.declip.proofs.Consequences.{declip-lawful}
 use Rattle.decrackle.proofs.Consequences.{decrackle-lawful}
 use Rattle.dequant.proofs.Consequences.{dequantize-lawful, cosparse-lawful}
 use Rattle.cathar.specs.Calls.{Call, gap, scan, declip, decrackle, dequantize, cosparse, undo, Work, Outcome, told, ran}
+use Rattle.cathar.specs.Calls.{Opening, measured, received, opens}
 use Rattle.cathar.specs.Refusals.{plain, asked, applies, anyOut, first, turnedAway, openingTurnedAway, testedByOpening, canGive}
 use Rattle.cathar.specs.Demands.{GivenExactlyWhen, OpeningGivenExactlyWhen, OnlyThese, OpeningOnlyThese, RefusalChangesNothing}
 use Rattle.cathar.specs.Demands.{RefusedOpeningChangesNothing, RulesAreLawful, after, AfterAny, Kind, kind, repairs, undoes, scans}
 use Rattle.cathar.specs.Demands.{scanned, counted, rules, CallIsItsRules, Demand2, allRules, Demand3, SurvivorsStand}
-use Rattle.cathar.specs.Demands.{UndoingAll, MeasuredIsRaw, EntriesAreSurvivors}
+use Rattle.cathar.specs.Demands.{UndoingAll, MeasuredIsRaw, MeasuredWasReceived, RawIsMeasuredOrNotReceived, NotReceivedIsRaw}
+use Rattle.cathar.specs.Demands.{Opened, EntriesAreSurvivors}
 use Rattle.cathar.proofs.Refusals.{first-among, among-more, six-to-nine, opened-keeps, whole-number, gap-number, undo-number}
 use Rattle.cathar.proofs.Refusals.{scan-number, opening-number}
 
@@ -182,9 +185,28 @@ given-exactly-when (dequantize bits strength work) s = no-runs _ _ (by-lines (de
 given-exactly-when (cosparse bits strength iterations work) s = no-runs _ _ (by-lines (cosparse bits strength iterations work) s)
 given-exactly-when undo s = no-runs _ _ (by-lines undo s)
 
+-- ---- The two openings
+
+-- the raw marks that an opening sets
+abbrev raw-marks : Opening → State → List ℕ
+raw-marks measured s = replicate (length (s .marks)) marks.measured
+raw-marks received s = map keptMark (s .marks)
+
+-- is all in which the two differ
+opens-with : (o : Opening) (s : State) → opens o s ≡ openedWith (raw-marks o s) s
+unfolding opened openedReceived
+opens-with measured s = refl
+opens-with received s = refl
+
+-- they say measured or not received
+raw-either : (o : Opening) (s : State) (i : ℕ)
+    → (getD (raw-marks o s) i 0 ≡ marks.measured) ⊎ (getD (raw-marks o s) i 0 ≡ marks.notReceived)
+raw-either measured s i = inl (all-zero (length (s .marks)) i)
+raw-either received s i = history.kept-or-measured (s .marks) i
+
 pub opening-given-exactly-when : OpeningGivenExactlyWhen
 unfolding openingTurnedAway
-opening-given-exactly-when s = opening-number s
+opening-given-exactly-when o s = rw (opens-with o s) (opening-number (raw-marks o s) s)
 
 -- which numbers there can be: of the lines that a call tests those that can apply to it
 lines-only : (c : Call) (s : State) → (turnedAway c s ≡ 0) ⊎ Among (turnedAway c s) (canGive c)
@@ -247,7 +269,7 @@ only-these undo s = rw (by-lines undo s) (lines-only undo s)
 
 pub opening-only-these : OpeningOnlyThese
 unfolding openingTurnedAway
-opening-only-these s = rw (opening-given-exactly-when s) (first-among (applies (plain true false) s) testedByOpening)
+opening-only-these o s = rw (opening-given-exactly-when o s) (first-among (applies (plain true false) s) testedByOpening)
 
 -- a refusal changes nothing
 pub refusal-changes-nothing : RefusalChangesNothing
@@ -271,7 +293,9 @@ refusal-changes-nothing (cosparse bits strength iterations work) s h =
 refusal-changes-nothing undo s h = alone-keeps _ s _ (undo-did s) (rw (by-lines undo s) h)
 
 pub refused-opening-changes-nothing : RefusedOpeningChangesNothing
-refused-opening-changes-nothing s h = opened-keeps s (rw (opening-given-exactly-when s) h)
+unfolding openingTurnedAway
+refused-opening-changes-nothing o s h =
+    rw (opens-with o s) (opened-keeps (raw-marks o s) s (rw (opening-number (raw-marks o s) s) h))
 
 -- ---- Sequences
 
@@ -377,17 +401,28 @@ all-lawful (c ∷ cs) s = lawful-append (rules c s) _ (rules-are-lawful c s) (al
 
 -- ---- On a freshly opened recording
 
+-- an accepted opening left it so
+opened-fresh : (raw : State) (o : Opened raw)
+    → raw ≡ single.fresh (o .lent .samples) (raw-marks (o .way) (o .lent)) (length (o .lent .journal))
+opened-fresh raw o =
+    let with-marks = opens-with (o .way) (o .lent) in
+    sym (o .leaves)
+    ∙ rw with-marks (history.opening-is-fresh (raw-marks (o .way) (o .lent)) (o .lent) (rw with-marks at (o .accepted)))
+
+raw-bytes : (o : Opening) (s : State) → single.Bytes (raw-marks o s)
+raw-bytes measured s = history.zeros-are-bytes (length (s .marks))
+raw-bytes received s = history.kept-are-bytes (s .marks)
+
 -- what holds of the rules on every fresh recording holds of the calls on every opened one
 opened-any : (P : State → List single.Call → State → Type 0) → single.AfterAny (λ raw cs. P raw cs (single.run cs raw))
     → AfterAny (λ raw cs. P raw (allRules cs raw) (after cs raw))
 opened-any P all raw cs o =
     let words = o .lent .samples in
-    let marks = replicate (length (o .lent .marks)) measured in
+    let marks = raw-marks (o .way) (o .lent) in
     let room = length (o .lent .journal) in
-    let fresh : raw ≡ single.fresh words marks room = sym (o .leaves) ∙ history.opening-is-fresh (o .lent) (o .accepted) in
     rw (after-is-run cs raw)
-    (rw fresh
-    (all words marks room (allRules cs (single.fresh words marks room)) (history.zeros-are-bytes (length (o .lent .marks)))
+    (rw (opened-fresh raw o)
+    (all words marks room (allRules cs (single.fresh words marks room)) (raw-bytes (o .way) (o .lent))
     (all-lawful cs (single.fresh words marks room))))
 
 pub demand-3 : Demand3
@@ -408,12 +443,28 @@ undoing-all raw cs o k h =
     ∙ opened-any (λ raw cs end. (k : ℕ) → length (single.survivors cs raw) ≤ k → single.run (replicate k single.undo) end ≡ raw)
     history.undoing-all raw cs o k h
 
-pub measured-is-raw : MeasuredIsRaw
-measured-is-raw raw cs o i h =
+-- a sample whose mark is none that a repair sets has its raw word and its raw mark
+unmade-is-raw : (raw : State) (cs : List Call) → Opened raw → (i : ℕ) → marks.made (getD (after cs raw .marks) i 0) ≡ false
+    → (getD (after cs raw .samples) i 0 ≡ getD (raw .samples) i 0) × (getD (after cs raw .marks) i 0 ≡ getD (raw .marks) i 0)
+unmade-is-raw =
     opened-any
-    (λ raw cs end. (i : ℕ) → getD (end .marks) i 0 ≡ measured
-    → (getD (end .samples) i 0 ≡ getD (raw .samples) i 0) × (getD (raw .marks) i 0 ≡ measured))
-    history.measured-is-raw raw cs o i h .0
+    (λ raw cs end. (i : ℕ) → marks.made (getD (end .marks) i 0) ≡ false
+    → (getD (end .samples) i 0 ≡ getD (raw .samples) i 0) × (getD (end .marks) i 0 ≡ getD (raw .marks) i 0))
+    history.unmade-is-raw
+
+pub measured-is-raw : MeasuredIsRaw
+measured-is-raw raw cs o i h = unmade-is-raw raw cs o i (rw h) .0
+
+pub measured-was-received : MeasuredWasReceived
+measured-was-received raw cs o i h = sym (unmade-is-raw raw cs o i (rw h) .1) ∙ h
+
+pub raw-is-measured-or-not-received : RawIsMeasuredOrNotReceived
+raw-is-measured-or-not-received raw o i = rw (opened-fresh raw o) (raw-either (o .way) (o .lent) i)
+
+pub not-received-is-raw : NotReceivedIsRaw
+not-received-is-raw raw cs o i h =
+    let same = unmade-is-raw raw cs o i (rw h) in
+    (same .0, sym (same .1) ∙ h)
 
 pub entries-are-survivors : EntriesAreSurvivors
 entries-are-survivors =

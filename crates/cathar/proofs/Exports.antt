@@ -6,7 +6,8 @@ use mathlib.Core.List.{List, [], _∷_}
 use Rattle.recording.specs.Answers.{number, value}
 use Rattle.recording.specs.Recording.{State, Ended, ended, workAfter}
 use Rattle.recording.specs.declared.Answer.{Answer}
-use Rattle.cathar.specs.Calls.{Work, none, outcome, told}
+use Rattle.frames.specs.Frames.{Delivered, delivered}
+use Rattle.cathar.specs.Calls.{Work, none, outcome, told, framesTold, toldOf}
 
 -- an opening
 pub tells : (call : Ended) (a : Answer) (s : State) (result : ℕ) → ended a s ≡ call → result ≡ number a
@@ -23,3 +24,9 @@ pub works : {A : Type 0} (kind : List A → Work) (call : Ended) (a : Answer) (s
     (work left : List A) → (ended a s ≡ call) × (left ≡ workAfter nought n a work) → result ≡ number a → given ≡ value a
     → outcome result (given ∷ []) s (kind left) ≡ told call (kind (workAfter nought n (call .answer) work))
 works kind call a s result given nought n work left e r v = rw (r, v, e .1, ← e .0) refl
+
+-- the reading of frames
+pub reads : (call : Delivered) (a : Answer) (missing dropped : ℕ) (samples marks : List ℕ) (result n : ℕ)
+    → delivered a missing dropped samples marks ≡ call → result ≡ number a → n ≡ value a
+    → framesTold result (n ∷ missing ∷ dropped ∷ []) samples marks ≡ toldOf call
+reads call a missing dropped samples marks result n e r v = rw (r, v, ← e) refl

@@ -15,11 +15,12 @@ use Rattle.leaves.specs.Floats.{inRange}
 use Rattle.leaves.proofs.Choice.{EitherWay, truth}
 use Rattle.leaves.proofs.Numbers.{lt-or-ge}
 use Rattle.recording.specs.Answers.{number}
-use Rattle.recording.specs.Recording.{State, Ended, Placed, Plan, change, picked, differ, tooMany, overUsed, fitting, opened}
+use Rattle.recording.specs.Recording.{State, Ended, Placed, Plan, change, picked, differ, tooMany, overUsed, alike, fitting, openedWith}
 use Rattle.recording.specs.Recording.{unlessRead, unlessRefused, readable, ranged, entrySize, entered, carried, performed, called}
 use Rattle.recording.specs.Recording.{ended, refused, lastCount, malformed, takenBack, undone}
 use Rattle.recording.specs.Consequences.{Among}
 use Rattle.recording.specs.declared.Reason.the-variants.{Read, Result, Nothing, Malformed}
+use Rattle.recording.specs.declared.Answer.{Answer}
 use Rattle.recording.specs.declared.Answer.the-variants.{Done, Refused}
 use Rattle.inpaint.specs.Gap.{gapWrong, byLine, from, needed, knownBefore, knownBehind, allReadable, repaired, gapPlan, gapRepair}
 use Rattle.inpaint.specs.Auto as auto
@@ -90,7 +91,7 @@ abbrev pub sized : State → ℕ → ℕ
 sized s k = if differ s then 1 else if tooMany s then 2 else if overUsed s then 3 else k
 
 pub unless-number : (s : State) (e : Ended) → number (unlessRefused (fitting s) s e .answer) ≡ sized s (number (e .answer))
-unfolding fitting
+unfolding fitting alike
 unless-number s e = go (truth (differ s)) (truth (tooMany s)) (truth (overUsed s))
   where
     go : EitherWay (differ s) → EitherWay (tooMany s) → EitherWay (overUsed s)
@@ -247,7 +248,7 @@ undo-number s =
 -- lines 1 to 4 of a scan
 pub scan-number : (rate : ℕ) (millis : Float) (s : State)
     → number (auto.scannable rate millis s) ≡ sized s (if not (auto.allowed rate millis) then 4 else 0)
-unfolding auto.scannable fitting
+unfolding auto.scannable fitting alike
 scan-number rate millis s = go (truth (differ s)) (truth (tooMany s)) (truth (overUsed s)) (truth (auto.allowed rate millis))
   where
     go : EitherWay (differ s) → EitherWay (tooMany s) → EitherWay (overUsed s) → EitherWay (auto.allowed rate millis)
@@ -258,22 +259,22 @@ scan-number rate millis s = go (truth (differ s)) (truth (tooMany s)) (truth (ov
     go (inr a) (inr b) (inr c) (inl d) = rw (a, b, c, d) refl
     go (inr a) (inr b) (inr c) (inr d) = rw (a, b, c, d) refl
 
--- lines 1 and 2 of an opening
-pub opening-number : (s : State) → number (opened s .answer) ≡ (if differ s then 1 else if tooMany s then 2 else 0)
-unfolding opened
-opening-number s = go (truth (differ s)) (truth (tooMany s))
+-- lines 1 and 2 of an opening, whatever raw marks it sets
+pub opening-number : (marks : List ℕ) (s : State) → number (openedWith marks s .answer) ≡ (if differ s then 1 else if tooMany s then 2 else 0)
+unfolding openedWith alike
+opening-number marks s = go (truth (differ s)) (truth (tooMany s))
   where
-    go : EitherWay (differ s) → EitherWay (tooMany s) → number (opened s .answer) ≡ (if differ s then 1 else if tooMany s then 2 else 0)
+    go : EitherWay (differ s) → EitherWay (tooMany s)
+        → number (openedWith marks s .answer) ≡ (if differ s then 1 else if tooMany s then 2 else 0)
     go (inl a) b = rw a refl
     go (inr a) (inl b) = rw (a, b) refl
     go (inr a) (inr b) = rw (a, b) refl
 
 -- an opening that is turned away keeps all
-pub opened-keeps : (s : State) → 0 < number (opened s .answer) → opened s .after ≡ s
-unfolding opened
-opened-keeps s = go (truth (differ s)) (truth (tooMany s))
+pub opened-keeps : (marks : List ℕ) (s : State) → 0 < number (openedWith marks s .answer) → openedWith marks s .after ≡ s
+unfolding openedWith
+opened-keeps marks s = go (alike s) refl
   where
-    go : EitherWay (differ s) → EitherWay (tooMany s) → 0 < number (opened s .answer) → opened s .after ≡ s
-    go (inl a) b h = rw a refl
-    go (inr a) (inl b) h = rw (a, b) refl
-    go (inr a) (inr b) h = let none : 0 < 0 = rw (a, b) at h in absurd (omega arith)
+    go : (a : Answer) → alike s ≡ a → 0 < number (openedWith marks s .answer) → openedWith marks s .after ≡ s
+    go (Done m) e h = let none : 0 < 0 = rw e at h in absurd (omega arith)
+    go (Refused why) e h = rw e refl

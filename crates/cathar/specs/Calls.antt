@@ -1,18 +1,20 @@
 -- Every call of the library on a recording, under one type, and what it ends in. What an exported function promises is the
--- equation between what it leaves and `ran` of its call, or `opening`. Definitions only.
+-- equation between what it leaves and `ran` of its call, or `opening`; of the one that reads frames, `toldOf` what these deliver.
+-- Definitions only.
 use Prim.Native.Nat.{ℕ}
 use mathlib.Core.List.{List, [], _∷_}
 use lib.ListN.{length}
 use lib.Ieee.{Float}
 use Rattle.leaves.specs.Arithmetic.{nought}
 use Rattle.recording.specs.Answers.{number, value}
-use Rattle.recording.specs.Recording.{State, Ended, opened, undone, workAfter}
+use Rattle.recording.specs.Recording.{State, Ended, opened, openedReceived, undone, workAfter}
 use Rattle.inpaint.specs.Gap.{needed, gapRepair}
 use Rattle.inpaint.specs.Auto.{automatic}
 use Rattle.redraw.specs.Whole as whole
 use Rattle.declip.specs.Declip.{declipRepair}
 use Rattle.decrackle.specs.Decrackle.{decrackleRepair}
 use Rattle.dequant.specs.Dequant.{dequantizeRepair, cosparseRepair}
+use Rattle.frames.specs.Frames.{Delivered}
 
 -- a call with its settings and the workspace that it is lent: doubles for a gap and for the automatic scan, 32-bit words for the
 -- repairs over the whole recording
@@ -63,6 +65,31 @@ ran (dequantize bits strength work) s = redrawn s work (dequantizeRepair bits st
 ran (cosparse bits strength iterations work) s = redrawn s work (cosparseRepair bits strength iterations (length work) s)
 ran undo s = told (undone s) none
 
--- opening, with which every recording starts, gives no figure
-abbrev pub opening : State → Outcome
-opening s = let e = opened s in outcome (number (e .answer)) [] (e .after) none
+-- the two openings, with one of which every recording starts
+pub data Opening : Type 0 where
+  -- every sample was measured
+  measured : Opening
+  -- as the bus's frames left it: a sample was measured or not received
+  received : Opening
+
+abbrev pub opens : Opening → State → Ended
+opens measured s = opened s
+opens received s = openedReceived s
+
+-- an opening gives no figure
+abbrev pub opening : Opening → State → Outcome
+opening o s = let e = opens o s in outcome (number (e .answer)) [] (e .after) none
+
+-- reading frames, which is no call on a recording, leaves its number, three figures (samples, frames missing, frames dropped) and the
+-- rooms for samples and marks
+pub record FramesTold : Type 0 where
+  pub number : ℕ
+  pub figures : List ℕ
+  pub samples : List ℕ
+  pub marks : List ℕ
+
+abbrev pub framesTold : ℕ → List ℕ → List ℕ → List ℕ → FramesTold
+framesTold k figures samples marks = record { number = k; figures = figures; samples = samples; marks = marks }
+
+abbrev pub toldOf : Delivered → FramesTold
+toldOf d = framesTold (number (d .answer)) (value (d .answer) ∷ d .missing ∷ d .dropped ∷ []) (d .samples) (d .marks)

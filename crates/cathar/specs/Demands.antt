@@ -8,8 +8,8 @@ use lib.ListN.{length, getD, replicate}
 use lib.Dec.{eqb}
 use lib.Ieee.{Float}
 use Rattle.leaves.specs.Choice.{if_then_else_}
-use Rattle.recording.specs.Recording.{State, Placed, change, opened}
-use Rattle.recording.specs.Marks.{measured}
+use Rattle.recording.specs.Recording.{State, Placed, change}
+use Rattle.recording.specs.Marks.{measured, notReceived}
 use Rattle.recording.specs.History as single
 use Rattle.recording.specs.Consequences.{Among, MadeOf, AllName, closings, returned}
 use Rattle.recording.specs.declared.Answer.the-variants.{Done, Refused}
@@ -19,7 +19,7 @@ use Rattle.inpaint.specs.Runs.{scanCalls, runAnswers, firstRefusal}
 use Rattle.declip.specs.Declip.{declipPlan}
 use Rattle.decrackle.specs.Decrackle.{decracklePlan}
 use Rattle.dequant.specs.Dequant.{dequantizePlan, cosparsePlan}
-use Rattle.cathar.specs.Calls.{Call, gap, scan, declip, decrackle, dequantize, cosparse, undo, ran, opening}
+use Rattle.cathar.specs.Calls.{Call, gap, scan, declip, decrackle, dequantize, cosparse, undo, ran, Opening, opens, opening}
 use Rattle.cathar.specs.Refusals.{turnedAway, openingTurnedAway, canGive, testedByOpening}
 
 -- ---- What a call counts as
@@ -58,14 +58,14 @@ GivenExactlyWhen =
     (c : Call) (s : State) → ran c s .number ≡ (let k = turnedAway c s in if eqb k 0 then firstOfRuns (kind c) s else k)
 
 abbrev pub OpeningGivenExactlyWhen : Type 0
-OpeningGivenExactlyWhen = (s : State) → opening s .number ≡ openingTurnedAway s
+OpeningGivenExactlyWhen = (o : Opening) (s : State) → opening o s .number ≡ openingTurnedAway s
 
 -- which numbers a call can give at all
 abbrev pub OnlyThese : Type 0
 OnlyThese = (c : Call) (s : State) → (ran c s .number ≡ 0) ⊎ Among (ran c s .number) (canGive c)
 
 abbrev pub OpeningOnlyThese : Type 0
-OpeningOnlyThese = (s : State) → (opening s .number ≡ 0) ⊎ Among (opening s .number) testedByOpening
+OpeningOnlyThese = (o : Opening) (s : State) → (opening o s .number ≡ 0) ⊎ Among (opening o s .number) testedByOpening
 
 -- "A refusal changes nothing": neither does a call that a line of the table turns away, nor an opening. Each single repair of a scan does
 -- the same (`RefusalChangesNothing` of the crate `recording`).
@@ -73,7 +73,7 @@ abbrev pub RefusalChangesNothing : Type 0
 RefusalChangesNothing = (c : Call) (s : State) → 0 < turnedAway c s → ran c s .after ≡ s
 
 abbrev pub RefusedOpeningChangesNothing : Type 0
-RefusedOpeningChangesNothing = (s : State) → 0 < openingTurnedAway s → opening s .after ≡ s
+RefusedOpeningChangesNothing = (o : Opening) (s : State) → 0 < openingTurnedAway s → opening o s .after ≡ s
 
 -- ---- 2. "An accepted repair gives, bit for bit, the samples of document 01's rules over IEEE 754, and marks exactly the samples it
 -- names."
@@ -117,11 +117,12 @@ abbrev pub after : List Call → State → State
 after [] s = s
 after (c ∷ cs) s = after cs (ran c s .after)
 
--- "a freshly opened recording": an accepted opening left it
+-- "a freshly opened recording": an accepted opening left it, one of the two
 pub record Opened (raw : State) : Type 0 where
+  pub way : Opening
   pub lent : State
-  pub accepted : opened lent .answer ≡ Done 0
-  pub leaves : opened lent .after ≡ raw
+  pub accepted : opens way lent .answer ≡ Done 0
+  pub leaves : opens way lent .after ≡ raw
 
 -- something holds "After any sequence of repairs, refusals and undos" on every such recording
 abbrev pub AfterAny : (State → List Call → Type 0) → Type 0
@@ -155,6 +156,26 @@ abbrev pub MeasuredIsRaw : Type 0
 MeasuredIsRaw =
     AfterAny
     (λ raw cs. (i : ℕ) → getD (after cs raw .marks) i 0 ≡ measured → getD (after cs raw .samples) i 0 ≡ getD (raw .samples) i 0)
+
+-- and was so marked when the recording opened: it was received
+abbrev pub MeasuredWasReceived : Type 0
+MeasuredWasReceived =
+    AfterAny
+    (λ raw cs. (i : ℕ) → getD (after cs raw .marks) i 0 ≡ measured → getD (raw .marks) i 0 ≡ measured)
+
+-- request P2: "demand 3's raw marks are 0 or 6", whatever a caller lends
+abbrev pub RawIsMeasuredOrNotReceived : Type 0
+RawIsMeasuredOrNotReceived =
+    (raw : State) → Opened raw → (i : ℕ) → (getD (raw .marks) i 0 ≡ measured) ⊎ (getD (raw .marks) i 0 ≡ notReceived)
+
+-- "No repair sets mark 6; undo brings it back": a sample marked 6 was so marked when the recording opened, and has the word that it had then
+abbrev pub NotReceivedIsRaw : Type 0
+NotReceivedIsRaw =
+    AfterAny
+    (λ raw cs.
+    (i : ℕ)
+    → getD (after cs raw .marks) i 0 ≡ notReceived
+    → (getD (after cs raw .samples) i 0 ≡ getD (raw .samples) i 0) × (getD (raw .marks) i 0 ≡ notReceived))
 
 -- the journal's m and mark, entry by entry, the last first, are those that the survivors returned and set
 abbrev pub EntriesAreSurvivors : Type 0

@@ -6,7 +6,9 @@ ghost use mathlib.Core.List.{[], _∷_};
 ghost use Rattle.leaves.specs.Floats.{narrowed, rounded};
 ghost use Rattle.leaves.specs.Root.{Rooted};
 ghost use Rattle.cathar.specs.Calls.{gap, scan, declip, decrackle, dequantize, cosparse, undo};
-ghost use Rattle.cathar.specs.Calls.{none, doubles, words, outcome, ran, opening};
+ghost use Rattle.cathar.specs.Calls.{none, doubles, words, outcome, ran};
+ghost use Rattle.cathar.specs.Calls.{measured, received, opening, framesTold, toldOf};
+ghost use Rattle.frames.specs.Frames.{framesRead};
 ghost use Rattle.recording.specs.Lent.{left, lent, leftReading};
 use recording::numbers::number_of;
 use recording::numbers::value_of;
@@ -20,9 +22,47 @@ pub extern "C" fn cathar_open(
     journal: &mut [u32],
     used: &mut usize,
 ) -> u32
-    ensures { λ r. ⌜ outcome r [] (leftReading samples marks journal used) none ≡ opening (lent samples marks journal used) ⌝ }
+    ensures { λ r. ⌜ outcome r [] (leftReading samples marks journal used) none ≡ opening measured (lent samples marks journal used) ⌝ }
 {
     let answer = recording::open::open(samples, marks, journal, used);
+    number_of(answer)
+}
+
+// Opens a recording as the bus's frames left it: mark 6, not received, stays where it stands, and every
+// other mark becomes 0. Journal, used and the answer as of `cathar_open`.
+#[no_mangle]
+pub extern "C" fn cathar_open_received(
+    samples: &[u32],
+    marks: &mut [u8],
+    journal: &mut [u32],
+    used: &mut usize,
+) -> u32
+    ensures { λ r. ⌜ outcome r [] (leftReading samples marks journal used) none ≡ opening received (lent samples marks journal used) ⌝ }
+{
+    let answer = recording::open::open_received(samples, marks, journal, used);
+    number_of(answer)
+}
+
+// Reads the bus's frames into samples and marks. The number of the refusal, 2 or 12, or 0; n becomes the
+// number of samples, missing and dropped those of frames not received and of frames late or repeated,
+// and all three 0 where the frames are refused.
+#[no_mangle]
+pub extern "C" fn cathar_read_frames(
+    frames: &[u8],
+    samples: &mut [u32],
+    marks: &mut [u8],
+    n: &mut usize,
+    missing: &mut usize,
+    dropped: &mut usize,
+) -> u32
+    ensures { λ r. ⌜ framesTold r (now (n .exit) ∷ now (missing .exit) ∷ now (dropped .exit) ∷ []) (now (samples .exit)) (now (marks .exit))
+        ≡ toldOf (framesRead (now (frames .entry)) (now (samples .entry)) (now (marks .entry))) ⌝ }
+{
+    let read = frames::read_frames(frames, samples, marks);
+    let answer = read.answer;
+    *n = value_of(answer);
+    *missing = read.missing;
+    *dropped = read.dropped;
     number_of(answer)
 }
 

@@ -15,7 +15,7 @@ use borrow.Author.Tests.{ltb-true, ltb-false}
 use Rattle.leaves.specs.Floats.{inRange}
 use Rattle.recording.specs.Answers.{number}
 use Rattle.recording.specs.Recording.{State, Ended, Placed, each, span, Plan, refuse, change, places, entry, entrySize}
-use Rattle.recording.specs.Recording.{differ, tooMany, overUsed, fitting, ranged, entered, committed, carried, performed, called}
+use Rattle.recording.specs.Recording.{differ, tooMany, overUsed, alike, fitting, ranged, entered, committed, carried, performed, called}
 use Rattle.recording.specs.Recording.{unlessRefused}
 use Rattle.recording.specs.Inner.{Fits}
 use Rattle.recording.specs.declared.Answer.{Answer}
@@ -23,7 +23,7 @@ use Rattle.recording.specs.declared.Answer.the-variants.{Done, Refused}
 use Rattle.recording.proofs.commit.Laws.{length-span}
 use Rattle.recording.proofs.open.Laws.{fits-done, accepted-fits}
 use Rattle.recording.proofs.Entering.{Enters, Ending, unnamed, turned-away, enters, ending, enters-ends}
-use Rattle.leaves.proofs.Choice.{picks, picks-by, both-hold}
+use Rattle.leaves.proofs.Choice.{EitherWay, truth, picks, picks-by, both-hold}
 use Rattle.model.specs.Model.{doublesFor}
 use Rattle.recording.proofs.Put.{length-put}
 use Rattle.recording.proofs.Runs.{begins-not}
@@ -76,10 +76,14 @@ module _ (P : ℕ → Type 0) (s : State) (start len passes room : ℕ) (accepte
 
 -- refusals 1 to 3 have these numbers
 fitting-number : (P : ℕ → Type 0) (s : State) → P 0 → P 1 → P 2 → P 3 → P (number (fitting s))
-unfolding fitting
-fitting-number P s p0 p1 p2 p3 =
-    let Q : Answer → Type 0 = λ a. P (number a) in
-    picks Q (differ s) _ _ p1 (picks Q (tooMany s) _ _ p2 (picks Q (overUsed s) _ _ p3 p0))
+unfolding fitting alike
+fitting-number P s p0 p1 p2 p3 = go (truth (differ s)) (truth (tooMany s)) (truth (overUsed s))
+  where
+    go : EitherWay (differ s) → EitherWay (tooMany s) → EitherWay (overUsed s) → P (number (fitting s))
+    go (inl a) b c = rw a p1
+    go (inr a) (inl b) c = rw (a, b) p2
+    go (inr a) (inr b) (inl c) = rw (a, b, c) p3
+    go (inr a) (inr b) (inr c) = rw (a, b, c) p0
 
 -- ---- What it leaves
 

@@ -1,0 +1,24 @@
+-- `cathar::cathar_open_received` meets its contract: it tells what the second opening ends in. Assumes nothing.
+use Rattle.cathar.proofs.Exports.{tells}
+use borrow.Author.Needs.{needs}
+use Rattle.cathar.proofs.cathar_open_received.Statement.{statement}
+use Rattle.cathar.proofs.cathar_open_received.Tie as tie
+
+open-received-requires : tie.Need-open-received-requires
+open-received-requires c κs = search needs
+
+number-of-requires : tie.Need-number-of-requires
+number-of-requires c κs = search needs
+
+same-length : tie.Need-same-length
+same-length c = search needs
+
+same-length-2 : tie.Need-same-length-2
+same-length-2 c = search needs
+
+returns : tie.Need-returns
+returns c = tells _ _ _ _ (c .before .before .before .before .before .open-received .ensures) (c .number-of .ensures)
+
+pub cathar-open-received-spec : {M : Type 1} → statement M
+cathar-open-received-spec =
+    tie.close (tie.spec open-received-requires number-of-requires same-length same-length-2 returns)
