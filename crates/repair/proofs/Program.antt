@@ -1,4 +1,4 @@
--- The program's scan, from what opening and scanning ensure, and its report, from what decoding and the scan ensure. Assumes nothing.
+-- The program's report, from what decoding and the scan ensure. Assumes nothing.
 use Prim.Native.Nat.{ℕ}
 use mathlib.Core.Path.{_≡_, ap, sym, _∙_}
 use mathlib.Core.List.{List}
@@ -7,20 +7,13 @@ use lib.Seq.{sets}
 use lib.Ieee.{Float, binary64, ofBits}
 use Rattle.leaves.specs.Arithmetic.{nought}
 use Rattle.leaves.proofs.Stores.{stored-over}
-use Rattle.recording.specs.Recording.{State, Ended, ended, opened}
 use Rattle.recording.specs.History.{fresh}
-use Rattle.recording.specs.declared.Answer.{Answer}
 use Rattle.inpaint.specs.Auto.{Scan}
-use Rattle.monitor.specs.Scanning.{journalWords, workspace, scanning, reportOf}
+use Rattle.monitor.specs.Scanning.{journalWords, workspace, reportOf}
 use Rattle.monitor.proofs.Scanning.{empty-work}
 use Rattle.wire.specs.Wire.{decoded}
 use Rattle.wire.proofs.Laws.{length-decoded}
 use Rattle.repair.specs.Program.{repairing, reported}
-
-pub opened-then : (s t : State) (a : Answer) (work : List Float) (scanned : Scan) → ended a t ≡ opened s
-    → scanned ≡ scanning work t → scanned ≡ repairing work s
-unfolding repairing
-opened-then s t a work scanned e h = h ∙ ap (λ (c : Ended). scanning work (c .after)) e
 
 -- all samples are decoded, and the code's workspace begins with its 0.0
 pub reports : (bytes before words marks : List ℕ) (scanned : Scan) → length marks ≡ length before

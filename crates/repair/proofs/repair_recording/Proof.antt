@@ -1,6 +1,7 @@
 -- `repair::repair_recording` meets its contract: it scans what opening left. Assumes nothing.
 use borrow.Author.Needs.{needs}
-use Rattle.repair.proofs.Program.{opened-then}
+use Rattle.monitor.proofs.Scanning.{opened-then}
+use Rattle.repair.specs.Program.{repairing}
 use Rattle.repair.proofs.repair_recording.Statement.{statement}
 use Rattle.repair.proofs.repair_recording.Tie as tie
 
@@ -23,6 +24,7 @@ same-length-4 : tie.Need-same-length-4
 same-length-4 c = search needs
 
 returns : tie.Need-returns
+unfolding repairing
 returns c =
     let scanned = c .before .before .before .before .before .before .before .before in
     let lent = scanned .before .before .before .before .before .before .before .before .before .before in
