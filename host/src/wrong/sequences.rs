@@ -315,6 +315,7 @@ const OF_BOTH_AT_ONCE: &[Standin] = &[
         says: "the opening of what was received marks every NaN as not received",
         how: Alike(received_marks_nan),
     },
+    Standin { name: "seq_both_open_keeps_marks", says: "opening leaves the marks", how: Alike(open_keeps_marks) },
     Standin {
         name: "seq_both_open_keeps_6",
         says: "the opening of what was measured keeps mark 6, as the other one does",
@@ -404,7 +405,6 @@ const OF_BOTH_BY_EITHER: &[Standin] = &[
         says: "undo leaves the freed journal words",
         how: Alike(undo_keeps_journal),
     },
-    Standin { name: "seq_both_open_keeps_marks", says: "opening leaves the marks", how: Alike(open_keeps_marks) },
     Standin {
         name: "seq_both_open_keeps_journal",
         says: "opening leaves the journal words",
