@@ -32,10 +32,10 @@ struct Group {
 
 /// Most recordings are short, since the original takes its time for the long ones.
 const GROUPS: [Group; 4] = [
-    Group { name: "0 to 40 samples", sequences: 7_500, samples: 0..41, calls: 2..40 },
-    Group { name: "41 to 300 samples", sequences: 2_500, samples: 41..301, calls: 2..24 },
-    Group { name: "301 to 2,000 samples", sequences: 250, samples: 301..2_001, calls: 2..16 },
-    Group { name: "2,001 to 5,000 samples", sequences: 200, samples: 2_001..5_001, calls: 2..16 },
+    Group { name: "0 to 40 samples", sequences: 9_000, samples: 0..41, calls: 2..40 },
+    Group { name: "41 to 300 samples", sequences: 3_000, samples: 41..301, calls: 2..24 },
+    Group { name: "301 to 2,000 samples", sequences: 300, samples: 301..2_001, calls: 2..16 },
+    Group { name: "2,001 to 5,000 samples", sequences: 250, samples: 2_001..5_001, calls: 2..16 },
 ];
 
 /// The counts of the calls in the sequences, of the survivors that are made alone, of the undos at the end, and of

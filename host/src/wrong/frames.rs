@@ -782,7 +782,7 @@ fn ahead(number: u16, expected: u16) -> u32 {
 
 /// As many missing as a frame is ahead, up to this many.
 fn up_to(most: u32, ahead: u32) -> Option<usize> {
-    (ahead <= most).then(|| ahead as usize)
+    (ahead <= most).then_some(ahead as usize)
 }
 
 fn over(facts: &Facts) -> bool {

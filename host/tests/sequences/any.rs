@@ -76,14 +76,14 @@ fn received(draw: &mut Draw, samples: &[u32]) -> (Vec<u32>, Vec<u8>) {
     (rooms.samples[before..end].to_vec(), rooms.marks[before..end].to_vec())
 }
 
-/// Which frames of so many are lost: mostly one to three in one place, so that a scan may repair them, and at times more.
-/// The first and the last two are not.
+/// Which frames of so many, at least three, are lost: mostly up to three in one place, so that a scan may repair them, and
+/// at times more. The first and the last two are not.
 fn lost(draw: &mut Draw, count: usize) -> Vec<usize> {
     let losses = if once_in(draw, 3) { 1 + draw.below(4) } else { 1 };
     let mut lost = Vec::new();
     for _ in 0..losses {
-        let start = 1 + draw.below(count as u64) as usize;
-        lost.extend(start..start + 1 + draw.below(3) as usize);
+        let start = from_to(draw, 1, count - 2);
+        lost.extend(start..=start + draw.below(3) as usize);
     }
     lost.retain(|place| place + 2 < count);
     lost.sort_unstable();

@@ -85,9 +85,9 @@ impl Step {
 
 /// What the calls of the sequences have to be, all of them together.
 pub const CALLS: &[Class<Step>] = &[
-    Class { name: "opened", least: 5_000, holds: |s| s.is(Kind::Open) },
-    Class { name: "opened as received", least: 5_000, holds: |s| s.is(Kind::OpenReceived) },
-    Class { name: "opened so, with samples not received", least: 2_000, holds: |s| s.call.opens() && s.missing > 0 },
+    Class { name: "opened", least: 6_000, holds: |s| s.is(Kind::Open) },
+    Class { name: "opened as received", least: 6_000, holds: |s| s.is(Kind::OpenReceived) },
+    Class { name: "opened so, with samples not received", least: 2_500, holds: |s| s.call.opens() && s.missing > 0 },
     Class { name: "opened again, with survivors", least: 500, holds: |s| s.call.opens() && s.survivors > 0 },
     Class { name: "a gap by model", least: 15_000, holds: |s| s.names_by(Kind::Gap) },
     Class { name: "a gap by line", least: 20, holds: |s| s.names_by(Kind::Line) },
@@ -189,12 +189,12 @@ impl Ended {
 
 /// What the sequences have to be, all of them together.
 pub const SEQUENCES: &[Class<Ended>] = &[
-    Class { name: "sequences", least: 10_000, holds: |_| true },
-    Class { name: "opened as measured", least: 4_500, holds: |e| !e.received },
-    Class { name: "opened as received", least: 4_500, holds: |e| e.received },
-    Class { name: "with samples not received", least: 1_500, holds: |e| e.missing > 0 },
-    Class { name: "of which some are repaired", least: 800, holds: |e| e.still_missing < e.missing },
-    Class { name: "of which some are not", least: 800, holds: |e| e.still_missing > 0 },
+    Class { name: "sequences", least: 12_000, holds: |_| true },
+    Class { name: "opened as measured", least: 5_000, holds: |e| !e.received },
+    Class { name: "opened as received", least: 5_000, holds: |e| e.received },
+    Class { name: "with samples not received", least: 2_500, holds: |e| e.missing > 0 },
+    Class { name: "of which some are repaired", least: 1_200, holds: |e| e.still_missing < e.missing },
+    Class { name: "of which some are not", least: 1_200, holds: |e| e.still_missing > 0 },
     Class { name: "on 0 samples", least: 80, holds: |e| e.samples == 0 },
     Class { name: "on 1 to 7 samples", least: 600, holds: |e| (1..8).contains(&e.samples) },
     Class { name: "on 4,000 samples or more", least: 30, holds: |e| e.samples >= 4_000 },
