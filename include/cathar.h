@@ -45,7 +45,7 @@ float cathar_narrow(double x);
  *   magnitude from 2^23 on            x itself, +infinity and -infinity among them */
 float cathar_round(float x);
 
-/* A recording is memory that the caller lends to each call, to cathar_open first:
+/* A recording is memory that the caller lends to each call, to cathar_open or cathar_open_received first:
  *   samples   n words, each the pattern of a float as it stands in memory: that of 1.0f is 0x3f800000, and
  *             memcpy of the 4 bytes makes either of the other. Places count from 0.
  *   marks     marks_n bytes, one for each sample: what it says of the sample is below
@@ -63,24 +63,30 @@ float cathar_round(float x);
 #define CATHAR_LEAST_BITS 4             /* what the bits of both forms of dequantize are held to */
 #define CATHAR_MOST_BITS 24
 #define CATHAR_MOST_ITERATIONS 16       /* as many iterations are made at most */
+#define CATHAR_FRAME_BYTES 66           /* a frame of the bus: a number of 2 bytes, and 16 words of 4 */
+#define CATHAR_FRAME_WORDS 16
+#define CATHAR_MOST_MISSING 1000        /* the most frames that may be missing before one that is read */
+#define CATHAR_MISSING_WORD 0x7FC00000  /* a NaN, the word of each sample of a missing frame */
 
 /* The marks. A repair names the samples that it writes, and no others. Each gets its result, which may be the word
- * that it had, and the repair's mark. So, where nothing but these calls writes a recording, a mark tells which
- * repair was the last to name the sample, and a sample that is marked as measured has the word that it was opened
- * with.
+ * that it had, and the repair's mark, which is 1 to 5. So, where nothing but these calls writes a recording, a mark of
+ * these tells which repair was the last to name the sample; and a sample that is marked as measured or as not received
+ * was so marked when the recording was opened, and has the word that it was opened with.
  *
  * What a repair reads it takes as it stands: a sample that an earlier repair made counts like a measured one, in
- * gaps, in scans and in the repairs over the whole recording. Who wants a repair to rest on measured samples alone
- * looks at the marks before. */
+ * gaps, in scans and in the repairs over the whole recording, and so does one that was not received, whose word
+ * CATHAR_MISSING_WORD is not in range. Who wants a repair to rest on measured samples alone looks at the marks
+ * before. */
 #define CATHAR_MARK_MEASURED 0          /* as it came from the pump */
 #define CATHAR_MARK_GAP_BY_MODEL 1
 #define CATHAR_MARK_GAP_BY_LINE 2       /* a straight line */
 #define CATHAR_MARK_CUBIC_DECLIP 3
 #define CATHAR_MARK_DECRACKLE 4
 #define CATHAR_MARK_DEQUANTIZE 5        /* in either form */
+#define CATHAR_MARK_NOT_RECEIVED 6      /* the frame that it was in did not arrive; no repair sets this mark */
 
-/* The answers. Each call on a recording answers CATHAR_ACCEPTED, and else the number of the refusal. Where several
- * apply, it is the lowest.
+/* The answers. Each call on a recording, and the reading of frames, answers CATHAR_ACCEPTED, and else the number of the
+ * refusal. Where several apply, it is the lowest.
  *
  * A call that is refused leaves samples, marks, journal and used as they were. Of its workspace 8 and 9 leave the
  * needed part cleared, and the others leave all of it. A scan, cathar_inpaint_auto, is several repairs, and answers
@@ -97,6 +103,30 @@ float cathar_round(float x);
 #define CATHAR_REFUSED_ROOM 9           /* fewer than 3m+2 free journal words, where m samples are named, at least 1 */
 #define CATHAR_REFUSED_NOTHING 10       /* undo: used is 0 */
 #define CATHAR_REFUSED_MALFORMED 11     /* undo: the last entry is malformed */
+#define CATHAR_REFUSED_FRAMES 12        /* frames: the input is not whole frames, or samples or marks lack room */
+
+/* Reads what the bus sent, frames_n bytes, into the samples and marks of a recording, which cathar_open_received
+ * then opens. A frame is CATHAR_FRAME_BYTES bytes: its number, of 16 bits, and then CATHAR_FRAME_WORDS words of 32
+ * bits, each the pattern of a float; all have the lowest byte first. Numbers go round from 65535 to 0. The number of
+ * the first frame is expected. How far the number of a frame is ahead of the expected one, going round, decides:
+ *   0          it is the next: its words, whatever they are, become samples that are marked 0
+ *   1 to 1000  so many frames are missing, CATHAR_MOST_MISSING at most: each becomes CATHAR_FRAME_WORDS samples of
+ *              the word CATHAR_MISSING_WORD that are marked 6, and behind them come the frame's own as above
+ *   more       it is late or a repeat: it is dropped, and changes nothing but the count of these
+ * After a frame that is not dropped the number behind its own is expected. So, after a loss of more than
+ * CATHAR_MOST_MISSING frames, all that follow are dropped until the expected number has come round again: where
+ * dropped is that high, what follows the loss has to be read as a recording of its own.
+ * n receives the number of samples, missing that of the missing frames and dropped that of the dropped ones, and all
+ * receive 0 where it was refused; what they held has no say. Of samples and marks the first n are written, and
+ * nothing behind them; where it was refused, nothing is. Room for CATHAR_MOST_SAMPLES of either is always enough. No
+ * two areas overlap, the three numbers among them, and no pointer is null. An input of 0 bytes makes no samples, and
+ * is accepted.
+ * Refusals: 2, 12. Refusal 2 is given where the whole frames of the input make more than CATHAR_MOST_SAMPLES samples,
+ * and else 12 where
+ *   frames_n is not a multiple of CATHAR_FRAME_BYTES, or
+ *   samples_n or marks_n is less than the number of samples. */
+uint32_t cathar_read_frames(const uint8_t *frames, size_t frames_n, uint32_t *samples, size_t samples_n,
+                            uint8_t *marks, size_t marks_n, size_t *n, size_t *missing, size_t *dropped);
 
 /* The journal holds one entry for each accepted repair that named a sample, the oldest first. An entry
  * that names m samples takes 3m+2 words:
@@ -118,10 +148,22 @@ static inline size_t cathar_journal_words(size_t n, size_t repairs)
  * again on a recording that was repaired, it marks every made sample as measured, and its journal no longer knows
  * what stood there: a repaired curve is then shown as sound from the pump, and no call can tell. Who needs room in
  * the journal undoes repairs, or keeps the old marks elsewhere before opening and joins them to the new ones.
+ * Nor are samples for it that cathar_read_frames gave: it marks those that never arrived as measured.
  *
  * Refusals: 1, 2. */
 uint32_t cathar_open(const uint32_t *samples, size_t n, uint8_t *marks, size_t marks_n,
                      uint32_t *journal, size_t journal_n, size_t *used);
+
+/* Opens a recording of samples and marks that cathar_read_frames gave: it keeps mark 6, CATHAR_MARK_NOT_RECEIVED,
+ * where it stands, sets every other mark to 0, and else does as cathar_open. So the marks of the recording as it was
+ * opened, to which undoing all repairs leads back, are 0 or 6, whatever the caller lends.
+ *
+ * WARNING: open these once, too. Called again on a recording that was repaired, this function marks every made sample
+ * as measured, also where nothing had been received.
+ *
+ * Refusals: 1, 2. */
+uint32_t cathar_open_received(const uint32_t *samples, size_t n, uint8_t *marks, size_t marks_n,
+                              uint32_t *journal, size_t journal_n, size_t *used);
 
 /* Takes back the last entry: each sample that it names gets its old word and its old mark again, used
  * falls by 3m+2, and the freed journal words become 0. All else stays, journal words past used too. The
@@ -186,9 +228,9 @@ static inline size_t cathar_longest_gap_work(size_t n, size_t longest)
 }
 
 /* Finds the dropouts, from the first on, and repairs each as cathar_inpaint_gap does. A dropout is a
- * longest run of samples that are zeros or NaN; it qualifies if it has at least 2 samples and at most as
- * many as the limit, and touches neither end of the recording. The limit is (max_gap_ms/1000)*rate in
- * floats, raised to 1 and cut to a whole number; a product of +infinity means no limit.
+ * longest run of samples that are zeros or NaN, those of missing frames among them; it qualifies if it has at
+ * least 2 samples and at most as many as the limit, and touches neither end of the recording. The limit is
+ * (max_gap_ms/1000)*rate in floats, raised to 1 and cut to a whole number; a product of +infinity means no limit.
  * A run whose repair is refused stays as it was, and the scan goes on after it. Each run that is repaired
  * has an entry of its own in the journal, so that cathar_undo takes back one run at a time.
  * work is lent to the repair of one run after the other, and left by each as cathar_inpaint_gap says; a run

@@ -1,7 +1,9 @@
 //! A recording on both sides: the model's, and the same words lent to the library. The two make each call, and
 //! what is then not the same is told.
 use crate::call::Call;
+use crate::frames::{Read, Rooms};
 use crate::inpaint::{self, Gap, Scan};
+use crate::lent::frames::Frames;
 use crate::lent::{Lent, VALUE_BEFORE};
 use crate::recording::{Answer, Recording};
 use crate::settings::OfScan;
@@ -25,8 +27,18 @@ impl Both {
 
     /// Both sides open the recording. No value is handed back.
     pub fn open(&mut self) -> (Answer, Wrong) {
-        let answer = self.by_model(Call::Open, Recording::open);
-        let number = self.lent.make(Call::Open);
+        self.opened_by(Call::Open, Recording::open)
+    }
+
+    /// Both sides open the recording, and keep which samples were not received. No value is handed back.
+    pub fn open_received(&mut self) -> (Answer, Wrong) {
+        self.opened_by(Call::OpenReceived, Recording::open_received)
+    }
+
+    /// What both openings compare.
+    fn opened_by(&mut self, call: Call, opens: fn(&mut Recording) -> Answer) -> (Answer, Wrong) {
+        let answer = self.by_model(call, opens);
+        let number = self.lent.make(call);
         let wrong = self.lent.wrong(&self.model, VALUE_BEFORE);
         (answer, with_answer(wrong, number, answer.number()))
     }
@@ -79,6 +91,13 @@ impl Both {
     pub fn wrong_recording(&self, recording: &Recording) -> Wrong {
         self.lent.wrong_recording(recording)
     }
+}
+
+/// Both sides read the frames: the model into these rooms, and the library into the same that it is lent.
+pub fn read_frames(input: &[u8], rooms: &mut Rooms, lent: &mut Frames) -> (Read, Wrong) {
+    let read = wrong::model_reader(input, rooms);
+    let number = lent.read();
+    (read, with_answer(lent.wrong(input, rooms, read), number, read.number))
 }
 
 /// The answer is among what is wrong where the numbers differ.

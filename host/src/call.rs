@@ -5,8 +5,16 @@ use crate::whole::Repair;
 #[derive(Clone, Copy, Debug, PartialEq)]
 pub enum Call {
     Open,
+    OpenReceived,
     Undo,
     Gap { gap: Gap, passes: u32 },
     Scan { rate: u32, max_gap_ms: f32 },
     Whole(Repair),
+}
+
+impl Call {
+    /// Whether it is one of the two openings.
+    pub fn opens(self) -> bool {
+        matches!(self, Call::Open | Call::OpenReceived)
+    }
 }

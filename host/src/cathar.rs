@@ -6,7 +6,27 @@ mod exports {
         pub fn cathar_sqrt(x: f64) -> f64;
         pub fn cathar_narrow(x: f64) -> f32;
         pub fn cathar_round(x: f32) -> f32;
+        pub fn cathar_read_frames(
+            frames: *const u8,
+            frames_n: usize,
+            samples: *mut u32,
+            samples_n: usize,
+            marks: *mut u8,
+            marks_n: usize,
+            n: *mut usize,
+            missing: *mut usize,
+            dropped: *mut usize,
+        ) -> u32;
         pub fn cathar_open(
+            samples: *const u32,
+            n: usize,
+            marks: *mut u8,
+            marks_n: usize,
+            journal: *mut u32,
+            journal_n: usize,
+            used: *mut usize,
+        ) -> u32;
+        pub fn cathar_open_received(
             samples: *const u32,
             n: usize,
             marks: *mut u8,
@@ -131,12 +151,54 @@ pub fn round(x: f32) -> f32 {
     unsafe { exports::cathar_round(x) }
 }
 
-/// Opens a recording. Answers 0, or the number of the refusal.
-pub fn open(samples: &[u32], marks: &mut [u8], journal: &mut [u32], used: &mut usize) -> u32 {
+/// Reads frames into samples and marks. Answers 0, with how many samples there are in `n`, how many frames are missing
+/// in `missing` and how many were dropped in `dropped`, or the number of the refusal, with 0 in each.
+pub fn read_frames(
+    frames: &[u8],
+    samples: &mut [u32],
+    marks: &mut [u8],
+    n: &mut usize,
+    missing: &mut usize,
+    dropped: &mut usize,
+) -> u32 {
     // Each slice goes as its pointer and its own length, the references hold for the whole call and keep
     // what is written apart from all else, and the function is total.
     unsafe {
+        exports::cathar_read_frames(
+            frames.as_ptr(),
+            frames.len(),
+            samples.as_mut_ptr(),
+            samples.len(),
+            marks.as_mut_ptr(),
+            marks.len(),
+            n,
+            missing,
+            dropped,
+        )
+    }
+}
+
+/// Opens a recording. Answers 0, or the number of the refusal.
+pub fn open(samples: &[u32], marks: &mut [u8], journal: &mut [u32], used: &mut usize) -> u32 {
+    // As above.
+    unsafe {
         exports::cathar_open(
+            samples.as_ptr(),
+            samples.len(),
+            marks.as_mut_ptr(),
+            marks.len(),
+            journal.as_mut_ptr(),
+            journal.len(),
+            used,
+        )
+    }
+}
+
+/// Opens a recording that keeps which of its samples were not received. Answers as `open` does.
+pub fn open_received(samples: &[u32], marks: &mut [u8], journal: &mut [u32], used: &mut usize) -> u32 {
+    // As above.
+    unsafe {
+        exports::cathar_open_received(
             samples.as_ptr(),
             samples.len(),
             marks.as_mut_ptr(),

@@ -1,5 +1,7 @@
 //! A recording's memory and the workspaces as they are lent to the library. Every part is the middle of a longer
 //! vector, and what stands around it has to stay.
+pub mod frames;
+
 use crate::call::Call;
 use crate::cathar;
 use crate::recording::Recording;
@@ -182,6 +184,7 @@ impl Lent {
         let doubles = self.doubles.lend();
         match call {
             Call::Open => cathar::open(samples, marks, journal, used),
+            Call::OpenReceived => cathar::open_received(samples, marks, journal, used),
             Call::Undo => cathar::undo(samples, marks, journal, used, value),
             Call::Gap { gap, passes } => {
                 cathar::inpaint_gap(samples, marks, journal, used, gap.start, gap.len, passes, doubles, value)
@@ -233,12 +236,16 @@ impl Lent {
 
     /// Likewise, whatever numbers the last call has handed back.
     pub fn wrong_recording(&self, recording: &Recording) -> Vec<&'static str> {
-        let parts = [
+        not_right([
             ("samples", self.samples.holds(patterns(&recording.samples))),
             ("marks", self.marks.holds(patterns(&recording.marks))),
             ("journal", self.journal.holds(patterns(&recording.journal))),
             ("used", self.used.holds(patterns(&[recording.used]))),
-        ];
-        parts.into_iter().filter(|(_, right)| !right).map(|(name, _)| name).collect()
+        ])
     }
+}
+
+/// The names of those parts that are not right.
+fn not_right<const N: usize>(parts: [(&'static str, bool); N]) -> Vec<&'static str> {
+    parts.into_iter().filter(|(_, right)| !right).map(|(name, _)| name).collect()
 }

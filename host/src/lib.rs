@@ -1,5 +1,6 @@
 //! The functions of the static library, and what the tests hold them to: Rust's own operations for the
-//! float leaves, a model for the recording, and for the samples that a repair writes the original Rust.
+//! float leaves, a model for the recording and one for the bus's frames, and for the samples that a repair writes the
+//! original Rust.
 pub mod both;
 pub mod call;
 pub mod cathar;
@@ -7,6 +8,7 @@ pub mod count;
 pub mod damage;
 pub mod draw;
 pub mod float;
+pub mod frames;
 pub mod inpaint;
 pub mod lent;
 pub mod machine;

@@ -1,9 +1,12 @@
 //! A recording as document 01 has it: samples, marks, journal and used, and what opening, undo and the end
-//! of a repair make of them. It is written from the document's text alone, and to be seen right rather than
-//! to be fast, so that the library can be held to it.
+//! of a repair make of them; and the second opening, of request P2 in document 02. It is written from the documents'
+//! text alone, and to be seen right rather than to be fast, so that the library can be held to it.
 
 /// The most samples of a recording that is not turned away.
 pub const MOST_SAMPLES: usize = 1_048_576;
+
+/// The mark of a sample that did not arrive. No repair sets it.
+pub const NOT_RECEIVED: u8 = 6;
 
 /// What a call answers.
 #[derive(Clone, Copy, Debug, PartialEq, Eq)]
@@ -101,7 +104,7 @@ struct Named {
 pub struct Recording {
     /// Each the pattern of an f32.
     pub samples: Vec<u32>,
-    /// One for each sample: 0 is measured, and 1 to 5 say which repair made it.
+    /// One for each sample: 0 is measured, 1 to 5 say which repair made it, and 6 is not received.
     pub marks: Vec<u8>,
     /// The entries of the accepted repairs that named a sample, and then words that are free.
     pub journal: Vec<u32>,
@@ -120,18 +123,36 @@ pub fn in_range(word: u32) -> bool {
     x.is_finite() && x.abs() <= 65536.0
 }
 
+/// Whether a mark is that of a repair.
+pub fn is_made(mark: u8) -> bool {
+    (1..=5).contains(&mark)
+}
+
 /// "The lowest number that applies is the answer." The numbers come in their order.
-fn first_of<const N: usize>(refusals: [(u32, bool); N]) -> Option<u32> {
+pub(crate) fn first_of<const N: usize>(refusals: [(u32, bool); N]) -> Option<u32> {
     refusals.into_iter().find(|(_, applies)| *applies).map(|(number, _)| number)
 }
 
 impl Recording {
     /// "Opening sets all marks and all journal words to 0 and used to 0. It gives refusals 1 and 2 only."
     pub fn open(&mut self) -> Answer {
+        self.open_with(|_| 0)
+    }
+
+    /// "The recording opens from the result, keeping these marks, so demand 3's raw marks are 0 or 6": mark 6 stays
+    /// where it stands, and every other becomes 0. All else is as in the opening above.
+    pub fn open_received(&mut self) -> Answer {
+        self.open_with(|mark| if mark == NOT_RECEIVED { NOT_RECEIVED } else { 0 })
+    }
+
+    /// What the two openings share: each mark becomes the raw mark that this makes of it.
+    fn open_with(&mut self, raw: impl Fn(u8) -> u8) -> Answer {
         if let Some(number) = first_of([(1, self.marks_differ()), (2, self.too_many_samples())]) {
             return Answer::Refused(number);
         }
-        self.marks.fill(0);
+        for mark in &mut self.marks {
+            *mark = raw(*mark);
+        }
         self.journal.fill(0);
         self.used = 0;
         Answer::Accepted(0)
@@ -163,7 +184,7 @@ impl Recording {
     /// The end of a repair that sets this mark and names these samples, each with its place and its new
     /// word, ascending. It gives refusals 8 and 9, and before them 1 to 3, which every repair gives.
     pub fn commit(&mut self, mark: u8, named: &[(usize, u32)]) -> Answer {
-        assert!((1..=5).contains(&mark), "no repair sets the mark {mark}");
+        assert!(is_made(mark), "no repair sets the mark {mark}");
         assert!(named.windows(2).all(|two| two[0].0 < two[1].0), "the places do not ascend");
         assert!(named.iter().all(|(place, _)| *place < self.samples.len()), "a place is past the end");
         if let Some(number) = self.refused_by_any_call() {

@@ -2,8 +2,10 @@
 //! answers in the place of the library, of the model, of both alike or of the second process, or in what a test keeps
 //! account of. With none of them a comparison finds no difference; with any one of them it has to find one.
 //! `CATHAR_WRONG` names the one that stands in, and `host/wrong` runs each and says which are found.
+mod frames;
 mod gaps;
 mod leaves;
+mod received;
 mod recording;
 mod scans;
 mod second;
@@ -12,6 +14,8 @@ mod whole;
 
 use crate::call::Call;
 use crate::cathar;
+use crate::frames::{self as model_of_frames, Read, Rooms};
+use crate::lent::frames::Frames;
 use crate::lent::Lent;
 use crate::recording::Recording;
 use std::env;
@@ -35,6 +39,10 @@ enum How {
     Alike(Alters),
     /// In what the test of sequences keeps account of, which has a function of this name.
     Account,
+    /// In the place of the library's reader of frames: it reads, at times by the library's own, and gives the answer.
+    Reader(fn(&mut Frames) -> u32),
+    /// In the place of both readers alike.
+    Readers(fn(&[u8], &mut Rooms) -> Read),
     /// In the place of a leaf.
     Root(fn(f64) -> f64),
     Narrow(fn(f64) -> f32),
@@ -65,8 +73,17 @@ pub enum Finds {
 }
 
 /// All of them.
-pub const TABLES: [&[Table]; 7] =
-    [leaves::TABLES, recording::TABLES, gaps::TABLES, scans::TABLES, whole::TABLES, sequences::TABLES, second::TABLES];
+pub const TABLES: [&[Table]; 9] = [
+    leaves::TABLES,
+    recording::TABLES,
+    received::TABLES,
+    gaps::TABLES,
+    scans::TABLES,
+    whole::TABLES,
+    sequences::TABLES,
+    frames::TABLES,
+    second::TABLES,
+];
 
 /// The one that `CATHAR_WRONG` names, if it is set.
 fn named() -> Option<&'static Standin> {
@@ -114,6 +131,29 @@ pub(crate) fn model<A>(model: &mut Recording, call: Call, make: impl FnOnce(&mut
             answer
         }
         _ => make(model),
+    }
+}
+
+/// The library reads the frames that it is lent, or what stands in for it does.
+pub(crate) fn reader(lent: &mut Frames) -> u32 {
+    match how() {
+        Some(How::Reader(reads)) => reads(lent),
+        Some(How::Readers(reads)) => {
+            let mut rooms = lent.rooms();
+            let read = reads(lent.input(), &mut rooms);
+            lent.put(&rooms);
+            lent.set_figures(read.figures());
+            read.number
+        }
+        _ => lent.call(),
+    }
+}
+
+/// The model reads the frames into the rooms, or what stands in for it does.
+pub(crate) fn model_reader(input: &[u8], rooms: &mut Rooms) -> Read {
+    match how() {
+        Some(How::Readers(reads)) => reads(input, rooms),
+        _ => model_of_frames::read_frames(input, rooms),
     }
 }
 

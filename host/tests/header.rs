@@ -13,7 +13,7 @@ use std::path::Path;
 use std::process::{Command, Stdio};
 
 /// How many functions there are.
-const EXPORTS: usize = 11;
+const EXPORTS: usize = 13;
 
 fn compiles(compiler: &str, standard: &str, language: &str) {
     let header = file("include/cathar.h");
@@ -42,10 +42,12 @@ fn in_c(type_: &str) -> &'static str {
         "f64" => "double",
         "u32" => "uint32_t",
         "usize" => "size_t",
+        "&[u8]" => "const uint8_t *, size_t",
         "&[u32]" => "const uint32_t *, size_t",
         "&mut [u8]" => "uint8_t *, size_t",
         "&mut [u32]" => "uint32_t *, size_t",
         "&mut [f64]" => "double *, size_t",
+        "*const u8" => "const uint8_t *",
         "*const u32" => "const uint32_t *",
         "*mut u8" => "uint8_t *",
         "*mut u32" => "uint32_t *",
@@ -110,12 +112,14 @@ fn declared_in_header() -> BTreeSet<String> {
 fn defined() -> BTreeMap<String, u64> {
     let code = without_comments();
     let names = code.lines().filter_map(|line| line.strip_prefix("#define ")?.trim().split_once(' '));
-    names.map(|(name, number)| (String::from(name), number.trim().parse().expect("a number"))).collect()
+    names.map(|(name, of)| (String::from(name), number(of.trim()))).collect()
 }
 
-/// A number in Rattle's writing.
+/// A number in C's writing or in Rattle's: in decimal, or as 0x and hex digits.
 fn number(text: &str) -> u64 {
-    text.replace('_', "").parse().unwrap_or_else(|_| panic!("no number: {text}"))
+    let digits = text.replace('_', "");
+    let number = digits.strip_prefix("0x").map_or_else(|| digits.parse(), |digits| u64::from_str_radix(digits, 16));
+    number.unwrap_or_else(|_| panic!("no number: {text}"))
 }
 
 /// A constant of a file in Rattle.
@@ -157,6 +161,10 @@ fn in_sources() -> BTreeMap<String, u64> {
         ("LEAST_BITS", "LEAST_BITS", "crates/dequant/src/lattice.rt"),
         ("MOST_BITS", "MOST_BITS", "crates/dequant/src/lattice.rt"),
         ("MOST_ITERATIONS", "MOST_ITERATIONS", "crates/dequant/src/cosparse.rt"),
+        ("FRAME_BYTES", "FRAME_BYTES", "crates/frames/src/lib.rt"),
+        ("FRAME_WORDS", "FRAME_WORDS", "crates/frames/src/lib.rt"),
+        ("MOST_MISSING", "MOST_MISSING", "crates/frames/src/lib.rt"),
+        ("MISSING_WORD", "MISSING_WORD", "crates/frames/src/lib.rt"),
     ] {
         found.insert(format!("CATHAR_{name}"), constant(of, source));
     }

@@ -1,19 +1,25 @@
-//! What the program `repair` is to write for each of the recordings in `samples`: from the model of the scan,
-//! whose new samples are the original's. The files `.out` beside the recordings are held to that, and
-//! `samples/check` holds the program to the files. With `CATHAR_WRITE=1` recordings and files are written anew.
+//! What the programs are to write for each of the inputs in `samples`, `repair` for a recording and `receive` for a stream
+//! of frames: from the models of the reader and of the scan, whose new samples are the original's. The files `.out`
+//! beside the inputs are held to that, and `samples/check` holds the programs to the files. With `CATHAR_WRITE=1`
+//! recordings and files are written anew; the streams are taken as they are.
 use cathar_host::draw::{Draw, SEED};
+use cathar_host::frames::{read_frames, Rooms, FRAME_BYTES};
 use cathar_host::inpaint::inpaint_auto;
-use cathar_host::recording::Recording;
+use cathar_host::machine;
+use cathar_host::recording::{Answer, Recording};
 use cathar_host::shapes::Shape;
 use std::env;
 use std::fs;
-use std::path::{Path, PathBuf};
+use std::path::PathBuf;
 
 /// What document 01 says of the program: the most samples, the journal's words, rate and limit.
 const MOST: usize = 4096;
 const JOURNAL: usize = 12_288;
 const RATE: u32 = 48_000;
 const LIMIT: f32 = 1.0;
+
+/// The most bytes of frames.
+const MOST_BYTES: usize = 65_536;
 
 /// The dropouts of the pump: a run of 1 does not qualify, nor does one of 49, nor one at an end.
 const PUMP: [(usize, usize); 8] = [(0, 2), (137, 5), (410, 2), (600, 1), (801, 48), (1100, 49), (1500, 17), (2046, 2)];
@@ -30,17 +36,39 @@ fn words(input: &[u8]) -> Option<Vec<u32>> {
     Some(input.chunks(4).map(|four| u32::from_le_bytes([four[0], four[1], four[2], four[3]])).collect())
 }
 
-/// The program's output for an input.
+/// The output of `repair` for an input.
 fn output(input: &[u8]) -> String {
     let samples = match words(input) {
         Some(samples) => samples,
         None => return String::from("bad input\n"),
     };
     let n = samples.len();
-    let mut recording = Recording { samples, marks: vec![0; n], journal: vec![0; JOURNAL], used: 0 };
+    format!("samples {n}\n") + &scanned(Recording { samples, marks: vec![0; n], journal: vec![0; JOURNAL], used: 0 })
+}
+
+/// The output of `receive` for an input.
+fn received(input: &[u8]) -> String {
+    if input.len() > MOST_BYTES {
+        return String::from("bad input\n");
+    }
+    let mut rooms = Rooms { samples: vec![0; MOST], marks: vec![0; MOST] };
+    let read = read_frames(input, &mut rooms);
+    if read.number != 0 {
+        return format!("refused {}\n", read.number);
+    }
+    let (samples, marks) = (rooms.samples[..read.n].to_vec(), rooms.marks[..read.n].to_vec());
+    let mut recording = Recording { samples, marks, journal: vec![0; JOURNAL], used: 0 };
+    assert_eq!(recording.open_received(), Answer::Accepted(0));
+    let [n, missing, dropped] = read.figures();
+    let frames = input.len() / FRAME_BYTES;
+    format!("frames {frames} samples {n} missing {missing} dropped {dropped}\n") + &scanned(recording)
+}
+
+/// What both print of a recording that is open: what a scan of it counts, and then each sample that is not measured.
+fn scanned(mut recording: Recording) -> String {
     let scan = inpaint_auto(&mut recording, RATE, LIMIT, &mut vec![0; 10_000]);
     let counts = (scan.qualified(), scan.repaired(), scan.number());
-    let mut text = format!("samples {n}\nqualified {} repaired {} refused {}\n", counts.0, counts.1, counts.2);
+    let mut text = format!("qualified {} repaired {} refused {}\n", counts.0, counts.1, counts.2);
     for (place, mark) in recording.marks.iter().enumerate().filter(|(_, mark)| **mark != 0) {
         text += &format!("{place} {mark} {:08x}\n", recording.samples[place]);
     }
@@ -75,19 +103,43 @@ fn recordings() -> Vec<(&'static str, Vec<u8>)> {
 }
 
 fn file(name: &str, ending: &str) -> PathBuf {
-    Path::new(env!("CARGO_MANIFEST_DIR")).join("../samples").join(name).with_extension(ending)
+    machine::file("samples").join(name).with_extension(ending)
+}
+
+/// The names of the streams of frames, in their order.
+fn streams() -> Vec<String> {
+    let files = fs::read_dir(machine::file("samples")).expect("the folder is there");
+    let names = files.map(|file| file.expect("a file").file_name().into_string().expect("a name in letters"));
+    let mut streams: Vec<String> = names.filter_map(|name| name.strip_suffix(".frames").map(String::from)).collect();
+    streams.sort_unstable();
+    streams
+}
+
+/// The file `.out` beside an input is to have this text.
+fn hold(name: &str, text: &str) {
+    if env::var_os("CATHAR_WRITE").is_some() {
+        fs::write(file(name, "out"), text).expect("the output is written");
+    }
+    assert!(fs::read_to_string(file(name, "out")).expect("the output is there") == text, "{name}.out");
+    println!("{name}: {}", text.lines().take(2).collect::<Vec<_>>().join(", "));
 }
 
 #[test]
-fn what_the_program_is_to_write() {
+fn what_repair_is_to_write() {
     for (name, input) in recordings() {
-        let text = output(&input);
         if env::var_os("CATHAR_WRITE").is_some() {
             fs::write(file(name, "f32"), &input).expect("the recording is written");
-            fs::write(file(name, "out"), &text).expect("the output is written");
         }
         assert!(fs::read(file(name, "f32")).expect("the recording is there") == input, "{name}.f32");
-        assert!(fs::read_to_string(file(name, "out")).expect("the output is there") == text, "{name}.out");
-        println!("{name}: {}", text.lines().take(2).collect::<Vec<_>>().join(", "));
+        hold(name, &output(&input));
+    }
+}
+
+#[test]
+fn what_receive_is_to_write() {
+    let streams = streams();
+    assert!(!streams.is_empty(), "samples has no stream of frames");
+    for name in &streams {
+        hold(name, &received(&fs::read(file(name, "frames")).expect("the stream is there")));
     }
 }

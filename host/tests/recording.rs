@@ -1,4 +1,4 @@
-//! Opening and undo against the model of the recording: every answer and value, and every byte of the lent
+//! The two openings and undo against the model of the recording: every answer and value, and every byte of the lent
 //! memory, with what stands around each part of it.
 //!
 //! `CATHAR_SEED` sets the seed.
@@ -16,7 +16,7 @@ use cathar_host::draw::{self, Draw};
 use cathar_host::lent::Lent;
 use cathar_host::recording::{entry_words, Answer, Recording, MOST_SAMPLES};
 use recording::built::{build, marks, words, Built};
-use recording::count::Count;
+use recording::count::{Count, Opening};
 use recording::damage::Damage;
 use recording::{limits, random, short};
 
@@ -98,43 +98,51 @@ fn undos() {
     });
     count.close(seed);
     count.close_clauses();
+    assert!(count.not_received() >= 10_000, "few undos bring back a mark 6");
     assert!(count.calls() >= UNDOS, "fewer undos than {UNDOS}");
 }
 
-fn open(count: &mut Count, mut model: Recording) -> Answer {
+/// Both sides open the recording in this way.
+fn open(count: &mut Count, opening: Opening, mut model: Recording) -> Answer {
     let mut lent = Lent::new(&model);
-    count.open(&mut model, &mut lent)
+    count.open(opening, &mut model, &mut lent)
 }
 
 /// Each number of samples, of marks beside it and of journal words, and used within the journal and past it.
-fn open_any(count: &mut Count, draw: &mut Draw) {
+fn open_any(count: &mut Count, opening: Opening, draw: &mut Draw) {
     for n in [0, 1, 2, 3, 100, 4000usize] {
         for marks_n in [n, n + 1, n.saturating_sub(1)] {
             for length in [0, 1, 2, 500] {
                 for used in [0, 1, length, length + 1, draw.word() as usize, usize::MAX] {
                     let (samples, marks) = (words(draw, n), marks(draw, marks_n));
-                    open(count, Recording { samples, marks, journal: words(draw, length), used });
+                    open(count, opening, Recording { samples, marks, journal: words(draw, length), used });
                 }
             }
         }
     }
 }
 
-#[test]
-fn opens() {
+/// Recordings of every size, opened in this way: with every mark, with the longest journal that can be filled and a word
+/// more, and beside the most samples.
+fn open_all(title: &'static str, opening: Opening) -> Count {
     let seed = draw::seed();
     let mut draw = Draw::new(seed);
-    let mut count = Count::new("cathar_open against the model", &[0, 1, 2]);
+    let mut count = Count::new(title, &[0, 1, 2]);
     count.begin("any words");
     for _ in 0..10 {
-        open_any(&mut count, &mut draw);
+        open_any(&mut count, opening, &mut draw);
     }
     count.begin("well-formed journals");
     for _ in 0..1000 {
-        open(&mut count, build(&mut draw).recording);
+        open(&mut count, opening, build(&mut draw).recording);
     }
-    count.begin("the longest journal that can be filled, and a word more");
-    open(&mut count, limits::recording(3, 3, &vec![9; entry_words(MOST_SAMPLES) + 1], 7));
+    count.begin("every mark, over a NaN, 7FC00000 and 1");
+    for mark in 0..=255 {
+        let samples = vec![0x7f80_0001, 0x7fc0_0000, 0x3f80_0000];
+        open(&mut count, opening, Recording { samples, marks: vec![mark; 3], journal: vec![1; 5], used: 5 });
+    }
+    count.begin("a journal for the most samples, and a word more");
+    open(&mut count, opening, limits::recording(3, 3, &vec![9; entry_words(MOST_SAMPLES) + 1], 7));
     count.begin("beside the most samples");
     for (n, marks, number) in [
         (MOST_SAMPLES, MOST_SAMPLES, 0),
@@ -142,10 +150,24 @@ fn opens() {
         (MOST_SAMPLES + 1, MOST_SAMPLES + 1, 2),
         (MOST_SAMPLES + 1, MOST_SAMPLES, 1),
     ] {
-        let answer = open(&mut count, limits::recording(n, marks, &[5, 6, 7], usize::MAX));
+        let answer = open(&mut count, opening, limits::recording(n, marks, &[5, 6, 7], usize::MAX));
         assert_eq!(answer.number(), number, "the model opens {n} samples with {marks} marks");
     }
     count.close(seed);
+    count
+}
+
+#[test]
+fn opens() {
+    let count = open_all("cathar_open against the model", (Call::Open, Recording::open));
+    assert_eq!(count.not_received(), 0, "openings that leave a mark 6");
+}
+
+#[test]
+fn opens_received() {
+    let title = "cathar_open_received against the model";
+    let count = open_all(title, (Call::OpenReceived, Recording::open_received));
+    assert!(count.not_received() >= 500, "few openings leave a mark 6");
 }
 
 /// *quiet* by the document's figures: the model's journal, and both sides' undo.

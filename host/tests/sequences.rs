@@ -1,7 +1,8 @@
-//! Sequences of all calls on a recording against the model of the recording and the original Rust, with undo among
-//! them: after every call the answer and value, every byte of the lent memory with what stands around each part of
-//! it, and that every sample marked as measured has its raw word. After the last call the repairs that survive are
-//! made alone on a fresh copy of the raw recording, by both sides, and have to leave the same; and then all is undone.
+//! Sequences of all calls on a recording, opened in either way, against the model of the recording and the original
+//! Rust, with undo among them: after every call the answer and value, every byte of the lent memory with what stands
+//! around each part of it, and that every sample marked as measured or as not received has its raw word and was so
+//! marked at first. After the last call the repairs that survive are made alone on a fresh copy of the raw recording,
+//! opened in the same way, by both sides, and have to leave the same; and then all is undone.
 //!
 //! `CATHAR_SEED` sets the seed.
 mod sequences {
@@ -31,10 +32,10 @@ struct Group {
 
 /// Most recordings are short, since the original takes its time for the long ones.
 const GROUPS: [Group; 4] = [
-    Group { name: "0 to 40 samples", sequences: 7_500, samples: 0..41, calls: 2..40 },
-    Group { name: "41 to 300 samples", sequences: 2_500, samples: 41..301, calls: 2..24 },
-    Group { name: "301 to 2,000 samples", sequences: 250, samples: 301..2_001, calls: 2..16 },
-    Group { name: "2,001 to 5,000 samples", sequences: 200, samples: 2_001..5_001, calls: 2..16 },
+    Group { name: "0 to 40 samples", sequences: 9_000, samples: 0..41, calls: 2..40 },
+    Group { name: "41 to 300 samples", sequences: 3_000, samples: 41..301, calls: 2..24 },
+    Group { name: "301 to 2,000 samples", sequences: 300, samples: 301..2_001, calls: 2..16 },
+    Group { name: "2,001 to 5,000 samples", sequences: 250, samples: 2_001..5_001, calls: 2..16 },
 ];
 
 /// The counts of the calls in the sequences, of the survivors that are made alone, of the undos at the end, and of
@@ -93,8 +94,8 @@ fn made(count: &mut Count<Step>, draw: &mut Draw, history: &mut History, call: C
 /// Once something is wrong, there is no more to compare.
 fn play(counts: &mut Counts, draw: &mut Draw, group: &Group) {
     let (n, calls) = (one_of(draw, &group.samples), one_of(draw, &group.calls));
-    let mut history = History::new(any::recording(draw, n, calls));
-    let mut call = Call::Open;
+    let mut call = any::opening(draw);
+    let mut history = History::new(any::recording(draw, n, calls, call));
     for _ in 0..=calls {
         if !made(&mut counts.calls, draw, &mut history, call) {
             return;
@@ -109,9 +110,8 @@ fn play(counts: &mut Counts, draw: &mut Draw, group: &Group) {
 
 /// Both sides make the survivors alone, on a fresh copy of the raw recording. What is then not the same.
 fn replay(count: &mut Count<Step>, draw: &mut Draw, history: &History) -> Wrong {
-    let raw = history.raw();
-    let mut fresh = History::new(any::unopened(draw, raw.samples, raw.journal.len()));
-    made(count, draw, &mut fresh, Call::Open);
+    let mut fresh = History::new(any::unopened(draw, history.raw(), history.opening));
+    made(count, draw, &mut fresh, history.opening);
     for survivor in &history.survivors {
         let (step, mut wrong) = fresh.make(draw, survivor.call);
         if step.outcome.named != [(survivor.call, survivor.m)] {

@@ -17,67 +17,77 @@ const OPENINGS: &[Standin] = &[
     Standin {
         name: "open_keeps_marks",
         says: "opening leaves the marks as they are",
-        how: Library(|lent, _| open_and(lent, |lent, before| lent.marks.lend().copy_from_slice(&before.marks))),
+        how: Library(|lent, call| {
+            open_and(lent, call, |lent, before| lent.marks.lend().copy_from_slice(&before.marks))
+        }),
     },
     Standin {
         name: "open_keeps_first_mark",
         says: "opening leaves the first mark",
-        how: Library(|lent, _| open_and(lent, |lent, before| copy_first(lent.marks.lend(), &before.marks))),
+        how: Library(|lent, call| open_and(lent, call, |lent, before| copy_first(lent.marks.lend(), &before.marks))),
     },
     Standin {
         name: "open_keeps_last_mark",
         says: "opening leaves the last mark: it clears one too few",
-        how: Library(|lent, _| open_and(lent, |lent, before| copy_last(lent.marks.lend(), &before.marks))),
+        how: Library(|lent, call| open_and(lent, call, |lent, before| copy_last(lent.marks.lend(), &before.marks))),
     },
     Standin {
         name: "open_clears_byte_past_marks",
         says: "opening clears one mark too many, at the end",
-        how: Library(|lent, _| open_and(lent, |lent, before| lent.marks.whole[GUARDS + before.marks.len()] = 0)),
+        how: Library(|lent, call| {
+            open_and(lent, call, |lent, before| lent.marks.whole[GUARDS + before.marks.len()] = 0)
+        }),
     },
     Standin {
         name: "open_clears_byte_before_marks",
         says: "opening clears one mark too many, before the first",
-        how: Library(|lent, _| open_and(lent, |lent, _| lent.marks.whole[GUARDS - 1] = 0)),
+        how: Library(|lent, call| open_and(lent, call, |lent, _| lent.marks.whole[GUARDS - 1] = 0)),
     },
     Standin {
         name: "open_keeps_journal",
         says: "opening leaves the journal words as they are",
-        how: Library(|lent, _| open_and(lent, |lent, before| lent.journal.lend().copy_from_slice(&before.journal))),
+        how: Library(|lent, call| {
+            open_and(lent, call, |lent, before| lent.journal.lend().copy_from_slice(&before.journal))
+        }),
     },
     Standin {
         name: "open_keeps_first_word",
         says: "opening leaves the first journal word",
-        how: Library(|lent, _| open_and(lent, |lent, before| copy_first(lent.journal.lend(), &before.journal))),
+        how: Library(|lent, call| {
+            open_and(lent, call, |lent, before| copy_first(lent.journal.lend(), &before.journal))
+        }),
     },
     Standin {
         name: "open_keeps_last_word",
         says: "opening leaves the last journal word",
-        how: Library(|lent, _| open_and(lent, |lent, before| copy_last(lent.journal.lend(), &before.journal))),
+        how: Library(|lent, call| open_and(lent, call, |lent, before| copy_last(lent.journal.lend(), &before.journal))),
     },
     Standin {
         name: "open_keeps_free_words",
         says: "opening clears the used journal words only",
-        how: Library(|lent, _| open_and(lent, |lent, before| keeps_words_from(lent, before, before.used))),
+        how: Library(|lent, call| open_and(lent, call, |lent, before| keeps_words_from(lent, before, before.used))),
     },
     Standin {
         name: "open_clears_65536_words",
         says: "opening clears the first 65,536 journal words only",
-        how: Library(|lent, _| open_and(lent, |lent, before| keeps_words_from(lent, before, 65_536))),
+        how: Library(|lent, call| open_and(lent, call, |lent, before| keeps_words_from(lent, before, 65_536))),
     },
     Standin {
         name: "open_clears_most_samples_words",
         says: "opening clears the first 1,048,576 journal words only",
-        how: Library(|lent, _| open_and(lent, |lent, before| keeps_words_from(lent, before, MOST_SAMPLES))),
+        how: Library(|lent, call| open_and(lent, call, |lent, before| keeps_words_from(lent, before, MOST_SAMPLES))),
     },
     Standin {
         name: "open_clears_word_past_journal",
         says: "opening clears one journal word too many",
-        how: Library(|lent, _| open_and(lent, |lent, before| lent.journal.whole[GUARDS + before.journal.len()] = 0)),
+        how: Library(|lent, call| {
+            open_and(lent, call, |lent, before| lent.journal.whole[GUARDS + before.journal.len()] = 0)
+        }),
     },
     Standin {
         name: "open_keeps_used",
         says: "opening leaves used as it is",
-        how: Library(|lent, _| open_and(lent, |lent, before| lent.used.lend()[0] = before.used)),
+        how: Library(|lent, call| open_and(lent, call, |lent, before| lent.used.lend()[0] = before.used)),
     },
     Standin {
         name: "open_keeps_used_without_journal",
@@ -87,12 +97,12 @@ const OPENINGS: &[Standin] = &[
     Standin {
         name: "open_fills_used",
         says: "opening sets used to the journal's length",
-        how: Library(|lent, _| open_and(lent, |lent, before| lent.used.lend()[0] = before.journal.len())),
+        how: Library(|lent, call| open_and(lent, call, |lent, before| lent.used.lend()[0] = before.journal.len())),
     },
     Standin {
         name: "open_quiets_nan",
         says: "opening writes the samples back by way of a float: a signalling NaN becomes quiet",
-        how: Library(|lent, _| open_and(lent, |lent, _| lent.samples.lend().iter_mut().for_each(quiet))),
+        how: Library(|lent, call| open_and(lent, call, |lent, _| lent.samples.lend().iter_mut().for_each(quiet))),
     },
     Standin {
         name: "open_clears_samples_out_of_range",
@@ -506,10 +516,10 @@ const RIGHT_UNDOS: &[Standin] = &[Standin {
     how: Library(|lent, _| undo_by(lent, Rules { m: |m, _| m > 0, ..RULES })),
 }];
 
-/// The library opens; where it accepts, its work is altered. The recording before it is told.
-fn open_and(lent: &mut Lent, alter: impl FnOnce(&mut Lent, &Recording)) -> u32 {
+/// The library opens by this call; where it accepts, its work is altered. The recording before it is told.
+pub(super) fn open_and(lent: &mut Lent, call: Call, alter: impl FnOnce(&mut Lent, &Recording)) -> u32 {
     let before = lent.recording();
-    let number = lent.call(Call::Open);
+    let number = lent.call(call);
     if number == 0 {
         alter(lent, &before);
     }
@@ -547,7 +557,7 @@ fn undo_misses(lent: &mut Lent, which: impl Fn(&[[u32; 3]]) -> Option<[u32; 3]>)
 }
 
 /// The library makes the call; where it refuses, its work is altered. The recording before it is told.
-fn refused_and(lent: &mut Lent, call: Call, alter: impl FnOnce(&mut Lent, &Recording)) -> u32 {
+pub(super) fn refused_and(lent: &mut Lent, call: Call, alter: impl FnOnce(&mut Lent, &Recording)) -> u32 {
     let before = lent.recording();
     let number = lent.call(call);
     if number != 0 {
@@ -602,12 +612,12 @@ fn threes(words: &[u32]) -> Vec<[u32; 3]> {
 }
 
 /// The first is copied, if there is one.
-fn copy_first<T: Copy>(to: &mut [T], from: &[T]) {
+pub(super) fn copy_first<T: Copy>(to: &mut [T], from: &[T]) {
     to.iter_mut().zip(from).take(1).for_each(|(to, from)| *to = *from);
 }
 
 /// The last is copied, if there is one.
-fn copy_last<T: Copy>(to: &mut [T], from: &[T]) {
+pub(super) fn copy_last<T: Copy>(to: &mut [T], from: &[T]) {
     to.iter_mut().zip(from).rev().take(1).for_each(|(to, from)| *to = *from);
 }
 
@@ -617,7 +627,7 @@ fn clear(mark: &mut u8) {
 }
 
 /// A word that is the pattern of a NaN becomes that of a quiet one.
-fn quiet(word: &mut u32) {
+pub(super) fn quiet(word: &mut u32) {
     if f32::from_bits(*word).is_nan() {
         *word |= 0x0040_0000;
     }
@@ -694,28 +704,28 @@ fn undo_by(lent: &mut Lent, rules: Rules) -> u32 {
 }
 
 /// The journal words from this one on are as before.
-fn keeps_words_from(lent: &mut Lent, before: &Recording, from: usize) {
+pub(super) fn keeps_words_from(lent: &mut Lent, before: &Recording, from: usize) {
     let from = from.min(before.journal.len());
     lent.journal.lend()[from..].copy_from_slice(&before.journal[from..]);
 }
 
-fn open_keeps_used_without_journal(lent: &mut Lent, _: Call) -> u32 {
-    open_and(lent, |lent, before| {
+fn open_keeps_used_without_journal(lent: &mut Lent, call: Call) -> u32 {
+    open_and(lent, call, |lent, before| {
         if before.journal.is_empty() {
             lent.used.lend()[0] = before.used;
         }
     })
 }
 
-fn open_clears_samples_out_of_range(lent: &mut Lent, _: Call) -> u32 {
-    open_and(lent, |lent, _| {
+fn open_clears_samples_out_of_range(lent: &mut Lent, call: Call) -> u32 {
+    open_and(lent, call, |lent, _| {
         for word in lent.samples.lend().iter_mut().filter(|word| !in_range(**word)) {
             *word = 0;
         }
     })
 }
 
-fn tests_2_before_1(lent: &mut Lent, call: Call) -> u32 {
+pub(super) fn tests_2_before_1(lent: &mut Lent, call: Call) -> u32 {
     where_also(lent, call, 1, 2, |r| r.samples.len() > MOST_SAMPLES)
 }
 
@@ -731,12 +741,12 @@ fn open_misses_1_for_fewer_marks(lent: &mut Lent, _: Call) -> u32 {
     cathar::open(&samples[..same], marks, lent.journal.lend(), &mut lent.used.lend()[0])
 }
 
-fn limit_one_lower(lent: &mut Lent, call: Call) -> u32 {
+pub(super) fn limit_one_lower(lent: &mut Lent, call: Call) -> u32 {
     let before = lent.recording();
     let number = lent.call(call);
     if before.samples.len() == MOST_SAMPLES && number != 1 {
         lent.put(&before);
-        set_value(lent, if call == Call::Open { VALUE_BEFORE } else { 0 });
+        set_value(lent, if call.opens() { VALUE_BEFORE } else { 0 });
         return 2;
     }
     number

@@ -3,8 +3,9 @@
 use super::How::{Account, Alike, Library, Model};
 use super::{Alters, Finds, Standin, Table};
 use crate::call::Call;
+use crate::frames::MISSING_WORD;
 use crate::lent::Lent;
-use crate::recording::{entry_words, Recording};
+use crate::recording::{entry_words, is_made, Recording, NOT_RECEIVED};
 use crate::whole::floats;
 use std::cell::Cell;
 
@@ -92,6 +93,16 @@ const OF_MODEL: &[Standin] = &[
         how: Model(open_keeps_marks),
     },
     Standin {
+        name: "seq_model_received_loses_6",
+        says: "the model's opening of what was received sets every mark to 0",
+        how: Model(received_loses_6),
+    },
+    Standin {
+        name: "seq_model_undo_gives_0_for_6",
+        says: "the model's undo gives back 0 for an old mark 6",
+        how: Model(undo_gives_0_for_6),
+    },
+    Standin {
         name: "seq_model_open_keeps_used",
         says: "the model's opening leaves used",
         how: Model(|call, before, after| {
@@ -123,6 +134,36 @@ const OF_LIBRARY: &[Standin] = &[
         name: "seq_made_sample_enters_raw_word",
         says: "an entry has the raw word for the old word of a sample that a repair made before",
         how: Library(|lent, call| altered(lent, call, made_sample_enters_raw_word)),
+    },
+    Standin {
+        name: "seq_missing_keeps_6",
+        says: "a repair leaves mark 6 on a sample that it names",
+        how: Library(|lent, call| altered(lent, call, missing_keeps_6)),
+    },
+    Standin {
+        name: "seq_missing_enters_mark_0",
+        says: "an entry has 0 for an old mark 6",
+        how: Library(|lent, call| altered(lent, call, missing_enters_mark_0)),
+    },
+    Standin {
+        name: "seq_undo_gives_0_for_6",
+        says: "undo gives back 0 for an old mark 6",
+        how: Library(|lent, call| altered(lent, call, undo_gives_0_for_6)),
+    },
+    Standin {
+        name: "seq_undo_gives_missing_word",
+        says: "undo gives back 7FC00000 for the old word where the old mark is 6",
+        how: Library(|lent, call| altered(lent, call, undo_gives_missing_word)),
+    },
+    Standin {
+        name: "seq_undo_refuses_old_mark_6",
+        says: "an undo is refused with 11 where an old mark is 6",
+        how: Library(undo_refuses_old_mark_6),
+    },
+    Standin {
+        name: "seq_whole_refuses_mark_6",
+        says: "a repair over the whole recording gives 7 for a sample that is marked 6 and in range",
+        how: Library(whole_refuses_mark_6),
     },
     Standin {
         name: "seq_later_entry_at_start",
@@ -228,6 +269,58 @@ const OF_BOTH_AT_ONCE: &[Standin] = &[
         says: "a scan enters its last run first",
         how: Alike(scan_enters_runs_reversed),
     },
+    Standin { name: "seq_both_repair_sets_6", says: "a repair sets mark 6", how: Alike(repair_sets_6) },
+    Standin {
+        name: "seq_both_missing_keeps_6",
+        says: "a repair leaves mark 6 on a sample that it names",
+        how: Alike(missing_keeps_6),
+    },
+    Standin {
+        name: "seq_both_missing_changed",
+        says: "a repair changes a sample that was not received and that it does not name",
+        how: Alike(missing_changed),
+    },
+    Standin {
+        name: "seq_both_missing_marked_0",
+        says: "a repair marks a sample as measured that was not received and that it does not name",
+        how: Alike(missing_marked_0),
+    },
+    Standin {
+        name: "seq_both_measured_marked_6",
+        says: "a repair marks a measured sample that it does not name as not received",
+        how: Alike(measured_marked_6),
+    },
+    Standin {
+        name: "seq_both_undo_gives_0_for_6",
+        says: "undo gives back 0 for an old mark 6",
+        how: Alike(undo_gives_0_for_6),
+    },
+    Standin {
+        name: "seq_both_undo_gives_6_for_0",
+        says: "undo gives back 6 for an old mark 0",
+        how: Alike(undo_gives_6_for_0),
+    },
+    Standin {
+        name: "seq_both_missing_enters_mark_0",
+        says: "entries have 0 for an old mark 6",
+        how: Alike(missing_enters_mark_0),
+    },
+    Standin {
+        name: "seq_both_received_loses_6",
+        says: "the opening of what was received sets every mark to 0",
+        how: Alike(received_loses_6),
+    },
+    Standin {
+        name: "seq_both_received_marks_nan",
+        says: "the opening of what was received marks every NaN as not received",
+        how: Alike(received_marks_nan),
+    },
+    Standin { name: "seq_both_open_keeps_marks", says: "opening leaves the marks", how: Alike(open_keeps_marks) },
+    Standin {
+        name: "seq_both_open_keeps_6",
+        says: "the opening of what was measured keeps mark 6, as the other one does",
+        how: Alike(open_keeps_6),
+    },
     Standin {
         name: "seq_both_open_changes_sample",
         says: "opening changes the first sample",
@@ -278,6 +371,11 @@ const OF_BOTH_BY_UNDOING_ALL: &[Standin] = &[Standin {
 /// On both sides, and to be found by either of the two.
 const OF_BOTH_BY_EITHER: &[Standin] = &[
     Standin {
+        name: "seq_both_received_keeps_marks",
+        says: "the opening of what was received leaves the marks",
+        how: Alike(received_keeps_marks),
+    },
+    Standin {
         name: "seq_both_marks_one_more",
         says: "a repair marks the sample before those that it names too",
         how: Alike(marks_one_more),
@@ -307,7 +405,6 @@ const OF_BOTH_BY_EITHER: &[Standin] = &[
         says: "undo leaves the freed journal words",
         how: Alike(undo_keeps_journal),
     },
-    Standin { name: "seq_both_open_keeps_marks", says: "opening leaves the marks", how: Alike(open_keeps_marks) },
     Standin {
         name: "seq_both_open_keeps_journal",
         says: "opening leaves the journal words",
@@ -358,6 +455,17 @@ const OF_ACCOUNT: &[Standin] = &[
         says: "in the account the strength of dequantize is half of what it was",
         how: Account,
     },
+    Standin { name: "seq_account_raw_marks_0", says: "in the account all raw marks are 0", how: Account },
+    Standin {
+        name: "seq_account_raw_marks_of_nan",
+        says: "in the account the raw mark of every NaN is 6 where the recording was opened as received",
+        how: Account,
+    },
+    Standin {
+        name: "seq_account_replay_opens_as_measured",
+        says: "in the account every recording was opened as measured",
+        how: Account,
+    },
     Standin {
         name: "seq_account_last_two_swapped",
         says: "in the account the last two survivors have changed places",
@@ -400,7 +508,7 @@ fn named(before: &Recording, after: &Recording) -> Vec<usize> {
 
 /// Where the journal has those of them that a repair had made before.
 fn named_made(before: &Recording, after: &Recording) -> Vec<usize> {
-    let made = |at: &usize| before.marks[after.journal[*at] as usize] != 0;
+    let made = |at: &usize| is_made(before.marks[after.journal[*at] as usize]);
     named(before, after).into_iter().filter(made).collect()
 }
 
@@ -457,7 +565,7 @@ fn undo_marks_measured(call: Call, before: &Recording, after: &mut Recording) {
 
 fn undo_keeps_made_words(call: Call, before: &Recording, after: &mut Recording) {
     for place in taken_back(call, before, after) {
-        if after.marks[place] != 0 {
+        if is_made(after.marks[place]) {
             after.samples[place] = before.samples[place];
         }
     }
@@ -494,7 +602,7 @@ thread_local! {
 }
 
 fn after_undo_only_mark(call: Call, before: &Recording, after: &mut Recording) {
-    if call == Call::Open || after.used < before.used {
+    if call.opens() || after.used < before.used {
         UNDONE.with(|undone| undone.set(call == Call::Undo));
     } else if UNDONE.with(Cell::get) {
         after.samples = before.samples.clone();
@@ -615,7 +723,7 @@ fn measured_changed(_: Call, before: &Recording, after: &mut Recording) {
 }
 
 fn made_changed(_: Call, before: &Recording, after: &mut Recording) {
-    if let Some(place) = before_named(before, after).filter(|place| after.marks[*place] != 0) {
+    if let Some(place) = before_named(before, after).filter(|place| is_made(after.marks[*place])) {
         after.samples[place] ^= 1;
     }
 }
@@ -662,5 +770,123 @@ fn open_changes_sample(call: Call, _: &Recording, after: &mut Recording) {
 fn open_enters_number(call: Call, _: &Recording, after: &mut Recording) {
     if let (Call::Open, Some(word)) = (call, after.journal.last_mut()) {
         *word = after.samples.len() as u32;
+    }
+}
+
+fn repair_sets_6(_: Call, before: &Recording, after: &mut Recording) {
+    for at in named(before, after) {
+        after.marks[after.journal[at] as usize] = NOT_RECEIVED;
+    }
+}
+
+/// Where the journal has those of the named samples that were not received.
+fn named_missing(before: &Recording, after: &Recording) -> Vec<usize> {
+    let missing = |at: &usize| before.marks[after.journal[*at] as usize] == NOT_RECEIVED;
+    named(before, after).into_iter().filter(missing).collect()
+}
+
+fn missing_keeps_6(_: Call, before: &Recording, after: &mut Recording) {
+    for at in named_missing(before, after) {
+        after.marks[after.journal[at] as usize] = NOT_RECEIVED;
+    }
+}
+
+fn missing_enters_mark_0(_: Call, before: &Recording, after: &mut Recording) {
+    for at in named_missing(before, after) {
+        after.journal[at + 2] = 0;
+    }
+}
+
+fn missing_changed(_: Call, before: &Recording, after: &mut Recording) {
+    if let Some(place) = before_named(before, after).filter(|place| after.marks[*place] == NOT_RECEIVED) {
+        after.samples[place] ^= 1;
+    }
+}
+
+fn missing_marked_0(_: Call, before: &Recording, after: &mut Recording) {
+    if let Some(place) = before_named(before, after).filter(|place| after.marks[*place] == NOT_RECEIVED) {
+        after.marks[place] = 0;
+    }
+}
+
+fn measured_marked_6(_: Call, before: &Recording, after: &mut Recording) {
+    if let Some(place) = before_named(before, after).filter(|place| after.marks[*place] == 0) {
+        after.marks[place] = NOT_RECEIVED;
+    }
+}
+
+/// An undo gives back the one mark for the other.
+fn undo_gives(call: Call, before: &Recording, after: &mut Recording, [given, old]: [u8; 2]) {
+    for place in taken_back(call, before, after) {
+        if after.marks[place] == old {
+            after.marks[place] = given;
+        }
+    }
+}
+
+fn undo_gives_0_for_6(call: Call, before: &Recording, after: &mut Recording) {
+    undo_gives(call, before, after, [0, NOT_RECEIVED]);
+}
+
+fn undo_gives_6_for_0(call: Call, before: &Recording, after: &mut Recording) {
+    undo_gives(call, before, after, [NOT_RECEIVED, 0]);
+}
+
+fn undo_gives_missing_word(call: Call, before: &Recording, after: &mut Recording) {
+    for place in taken_back(call, before, after) {
+        if after.marks[place] == NOT_RECEIVED {
+            after.samples[place] = MISSING_WORD;
+        }
+    }
+}
+
+fn undo_refuses_old_mark_6(lent: &mut Lent, call: Call) -> u32 {
+    let before = lent.recording();
+    let number = lent.call(call);
+    let after = lent.recording();
+    if taken_back(call, &before, &after).into_iter().any(|place| after.marks[place] == NOT_RECEIVED) {
+        lent.put(&before);
+        lent.numbers[0].lend()[0] = 0;
+        return 11;
+    }
+    number
+}
+
+fn whole_refuses_mark_6(lent: &mut Lent, call: Call) -> u32 {
+    let (before, work) = (lent.recording(), lent.words.lent().to_vec());
+    let number = lent.call(call);
+    let place = before.marks.iter().position(|mark| *mark == NOT_RECEIVED);
+    if let (Call::Whole(_), 0, Some(place)) = (call, number, place) {
+        lent.put(&before);
+        lent.words.lend().copy_from_slice(&work);
+        lent.numbers[0].lend()[0] = place;
+        return 7;
+    }
+    number
+}
+
+fn received_loses_6(call: Call, _: &Recording, after: &mut Recording) {
+    if call == Call::OpenReceived {
+        after.marks.fill(0);
+    }
+}
+
+fn received_keeps_marks(call: Call, before: &Recording, after: &mut Recording) {
+    if call == Call::OpenReceived {
+        after.marks = before.marks.clone();
+    }
+}
+
+fn received_marks_nan(call: Call, _: &Recording, after: &mut Recording) {
+    let nan = floats(&after.samples).into_iter().map(f32::is_nan);
+    for (mark, _) in after.marks.iter_mut().zip(nan).filter(|(_, nan)| call == Call::OpenReceived && *nan) {
+        *mark = NOT_RECEIVED;
+    }
+}
+
+fn open_keeps_6(call: Call, before: &Recording, after: &mut Recording) {
+    let kept = |mark: &u8| call == Call::Open && *mark == NOT_RECEIVED;
+    for (mark, _) in after.marks.iter_mut().zip(&before.marks).filter(|(_, old)| kept(old)) {
+        *mark = NOT_RECEIVED;
     }
 }

@@ -1,6 +1,6 @@
 //! Recordings with a well-formed journal, as repairs leave them.
 use cathar_host::draw::Draw;
-use cathar_host::recording::{entry_words, in_range, Answer, Recording};
+use cathar_host::recording::{entry_words, in_range, Answer, Recording, NOT_RECEIVED};
 
 pub struct Built {
     pub recording: Recording,
@@ -35,12 +35,17 @@ pub fn words(draw: &mut Draw, count: usize) -> Vec<u32> {
     (0..count).map(|_| draw.word() as u32).collect()
 }
 
-/// Any marks.
+/// Any marks; in half of the times each is as often 6, or one next to it, as any.
 pub fn marks(draw: &mut Draw, count: usize) -> Vec<u8> {
-    (0..count).map(|_| draw.word() as u8).collect()
+    let near = draw.below(2) == 0;
+    let mut mark = || match draw.word() {
+        word if near && word >> 63 == 0 => [NOT_RECEIVED, NOT_RECEIVED, 5, 7][(word >> 8) as usize % 4],
+        word => word as u8,
+    };
+    (0..count).map(|_| mark()).collect()
 }
 
-/// A recording opened over any words, and then up to six repairs.
+/// A recording opened over any words, in either way, and then up to six repairs.
 pub fn build(draw: &mut Draw) -> Built {
     let n = size(draw);
     let count = 1 + draw.below(6);
@@ -49,7 +54,8 @@ pub fn build(draw: &mut Draw) -> Built {
     let samples = words(draw, n);
     let used = draw.word() as usize;
     let mut recording = Recording { samples, marks: marks(draw, n), journal: words(draw, journal), used };
-    assert_eq!(recording.open(), Answer::Accepted(0));
+    let open = if draw.below(2) == 0 { Recording::open } else { Recording::open_received };
+    assert_eq!(open(&mut recording), Answer::Accepted(0));
     let mut before = Vec::new();
     for (mark, named) in repairs {
         let kept = recording.clone();

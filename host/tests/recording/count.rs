@@ -2,7 +2,7 @@
 //! where library and model differed.
 use cathar_host::call::Call;
 use cathar_host::lent::{Lent, VALUE_BEFORE};
-use cathar_host::recording::{Answer, Clause, Recording};
+use cathar_host::recording::{Answer, Clause, Recording, NOT_RECEIVED};
 use cathar_host::tally::line;
 use cathar_host::wrong;
 use std::fmt::Write;
@@ -19,6 +19,9 @@ const SIZES: [(&str, usize); 5] = [
     ("on 1,000 samples or more", usize::MAX),
 ];
 
+/// One of the two ways of opening: the call, and what the model does.
+pub type Opening = (Call, fn(&mut Recording) -> Answer);
+
 pub struct Count {
     title: &'static str,
     sources: Vec<(&'static str, u64)>,
@@ -26,6 +29,8 @@ pub struct Count {
     answers: Vec<(u32, u64)>,
     /// For each clause how often it applied, and how often it alone did.
     clauses: [[u64; 2]; Clause::ALL.len()],
+    /// How many openings left a mark 6, and how many undos brought one back.
+    not_received: u64,
     differences: u64,
     shown: Vec<String>,
 }
@@ -39,6 +44,7 @@ impl Count {
             sizes: [0; SIZES.len()],
             answers: numbers.iter().map(|number| (*number, 0)).collect(),
             clauses: [[0; 2]; Clause::ALL.len()],
+            not_received: 0,
             differences: 0,
             shown: Vec::new(),
         }
@@ -53,19 +59,23 @@ impl Count {
         self.sources.iter().map(|(_, count)| count).sum()
     }
 
-    /// Both sides open the recording. The answer is the model's.
-    pub fn open(&mut self, model: &mut Recording, lent: &mut Lent) -> Answer {
-        let answer = model.open();
-        let number = lent.make(Call::Open);
+    /// Both sides open the recording in this way. The answer is the model's.
+    pub fn open(&mut self, (call, open): Opening, model: &mut Recording, lent: &mut Lent) -> Answer {
+        let answer = open(model);
+        let number = lent.make(call);
         self.take(model, answer, number, lent.wrong(model, VALUE_BEFORE));
+        self.not_received += u64::from(answer.number() == 0 && model.marks.contains(&NOT_RECEIVED));
         answer
     }
 
     /// Both sides take back the last entry. The answer is the model's.
     pub fn undo(&mut self, model: &mut Recording, lent: &mut Lent) -> Answer {
+        let before = model.marks.clone();
         let answer = model.undo();
         let number = lent.make(Call::Undo);
         self.take(model, answer, number, lent.wrong(model, answer.value()));
+        let brings_back = |(old, new): (&u8, &u8)| *old != NOT_RECEIVED && *new == NOT_RECEIVED;
+        self.not_received += u64::from(before.iter().zip(&model.marks).any(brings_back));
         if answer.number() == 11 {
             self.take_clauses(&model.malformed());
         }
@@ -109,6 +119,11 @@ impl Count {
         assert_eq!(self.differences, 0, "{}: differences", self.title);
     }
 
+    /// How many openings left a mark 6, and how many undos brought one back.
+    pub fn not_received(&self) -> u64 {
+        self.not_received
+    }
+
     /// Panics where a clause of refusal 11 was never met alone. One cannot be: more places than samples are
     /// not all below the samples and rising, and where they are not all there, 3m+2 exceeds used.
     pub fn close_clauses(&self) {
@@ -138,6 +153,7 @@ impl Count {
                 line(&mut text, "    and nothing else", *alone);
             }
         }
+        line(&mut text, "leaving or bringing back a mark 6", self.not_received);
         line(&mut text, "differences", self.differences);
         for shown in &self.shown {
             writeln!(text, "    {shown}").expect("a String takes all");

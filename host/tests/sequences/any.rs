@@ -2,8 +2,9 @@
 use super::calls::Call;
 use cathar_host::damage::{self, DROPOUTS, ZEROS};
 use cathar_host::draw::Draw;
+use cathar_host::frames::{self, Rooms, FRAME_WORDS};
 use cathar_host::inpaint::{qualified, Gap};
-use cathar_host::recording::{entry_words, in_range, Recording};
+use cathar_host::recording::{entry_words, in_range, Recording, NOT_RECEIVED};
 use cathar_host::room::{self, Room};
 use cathar_host::settings::{self, NO_SCANS, UNLIMITED, USUAL};
 use cathar_host::shapes::Shape;
@@ -30,14 +31,64 @@ fn from_to(draw: &mut Draw, first: usize, last: usize) -> usize {
     first + draw.below((last - first + 1) as u64) as usize
 }
 
-/// A recording of n samples that is not opened yet, with a journal for so many repairs or for fewer.
-pub fn recording(draw: &mut Draw, n: usize, repairs: usize) -> Recording {
+/// Either way of opening.
+pub fn opening(draw: &mut Draw) -> Call {
+    if once_in(draw, 2) {
+        Call::Open
+    } else {
+        Call::OpenReceived
+    }
+}
+
+/// A recording of n samples that is not opened yet, with a journal for so many repairs or for fewer. Where it is to be
+/// opened with what was not received, that is mostly what frames left out, and else any samples.
+pub fn recording(draw: &mut Draw, n: usize, repairs: usize, opening: Call) -> Recording {
     let mut samples = shape(draw, n).samples(draw, n);
-    if n > 0 {
+    let mut marks = vec![0; n];
+    if n > 0 && !(opening == Call::OpenReceived && once_in(draw, 2)) {
         damaged(draw, &mut samples);
     }
+    if opening == Call::OpenReceived && once_in(draw, 4) {
+        let spread = 1 + draw.below(20);
+        marks.iter_mut().filter(|_| once_in(draw, spread)).for_each(|mark| *mark = NOT_RECEIVED);
+    } else if opening == Call::OpenReceived {
+        (samples, marks) = received(draw, &samples);
+    }
     let length = journal(draw, n, repairs);
-    unopened(draw, samples, length)
+    unopened(draw, Recording { samples, marks, journal: vec![0; length], used: 0 }, opening)
+}
+
+/// What is received of these samples when they come in frames, of which some are lost: as many samples with their marks.
+/// The first of them may stand anywhere in the first frame.
+fn received(draw: &mut Draw, samples: &[u32]) -> (Vec<u32>, Vec<u8>) {
+    let before = draw.below(FRAME_WORDS as u64) as usize;
+    let (count, end) = ((before + samples.len()) / FRAME_WORDS + 3, before + samples.len());
+    let sent = [&vec![0; before], samples, &vec![0; FRAME_WORDS * count - end]].concat();
+    let (first, lost) = (draw.word() as u16, lost(draw, count));
+    let mut input = Vec::new();
+    for (place, words) in sent.chunks(FRAME_WORDS).enumerate().filter(|(place, _)| !lost.contains(place)) {
+        input.extend(first.wrapping_add(place as u16).to_le_bytes());
+        input.extend(words.iter().flat_map(|word| word.to_le_bytes()));
+    }
+    let mut rooms = Rooms { samples: vec![0; sent.len()], marks: vec![0; sent.len()] };
+    let read = frames::read_frames(&input, &mut rooms);
+    assert_eq!((read.number, read.n, read.missing), (0, sent.len(), lost.len()), "what frames make");
+    (rooms.samples[before..end].to_vec(), rooms.marks[before..end].to_vec())
+}
+
+/// Which frames of so many, at least three, are lost: mostly up to three in one place, so that a scan may repair them, and
+/// at times more. The first and the last two are not.
+fn lost(draw: &mut Draw, count: usize) -> Vec<usize> {
+    let losses = if once_in(draw, 3) { 1 + draw.below(4) } else { 1 };
+    let mut lost = Vec::new();
+    for _ in 0..losses {
+        let start = from_to(draw, 1, count - 2);
+        lost.extend(start..=start + draw.below(3) as usize);
+    }
+    lost.retain(|place| place + 2 < count);
+    lost.sort_unstable();
+    lost.dedup();
+    lost
 }
 
 /// The shape of n samples. The one whose results are at times not in range is likelier than others. The one that is
@@ -51,10 +102,17 @@ fn shape(draw: &mut Draw, n: usize) -> Shape {
     }
 }
 
-/// A recording of these samples that is not opened yet, with so long a journal: marks, journal and used are any.
-pub fn unopened(draw: &mut Draw, samples: Vec<u32>, length: usize) -> Recording {
-    let mut recording = room::recording(draw, samples, length);
+/// A recording that is this one when it is opened in this way: journal and used are any, and so are the marks, but that
+/// 6 stands just where it does here, if it is to be kept.
+pub fn unopened(draw: &mut Draw, opened: Recording, opening: Call) -> Recording {
+    let length = opened.journal.len();
+    let mut recording = room::recording(draw, opened.samples, length);
     recording.journal.truncate(length);
+    if opening == Call::OpenReceived {
+        for (mark, raw) in recording.marks.iter_mut().zip(opened.marks) {
+            *mark = if raw == NOT_RECEIVED { NOT_RECEIVED } else { *mark - u8::from(*mark == NOT_RECEIVED) };
+        }
+    }
     recording
 }
 
@@ -94,7 +152,7 @@ fn journal(draw: &mut Draw, n: usize, repairs: usize) -> usize {
 /// Any call: mostly a repair, and one in six times an undo.
 pub fn call(draw: &mut Draw, on: &Recording) -> Call {
     match draw.below(96) {
-        0 => Call::Open,
+        0 => opening(draw),
         1..=16 => Call::Undo,
         17..=40 => gap(draw, &on.samples),
         41..=56 => scan(draw, &on.samples),

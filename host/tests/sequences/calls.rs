@@ -11,6 +11,7 @@ use cathar_host::whole::{needed, Repair};
 #[derive(Clone, Copy, Debug, PartialEq)]
 pub enum Call {
     Open,
+    OpenReceived,
     Undo,
     Gap { gap: Gap, passes: u32, work: usize },
     Scan { settings: OfScan, work: usize },
@@ -34,12 +35,17 @@ pub struct Outcome {
 }
 
 impl Call {
+    /// Whether it is one of the two openings.
+    pub fn opens(self) -> bool {
+        matches!(self, Call::Open | Call::OpenReceived)
+    }
+
     /// Both sides make the call, in a workspace of any words. The outcome is the model's.
     pub fn make(self, draw: &mut Draw, both: &mut Both) -> (Outcome, Wrong) {
         let n = both.model.samples.len();
         match self {
-            Call::Open => {
-                let (answer, wrong) = both.open();
+            Call::Open | Call::OpenReceived => {
+                let (answer, wrong) = if self == Call::Open { both.open() } else { both.open_received() };
                 (of_answer(answer), wrong)
             }
             Call::Undo => {

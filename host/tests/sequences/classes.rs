@@ -2,13 +2,14 @@
 use super::calls::Call;
 use super::history::{History, Step, Survivor};
 use cathar_host::count::Class;
-use cathar_host::recording::entry_words;
+use cathar_host::recording::{entry_words, NOT_RECEIVED};
 use cathar_host::whole::Repair;
 
 /// The kinds of calls.
 #[derive(Clone, Copy, PartialEq, Eq, PartialOrd, Ord)]
 enum Kind {
     Open,
+    OpenReceived,
     Undo,
     Gap,
     Line,
@@ -23,6 +24,7 @@ enum Kind {
 fn kind(call: Call) -> Kind {
     match call {
         Call::Open => Kind::Open,
+        Call::OpenReceived => Kind::OpenReceived,
         Call::Undo => Kind::Undo,
         Call::Gap { gap, .. } if gap.is_line() => Kind::Line,
         Call::Gap { .. } => Kind::Gap,
@@ -70,6 +72,11 @@ impl Step {
         self.names() && self.outcome.named.iter().map(|(_, m)| entry_words(*m)).sum::<usize>() == self.free
     }
 
+    /// Whether an undo brought back the mark of a sample that was not received.
+    fn brings_back_missing(&self) -> bool {
+        self.undone.map_or(false, |survivor| survivor.over_missing)
+    }
+
     /// Whether it is a run of a scan that was undone.
     fn undoes_run(&self) -> bool {
         self.undone.map_or(false, |survivor| survivor.scan.is_some())
@@ -78,8 +85,10 @@ impl Step {
 
 /// What the calls of the sequences have to be, all of them together.
 pub const CALLS: &[Class<Step>] = &[
-    Class { name: "opened", least: 10_000, holds: |s| s.is(Kind::Open) },
-    Class { name: "opened again, with survivors", least: 500, holds: |s| s.is(Kind::Open) && s.survivors > 0 },
+    Class { name: "opened", least: 6_000, holds: |s| s.is(Kind::Open) },
+    Class { name: "opened as received", least: 6_000, holds: |s| s.is(Kind::OpenReceived) },
+    Class { name: "opened so, with samples not received", least: 2_500, holds: |s| s.call.opens() && s.missing > 0 },
+    Class { name: "opened again, with survivors", least: 500, holds: |s| s.call.opens() && s.survivors > 0 },
     Class { name: "a gap by model", least: 15_000, holds: |s| s.names_by(Kind::Gap) },
     Class { name: "a gap by line", least: 20, holds: |s| s.names_by(Kind::Line) },
     Class { name: "a scan", least: 1_200, holds: |s| s.names_by(Kind::Scan) },
@@ -93,11 +102,15 @@ pub const CALLS: &[Class<Step>] = &[
     Class { name: "a gap over samples that a repair made", least: 8_000, holds: |s| s.is_gap() && s.over },
     Class { name: "a scan over samples that a repair made", least: 150, holds: |s| s.is(Kind::Scan) && s.over },
     Class { name: "another over samples that a repair made", least: 10_000, holds: |s| s.is_whole() && s.over },
+    Class { name: "a gap over samples not received", least: 1_000, holds: |s| s.is_gap() && s.over_missing },
+    Class { name: "a scan over samples not received", least: 150, holds: |s| s.is(Kind::Scan) && s.over_missing },
+    Class { name: "another over samples not received", least: 500, holds: |s| s.is_whole() && s.over_missing },
     Class { name: "naming a sample, after an undo", least: 15_000, holds: |s| s.names() && s.after_undo },
     Class { name: "filling the journal", least: 250, holds: Step::fills_journal },
     Class { name: "naming one of 4,000 samples or more", least: 80, holds: |s| s.names() && s.samples >= 4_000 },
     Class { name: "on 0 samples", least: 1_500, holds: |s| s.samples == 0 },
     Class { name: "undone", least: 10_000, holds: |s| s.undone.is_some() },
+    Class { name: "undone, bringing back a mark 6", least: 500, holds: Step::brings_back_missing },
     Class { name: "undone, a run of a scan", least: 400, holds: Step::undoes_run },
     Class { name: "a scan answered 4", least: 1_000, holds: |s| s.number() == 4 && s.is(Kind::Scan) },
     Class { name: "a repair of all samples answered 4", least: 1_000, holds: |s| s.number() == 4 && s.is_whole() },
@@ -119,6 +132,7 @@ pub const CALLS: &[Class<Step>] = &[
 
 /// What the repairs that are replayed have to be, beside the opening of each fresh copy.
 pub const REPLAYED: &[Class<Step>] = &[
+    Class { name: "over samples not received", least: 1_000, holds: |s| s.over_missing },
     Class { name: "gaps by model", least: 10_000, holds: |s| s.names_by(Kind::Gap) },
     Class { name: "gaps by line", least: 15, holds: |s| s.names_by(Kind::Line) },
     Class { name: "declip", least: 1_800, holds: |s| s.names_by(Kind::Declip) },
@@ -130,6 +144,7 @@ pub const REPLAYED: &[Class<Step>] = &[
 /// What the undos at the end have to be: one for each survivor, and one more in each sequence.
 pub const UNDONE: &[Class<Step>] = &[
     Class { name: "undone", least: 15_000, holds: |s| s.undone.is_some() },
+    Class { name: "bringing back a mark 6", least: 1_000, holds: Step::brings_back_missing },
     Class { name: "answered 10", least: 10_000, holds: |s| s.number() == 10 },
 ];
 
@@ -138,6 +153,10 @@ pub const UNDONE: &[Class<Step>] = &[
 pub struct Ended {
     pub samples: usize,
     pub calls: usize,
+    /// Whether it was last opened as received, how many samples were then marked 6, and how many still are.
+    pub received: bool,
+    pub missing: usize,
+    pub still_missing: usize,
     pub survivors: Vec<Survivor>,
     /// How many repairs were undone since it was last opened, and how often it was opened.
     pub undone: usize,
@@ -153,7 +172,10 @@ impl Ended {
         let of = |scan: usize| survivors.iter().filter(|survivor| survivor.scan == Some(scan)).count();
         let partly = history.scans.iter().enumerate().any(|(scan, runs)| of(scan) > 0 && of(scan) < *runs);
         let samples = history.both.model.samples.len();
-        Ended { samples, calls, survivors, undone: history.undone, opened: history.opened, partly }
+        let of_6 = |marks: &[u8]| marks.iter().filter(|mark| **mark == NOT_RECEIVED).count();
+        let (missing, still_missing) = (of_6(&history.raw_marks), of_6(&history.both.model.marks));
+        let (received, undone, opened) = (history.opening == Call::OpenReceived, history.undone, history.opened);
+        Ended { samples, calls, received, missing, still_missing, survivors, undone, opened, partly }
     }
 
     /// How many kinds of repairs there are among the survivors.
@@ -167,7 +189,12 @@ impl Ended {
 
 /// What the sequences have to be, all of them together.
 pub const SEQUENCES: &[Class<Ended>] = &[
-    Class { name: "sequences", least: 10_000, holds: |_| true },
+    Class { name: "sequences", least: 12_000, holds: |_| true },
+    Class { name: "opened as measured", least: 5_000, holds: |e| !e.received },
+    Class { name: "opened as received", least: 5_000, holds: |e| e.received },
+    Class { name: "with samples not received", least: 2_500, holds: |e| e.missing > 0 },
+    Class { name: "of which some are repaired", least: 1_200, holds: |e| e.still_missing < e.missing },
+    Class { name: "of which some are not", least: 1_200, holds: |e| e.still_missing > 0 },
     Class { name: "on 0 samples", least: 80, holds: |e| e.samples == 0 },
     Class { name: "on 1 to 7 samples", least: 600, holds: |e| (1..8).contains(&e.samples) },
     Class { name: "on 4,000 samples or more", least: 30, holds: |e| e.samples >= 4_000 },

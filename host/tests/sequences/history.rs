@@ -1,9 +1,9 @@
-//! A recording with what has been done to it since it was opened: the raw words, and the repairs that survive.
+//! A recording with what has been done to it since it was opened: the raw words and marks, and the repairs that survive.
 use super::calls::{Call, Outcome};
 use super::slips;
 use cathar_host::both::{Both, Wrong};
 use cathar_host::draw::Draw;
-use cathar_host::recording::{entry_words, Recording};
+use cathar_host::recording::{entry_words, is_made, Recording, NOT_RECEIVED};
 
 /// What has no place in a sequence of calls that begins with opening: marks that are too few or too many, more than
 /// the most samples, used past the journal, and a malformed entry.
@@ -16,8 +16,9 @@ pub struct Survivor {
     pub m: usize,
     /// Which scan it is a run of, by the number of scans before that one, if it is a run of one.
     pub scan: Option<usize>,
-    /// Whether it named a sample that an earlier survivor had made.
+    /// Whether it named a sample that an earlier survivor had made, and whether one that was not received.
     pub over: bool,
+    pub over_missing: bool,
 }
 
 /// One call of a sequence, on the recording as it was before.
@@ -31,16 +32,22 @@ pub struct Step {
     pub survivors: usize,
     /// The repair that an undo took back.
     pub undone: Option<Survivor>,
-    /// Whether a named sample had been made by an earlier repair, and whether something had been undone before.
+    /// Whether a named sample had been made by an earlier repair, and whether one was not received.
     pub over: bool,
+    pub over_missing: bool,
+    /// How many of the samples were not received, by their raw marks, and whether something had been undone before.
+    pub missing: usize,
     pub after_undo: bool,
 }
 
 /// A recording on both sides, and what has been done to it.
 pub struct History {
     pub both: Both,
-    /// The samples as they were when the recording was last opened.
+    /// The samples as they were when the recording was last opened, and which way that was.
     raw: Vec<u32>,
+    pub opening: Call,
+    /// The marks as they have to be then: 0, or 6 where the samples were not received.
+    pub raw_marks: Vec<u8>,
     /// The repairs that survive, the oldest first.
     pub survivors: Vec<Survivor>,
     /// How many runs each scan repaired, and how many repairs were undone, since then.
@@ -53,8 +60,10 @@ pub struct History {
 impl History {
     /// A recording that is yet to be opened.
     pub fn new(recording: Recording) -> History {
-        let raw = recording.samples.clone();
-        History { both: Both::new(recording), raw, survivors: Vec::new(), scans: Vec::new(), undone: 0, opened: 0 }
+        let (raw, raw_marks) = (recording.samples.clone(), vec![0; recording.samples.len()]);
+        let (both, opening) = (Both::new(recording), Call::Open);
+        let (survivors, scans) = (Vec::new(), Vec::new());
+        History { both, raw, opening, raw_marks, survivors, scans, undone: 0, opened: 0 }
     }
 
     /// Both sides make the call, and what must hold after each is looked at.
@@ -63,19 +72,24 @@ impl History {
         let (survivors, after_undo) = (self.survivors.len(), self.undone > 0);
         let (outcome, mut wrong) = call.make(draw, &mut self.both);
         let undone = if call == Call::Undo { self.take_back(&outcome, &mut wrong) } else { None };
-        if call == Call::Open {
-            self.begin_anew(&before);
+        if call.opens() {
+            self.begin_anew(&before, call);
         }
-        let over = self.survive(&before, call, &outcome);
+        let [over, over_missing] = self.survive(&before, call, &outcome);
         slips::slip(self, call, &outcome, undone);
         wrong.extend(self.broken(&before, call, &outcome));
         let (samples, free) = (before.samples.len(), before.journal.len().saturating_sub(before.used));
-        (Step { call, outcome, samples, free, survivors, undone, over, after_undo }, wrong)
+        let missing = self.raw_marks.iter().filter(|mark| **mark == NOT_RECEIVED).count();
+        (Step { call, outcome, samples, free, survivors, undone, over, over_missing, missing, after_undo }, wrong)
     }
 
-    /// What is raw is what there was before the recording was opened.
-    fn begin_anew(&mut self, before: &Recording) {
+    /// What is raw is what there was before the recording was opened in this way: of the marks only 6, and by the one
+    /// opening alone.
+    fn begin_anew(&mut self, before: &Recording, opening: Call) {
         self.raw = before.samples.clone();
+        self.opening = opening;
+        let kept = |mark: &u8| opening == Call::OpenReceived && *mark == NOT_RECEIVED;
+        self.raw_marks = before.marks.iter().map(|mark| if kept(mark) { NOT_RECEIVED } else { 0 }).collect();
         self.survivors.clear();
         self.scans.clear();
         self.undone = 0;
@@ -96,37 +110,45 @@ impl History {
     }
 
     /// The repairs that a call has made join the survivors. Whether one is over a sample that an earlier survivor
-    /// had made: its entry then has an old mark that is not 0.
-    fn survive(&mut self, before: &Recording, call: Call, outcome: &Outcome) -> bool {
+    /// had made, and whether one is over a sample that was not received: its entry then has such an old mark.
+    fn survive(&mut self, before: &Recording, call: Call, outcome: &Outcome) -> [bool; 2] {
         let mut start = before.used;
         let scan = matches!(call, Call::Scan { .. }).then(|| self.scans.len());
         for (call, m) in outcome.named.iter().copied() {
             let named = &self.both.model.journal[start..start + 3 * m];
-            let over = named.chunks(3).any(|sample| sample[2] != 0);
-            self.survivors.push(Survivor { call, m, scan, over });
+            let over = named.chunks(3).any(|sample| is_made(sample[2] as u8));
+            let over_missing = named.chunks(3).any(|sample| sample[2] == NOT_RECEIVED.into());
+            self.survivors.push(Survivor { call, m, scan, over, over_missing });
             start += entry_words(m);
         }
         if scan.is_some() {
             self.scans.push(outcome.named.len());
         }
-        self.survivors[self.survivors.len() - outcome.named.len()..].iter().any(|survivor| survivor.over)
+        let joined = &self.survivors[self.survivors.len() - outcome.named.len()..];
+        [joined.iter().any(|survivor| survivor.over), joined.iter().any(|survivor| survivor.over_missing)]
     }
 
-    /// What is wrong whatever the model says: a sample that is marked as measured and has not its raw word, a used
-    /// that is not what the entries of the survivors take, a change by a call that names no sample and takes nothing
-    /// back, and an answer that no sequence gives.
+    /// Whether all samples of this mark, 0 or 6, have their raw word, and had this mark when the recording was opened.
+    fn is_raw(&self, mark: u8) -> bool {
+        let model = &self.both.model;
+        let mut marked = (0..self.raw.len()).filter(|place| model.marks[*place] == mark);
+        marked.all(|place| model.samples[place] == self.raw[place] && self.raw_marks[place] == mark)
+    }
+
+    /// What is wrong whatever the model says: a sample that is marked as measured or as not received, and has not its
+    /// raw word or was not so marked at first, a used that is not what the entries of the survivors take, a change by a
+    /// call that names no sample and takes nothing back, and an answer that no sequence gives.
     fn broken(&self, before: &Recording, call: Call, outcome: &Outcome) -> Wrong {
         let model = &self.both.model;
-        let measured = |place: &usize| model.marks[*place] == 0;
-        let raw = (0..self.raw.len()).filter(measured).all(|place| model.samples[place] == self.raw[place]);
         let entries: usize = self.survivors.iter().map(|survivor| entry_words(survivor.m)).sum();
         let changes = match call {
-            Call::Open => true,
+            _ if call.opens() => true,
             Call::Undo => outcome.number == 0,
             _ => !outcome.named.is_empty(),
         };
         let wrong = [
-            ("a measured sample from its raw word", !raw),
+            ("a measured sample from what it was at first", !self.is_raw(0)),
+            ("one that was not received from what it was at first", !self.is_raw(NOT_RECEIVED)),
             ("used from what the survivors take", model.used != entries),
             ("the recording from what it was", !changes && model != before),
             ("an answer that no sequence gives", NEVER.contains(&outcome.number)),
@@ -134,10 +156,10 @@ impl History {
         wrong.into_iter().filter(|(_, wrong)| *wrong).map(|(name, _)| name).collect()
     }
 
-    /// The raw recording, opened, with a journal as long: marks 0, all journal words 0, used 0.
+    /// The raw recording, opened, with a journal as long: raw marks, all journal words 0, used 0.
     pub fn raw(&self) -> Recording {
-        let (n, length) = (self.raw.len(), self.both.model.journal.len());
-        Recording { samples: self.raw.clone(), marks: vec![0; n], journal: vec![0; length], used: 0 }
+        let journal = vec![0; self.both.model.journal.len()];
+        Recording { samples: self.raw.clone(), marks: self.raw_marks.clone(), journal, used: 0 }
     }
 
     /// What of this recording is not the same as the other, on either side.

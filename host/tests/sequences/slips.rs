@@ -1,7 +1,8 @@
 //! Slips in what a history keeps account of: what the stand-ins for the account do.
 use super::calls::{Call, Outcome};
 use super::history::{History, Survivor};
-use cathar_host::whole::Repair;
+use cathar_host::recording::NOT_RECEIVED;
+use cathar_host::whole::{floats, Repair};
 use cathar_host::wrong;
 use std::cell::RefCell;
 
@@ -39,6 +40,9 @@ fn named(name: &str) -> Alters {
         "seq_account_gap_one_longer" => |history, _, outcome, _| each_joined(history, outcome, gap_one_longer),
         "seq_account_gap_one_later" => |history, _, outcome, _| each_joined(history, outcome, gap_one_later),
         "seq_account_strength_halved" => |history, _, outcome, _| each_joined(history, outcome, strength_halved),
+        "seq_account_raw_marks_0" => |history, _, _, _| history.raw_marks.fill(0),
+        "seq_account_raw_marks_of_nan" => raw_marks_of_nan,
+        "seq_account_replay_opens_as_measured" => |history, _, _, _| history.opening = Call::Open,
         "seq_account_last_two_swapped" => last_two_swapped,
         _ => panic!("the account has no slip {name}"),
     }
@@ -82,20 +86,20 @@ fn scan_is_last_run(history: &mut History, call: Call, outcome: &Outcome, _: Opt
 }
 
 fn open_keeps_survivors(history: &mut History, call: Call, _: &Outcome, _: Option<Survivor>) {
-    if call == Call::Open && history.opened > 1 {
+    if call.opens() && history.opened > 1 {
         history.survivors = EARLIER.with(|earlier| earlier.borrow().clone());
     }
 }
 
 fn refused_survives(history: &mut History, call: Call, outcome: &Outcome, _: Option<Survivor>) {
     if outcome.number != 0 && matches!(call, Call::Gap { .. } | Call::Whole { .. }) {
-        history.survivors.push(Survivor { call, m: 1, scan: None, over: false });
+        history.survivors.push(Survivor { call, m: 1, scan: None, over: false, over_missing: false });
     }
 }
 
 fn naming_none_survives(history: &mut History, call: Call, outcome: &Outcome, _: Option<Survivor>) {
     if outcome.number == 0 && outcome.named.is_empty() && matches!(call, Call::Whole { .. }) {
-        history.survivors.push(Survivor { call, m: 0, scan: None, over: false });
+        history.survivors.push(Survivor { call, m: 0, scan: None, over: false, over_missing: false });
     }
 }
 
@@ -116,6 +120,13 @@ fn gap_one_later(survivor: &mut Survivor, n: usize) {
 fn strength_halved(survivor: &mut Survivor, _: usize) {
     if let Call::Whole { repair: Repair::Dequantize { strength, .. }, .. } = &mut survivor.call {
         *strength /= 2.0;
+    }
+}
+
+fn raw_marks_of_nan(history: &mut History, call: Call, _: &Outcome, _: Option<Survivor>) {
+    if call == Call::OpenReceived {
+        let samples = floats(&history.both.model.samples);
+        history.raw_marks = samples.into_iter().map(|x| if x.is_nan() { NOT_RECEIVED } else { 0 }).collect();
     }
 }
 
