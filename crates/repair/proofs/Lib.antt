@@ -1,3 +1,2 @@
--- Laws of the program: what it does with a recording, and that its journal and its workspace suffice.
+-- Laws of the program: what it does with a recording.
 pub mod Program
-pub mod Suffices

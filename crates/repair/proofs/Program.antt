@@ -1,34 +1,33 @@
--- The program's scan, from what opening and scanning ensure, and its report, from what decoding and the scan ensure. Assumes nothing.
+-- The program's report, from what decoding and the scan ensure. Assumes nothing.
 use Prim.Native.Nat.{ℕ}
 use mathlib.Core.Path.{_≡_, ap, sym, _∙_}
 use mathlib.Core.List.{List}
 use lib.ListN.{length, replicate}
-use lib.Ieee.{Float, binary32, binary64, ofBits}
+use lib.Seq.{sets}
+use lib.Ieee.{Float, binary64, ofBits}
 use Rattle.leaves.specs.Arithmetic.{nought}
-use Rattle.leaves.proofs.Literals.{one-word, nought-double}
-use Rattle.recording.specs.Recording.{State, Ended, ended, opened}
+use Rattle.leaves.proofs.Stores.{stored-over}
 use Rattle.recording.specs.History.{fresh}
-use Rattle.recording.specs.declared.Answer.{Answer}
-use Rattle.inpaint.specs.Auto.{Scan, automatic}
-use Rattle.repair.specs.Program.{rate, limitMs, journalWords, workspace, decoded, repairing, reportOf, reported}
+use Rattle.inpaint.specs.Auto.{Scan}
+use Rattle.monitor.specs.Scanning.{journalWords, workspace, reportOf}
+use Rattle.monitor.proofs.Scanning.{empty-work}
+use Rattle.wire.specs.Wire.{decoded}
+use Rattle.wire.proofs.Laws.{length-decoded}
+use Rattle.repair.specs.Program.{repairing, reported}
 
-pub opened-then : (s t : State) (a : Answer) (work : List Float) (scanned : Scan) → ended a t ≡ opened s
-    → scanned ≡ automatic rate (ofBits binary32 1065353216) work t → scanned ≡ repairing work s
-unfolding repairing
-opened-then s t a work scanned e h =
-    h
-    ∙ ap (λ (ms : Float). automatic rate ms work t) one-word
-    ∙ ap (λ (c : Ended). automatic rate limitMs work (c .after)) e
-
--- the code's workspace begins with its 0.0
-pub reports : (bytes words marks : List ℕ) (n : ℕ) (scanned : Scan) → length marks ≡ n → words ≡ decoded bytes 0 n
+-- all samples are decoded, and the code's workspace begins with its 0.0
+pub reports : (bytes before words marks : List ℕ) (scanned : Scan) → length marks ≡ length before
+    → words ≡ sets before 0 (decoded bytes 0 (length before))
     → scanned ≡ repairing (replicate workspace (ofBits binary64 0)) (fresh words marks journalWords)
     → reportOf scanned ≡ reported bytes marks
 unfolding reported
-reports bytes words marks n scanned count read h =
-    let repaired : Float → List ℕ → Scan = λ x l. repairing (replicate workspace x) (fresh l marks journalWords) in
+reports bytes before words marks scanned count read h =
+    let repaired : List Float → List ℕ → Scan = λ work l. repairing work (fresh l marks journalWords) in
+    let empty : List Float = replicate workspace nought in
+    let whole : words ≡ decoded bytes 0 (length before) =
+    read ∙ stored-over before (decoded bytes 0 (length before)) (length-decoded bytes 0 (length before)) in
     ap reportOf
     (h
-    ∙ ap (λ (x : Float). repaired x words) nought-double
-    ∙ ap (repaired nought) read
-    ∙ sym (ap (λ (m : ℕ). repaired nought (decoded bytes 0 m)) count))
+    ∙ ap (λ (work : List Float). repaired work words) empty-work
+    ∙ ap (repaired empty) whole
+    ∙ sym (ap (λ (n : ℕ). repaired empty (decoded bytes 0 n)) count))

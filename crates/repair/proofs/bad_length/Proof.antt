@@ -5,7 +5,8 @@ use mathlib.Core.Path.{_≡_, refl}
 use mathlib.Core.Bool.{true, not}
 use lib.Dec.{eqb}
 use borrow.Author.Tests.{lt-ltb, le-ltb}
-use Rattle.repair.specs.Program.{badLength, mostInput}
+use Rattle.monitor.specs.Scanning.{mostInput}
+use Rattle.repair.specs.Program.{badLength}
 use Rattle.repair.proofs.bad_length.Statement.{statement}
 use Rattle.repair.proofs.bad_length.Tie as tie
 

@@ -1,7 +1,7 @@
 -- `repair_and_report` meets its contract: writing the report changes nothing of what was repaired. Assumes nothing.
 use mathlib.Core.Path.{ap}
 use borrow.Author.Needs.{needs}
-use Rattle.repair.specs.Program.{Report}
+use Rattle.monitor.specs.Scanning.{Report}
 use Rattle.repair.proofs.repair_and_report.Statement.{statement}
 use Rattle.repair.proofs.repair_and_report.Tie as tie
 

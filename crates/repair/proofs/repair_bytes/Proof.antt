@@ -27,7 +27,7 @@ returns c =
     let scanned = c .before .before .before .before .before .before in
     let read = scanned .before .before .before .before .before .before .before .before in
     let start = read .before .before .before .before .before in
-    reports _ _ _ _ _ (start .pre .1) (read .decode .ensures) (scanned .repair-recording .ensures)
+    reports _ (start .args .samples .now) _ _ _ (start .pre .1) (read .decode .ensures) (scanned .repair-recording .ensures)
 
 pub repair-bytes-spec : {M : Type 1} → statement M
 repair-bytes-spec =

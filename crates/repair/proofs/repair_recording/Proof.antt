@@ -1,14 +1,15 @@
 -- `repair::repair_recording` meets its contract: it scans what opening left. Assumes nothing.
 use borrow.Author.Needs.{needs}
-use Rattle.repair.proofs.Program.{opened-then}
+use Rattle.monitor.proofs.Scanning.{opened-then}
+use Rattle.repair.specs.Program.{repairing}
 use Rattle.repair.proofs.repair_recording.Statement.{statement}
 use Rattle.repair.proofs.repair_recording.Tie as tie
 
 open-requires : tie.Need-open-requires
 open-requires c κs = search needs
 
-inpaint-auto-requires : tie.Need-inpaint-auto-requires
-inpaint-auto-requires c κs = search needs
+scan-recording-requires : tie.Need-scan-recording-requires
+scan-recording-requires c κs = search needs
 
 same-length : tie.Need-same-length
 same-length c = search needs
@@ -23,17 +24,18 @@ same-length-4 : tie.Need-same-length-4
 same-length-4 c = search needs
 
 returns : tie.Need-returns
+unfolding repairing
 returns c =
     let scanned = c .before .before .before .before .before .before .before .before in
     let lent = scanned .before .before .before .before .before .before .before .before .before .before in
-    opened-then _ _ _ _ _ (lent .«open» .ensures) (scanned .inpaint-auto .ensures)
+    opened-then _ _ _ _ _ (lent .«open» .ensures) (scanned .scan-recording .ensures)
 
 pub repair-recording-spec : {M : Type 1} → statement M
 repair-recording-spec =
     tie.close
     (tie.spec
     open-requires
-    inpaint-auto-requires
+    scan-recording-requires
     same-length
     same-length-2
     same-length-3

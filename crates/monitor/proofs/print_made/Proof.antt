@@ -1,11 +1,11 @@
--- `print_made` is safe and ends: each index is below the number of samples, which is that of the marks, and words and
+-- `monitor::print_made` is safe and ends: each index is below the number of samples, which is that of the marks, and words and
 -- marks fit. Assumes nothing.
 use Prim.Native.Nat.{_-_, _≤_}
 use lib.ListN.{length}
 use native.Mathlib.Omega.{arith}
 use borrow.Author.Needs.{needs}
-use Rattle.repair.proofs.print_made.Statement.{statement}
-use Rattle.repair.proofs.print_made.Tie as tie
+use Rattle.monitor.proofs.print_made.Statement.{statement}
+use Rattle.monitor.proofs.print_made.Tie as tie
 
 abbrev Inv-loop : tie.InvT-loop
 Inv-loop samples marks i₀ t5 t6 t7 t8 i = i ≤ length samples

@@ -1,0 +1,76 @@
+-- The scan that the programs make, and what there is to report of it: document 01's section "The program", whose sentences the
+-- comments quote. Definitions, and then three statements, which are proved in proofs/Suffices.antt under the same names, written
+-- small.
+use Prim.Native.Nat.{ℕ, _≤_}
+use mathlib.Core.Path.{_≡_}
+use mathlib.Core.List.{List}
+use lib.ListN.{length}
+use lib.Ieee.{Float}
+use Rattle.leaves.specs.Arithmetic.{one}
+use Rattle.recording.specs.Recording.{State}
+use Rattle.recording.specs.History.{fresh}
+use Rattle.inpaint.specs.Auto.{Scan, limit, automatic}
+use Rattle.inpaint.specs.Runs.{runAnswers}
+use Rattle.inpaint.specs.Consequences.{NoneHas}
+
+-- ---- The scan
+
+-- "at most 4,096" samples
+abbrev pub mostInput : ℕ
+mostInput = 4096
+
+-- "rate 48,000"
+abbrev pub rate : ℕ
+rate = 48000
+
+-- "the limit 1 ms"
+abbrev pub limitMs : Float
+limitMs = one
+
+-- "a journal of 12,288 words"
+abbrev pub journalWords : ℕ
+journalWords = 12288
+
+-- the doubles that a gap of 48 samples needs at most: a window of 48 + 2 * 1024, a band of 48 rows of 49, 3 * 48 and 4 * 49
+abbrev pub workspace : ℕ
+workspace = 4788
+
+-- "It runs `inpaint_auto` at rate 48,000 with the limit 1 ms (48 samples)", on a recording that was opened
+unfoldable pub scanning : List Float → State → Scan
+unfolding automatic
+scanning work s = automatic rate limitMs work s
+
+-- ---- The report
+
+-- what there is to report after a scan: "qualified", "repaired", "refused", and "place, mark, word" of each sample
+pub record Report : Type 0 where
+  pub qualified : ℕ
+  pub repaired : ℕ
+  pub refused : ℕ
+  pub samples : List ℕ
+  pub marks : List ℕ
+
+-- from what is counted and left, and of a scan
+abbrev pub report : ℕ → ℕ → ℕ → List ℕ → List ℕ → Report
+report q r k s m = record { qualified = q; repaired = r; refused = k; samples = s; marks = m }
+
+abbrev pub reportOf : Scan → Report
+reportOf c = report (c .qualified) (c .repaired) (c .refused) (c .after .samples) (c .after .marks)
+
+-- ---- What suffices
+
+-- "the limit 1 ms (48 samples)"
+abbrev pub LimitIs48 : Type 0
+LimitIs48 = limit limitMs rate ≡ 48
+
+-- "which always suffices": of a recording of at most 4,096 samples no run is refused for want of room in the journal
+abbrev pub JournalSuffices : Type 0
+JournalSuffices =
+    (words marks : List ℕ) (work : List Float) → length words ≤ mostInput
+    → NoneHas 9 (runAnswers rate limitMs work (fresh words marks journalWords))
+
+-- and none of any recording for want of workspace
+abbrev pub WorkspaceSuffices : Type 0
+WorkspaceSuffices =
+    (words marks : List ℕ) (room : ℕ) (work : List Float) → workspace ≤ length work
+    → NoneHas 6 (runAnswers rate limitMs work (fresh words marks room))
