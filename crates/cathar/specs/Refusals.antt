@@ -1,4 +1,5 @@
--- "What is turned away": document 01's table, a definition for each line, whose words the comments quote. A line says of what a call asks
+-- "What is turned away": document 01's table, a definition for each line, whose words the comments quote. (Refusal 12 is none of them: it is
+-- that of the reader of frames, which is no call on a recording, and stands with its rule in the crate `frames`.) A line says of what a call asks
 -- for, and of the recording that it finds, whether it applies, whatever the other lines say. "The lowest number that applies is the
 -- answer": a call tests the lines in the order of `tested`, and answers with the first that applies. That each call does so is
 -- `GivenExactlyWhen` of Demands.antt. Definitions only.

@@ -1,6 +1,5 @@
--- The recording: document 01, "The recording" and "What is turned away", whose sentences the comments quote, with those of document 02
--- that amend them. A list's
--- element i is `getD l i 0`; `set l i x` has x there instead, and `sets l i xs` has all of xs from place i on.
+-- The recording: document 01, "The recording" and "What is turned away", and what requests of document 02 add to it; the comments quote
+-- their sentences. A list's element i is `getD l i 0`; `set l i x` has x there instead, and `sets l i xs` has all of xs from place i on.
 -- Definitions only.
 use Prim.Native.Nat.{ℕ, zero, suc, _+_, _-_, _*_}
 use mathlib.Core.Bool.{Bool, false, not, _||_}

@@ -1,5 +1,4 @@
 // The tests that every call begins with, and the two openings of a recording.
-ghost use Prim.Native.Nat.{ℕ};
 ghost use mathlib.Core.Path.{_≡_};
 ghost use mathlib.Core.List.{[], map};
 ghost use lib.ListN.{length, replicate};
