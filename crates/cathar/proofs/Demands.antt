@@ -43,7 +43,7 @@ use Rattle.declip.proofs.Consequences.{declip-lawful}
 use Rattle.decrackle.proofs.Consequences.{decrackle-lawful}
 use Rattle.dequant.proofs.Consequences.{dequantize-lawful, cosparse-lawful}
 use Rattle.cathar.specs.Calls.{Call, gap, scan, declip, decrackle, dequantize, cosparse, undo, Work, Outcome, told, ran}
-use Rattle.cathar.specs.Calls.{Opening, measured, received, opens}
+use Rattle.cathar.specs.Calls.{Opening, asMeasured, asReceived, opens}
 use Rattle.cathar.specs.Refusals.{plain, asked, applies, anyOut, first, turnedAway, openingTurnedAway, testedByOpening, canGive}
 use Rattle.cathar.specs.Demands.{GivenExactlyWhen, OpeningGivenExactlyWhen, OnlyThese, OpeningOnlyThese, RefusalChangesNothing}
 use Rattle.cathar.specs.Demands.{RefusedOpeningChangesNothing, RulesAreLawful, after, AfterAny, Kind, kind, repairs, undoes, scans}
@@ -189,20 +189,20 @@ given-exactly-when undo s = no-runs _ _ (by-lines undo s)
 
 -- the raw marks that an opening sets
 abbrev raw-marks : Opening → State → List ℕ
-raw-marks measured s = replicate (length (s .marks)) marks.measured
-raw-marks received s = map keptMark (s .marks)
+raw-marks asMeasured s = replicate (length (s .marks)) marks.measured
+raw-marks asReceived s = map keptMark (s .marks)
 
 -- is all in which the two differ
 opens-with : (o : Opening) (s : State) → opens o s ≡ openedWith (raw-marks o s) s
 unfolding opened openedReceived
-opens-with measured s = refl
-opens-with received s = refl
+opens-with asMeasured s = refl
+opens-with asReceived s = refl
 
 -- they say measured or not received
 raw-either : (o : Opening) (s : State) (i : ℕ)
     → (getD (raw-marks o s) i 0 ≡ marks.measured) ⊎ (getD (raw-marks o s) i 0 ≡ marks.notReceived)
-raw-either measured s i = inl (all-zero (length (s .marks)) i)
-raw-either received s i = history.kept-or-measured (s .marks) i
+raw-either asMeasured s i = inl (all-zero (length (s .marks)) i)
+raw-either asReceived s i = history.kept-or-measured (s .marks) i
 
 pub opening-given-exactly-when : OpeningGivenExactlyWhen
 unfolding openingTurnedAway
@@ -410,8 +410,8 @@ opened-fresh raw o =
     ∙ rw with-marks (history.opening-is-fresh (raw-marks (o .way) (o .lent)) (o .lent) (rw with-marks at (o .accepted)))
 
 raw-bytes : (o : Opening) (s : State) → single.Bytes (raw-marks o s)
-raw-bytes measured s = history.zeros-are-bytes (length (s .marks))
-raw-bytes received s = history.kept-are-bytes (s .marks)
+raw-bytes asMeasured s = history.zeros-are-bytes (length (s .marks))
+raw-bytes asReceived s = history.kept-are-bytes (s .marks)
 
 -- what holds of the rules on every fresh recording holds of the calls on every opened one
 opened-any : (P : State → List single.Call → State → Type 0) → single.AfterAny (λ raw cs. P raw cs (single.run cs raw))

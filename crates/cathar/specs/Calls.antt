@@ -68,13 +68,13 @@ ran undo s = told (undone s) none
 -- the two openings, with one of which every recording starts
 pub data Opening : Type 0 where
   -- every sample was measured
-  measured : Opening
+  asMeasured : Opening
   -- as the bus's frames left it: a sample was measured or not received
-  received : Opening
+  asReceived : Opening
 
 abbrev pub opens : Opening → State → Ended
-opens measured s = opened s
-opens received s = openedReceived s
+opens asMeasured s = opened s
+opens asReceived s = openedReceived s
 
 -- an opening gives no figure
 abbrev pub opening : Opening → State → Outcome

@@ -7,7 +7,7 @@ ghost use Rattle.leaves.specs.Floats.{narrowed, rounded};
 ghost use Rattle.leaves.specs.Root.{Rooted};
 ghost use Rattle.cathar.specs.Calls.{gap, scan, declip, decrackle, dequantize, cosparse, undo};
 ghost use Rattle.cathar.specs.Calls.{none, doubles, words, outcome, ran};
-ghost use Rattle.cathar.specs.Calls.{measured, received, opening, framesTold, toldOf};
+ghost use Rattle.cathar.specs.Calls.{asMeasured, asReceived, opening, framesTold, toldOf};
 ghost use Rattle.frames.specs.Frames.{framesRead};
 ghost use Rattle.recording.specs.Lent.{left, lent, leftReading};
 use recording::numbers::number_of;
@@ -22,7 +22,7 @@ pub extern "C" fn cathar_open(
     journal: &mut [u32],
     used: &mut usize,
 ) -> u32
-    ensures { λ r. ⌜ outcome r [] (leftReading samples marks journal used) none ≡ opening measured (lent samples marks journal used) ⌝ }
+    ensures { λ r. ⌜ outcome r [] (leftReading samples marks journal used) none ≡ opening asMeasured (lent samples marks journal used) ⌝ }
 {
     let answer = recording::open::open(samples, marks, journal, used);
     number_of(answer)
@@ -37,7 +37,7 @@ pub extern "C" fn cathar_open_received(
     journal: &mut [u32],
     used: &mut usize,
 ) -> u32
-    ensures { λ r. ⌜ outcome r [] (leftReading samples marks journal used) none ≡ opening received (lent samples marks journal used) ⌝ }
+    ensures { λ r. ⌜ outcome r [] (leftReading samples marks journal used) none ≡ opening asReceived (lent samples marks journal used) ⌝ }
 {
     let answer = recording::open::open_received(samples, marks, journal, used);
     number_of(answer)

@@ -1,7 +1,7 @@
--- Tests: each holds or does not, what two that both hold say, and what holds of the one of two things that a test chooses.
+-- Tests: each holds or does not, what two say that both hold, or of which neither does, and what holds of the one of two things that a test chooses.
 -- Assumes nothing.
 use mathlib.Core.Path.{_≡_, refl, sym}
-use mathlib.Core.Bool.{Bool, true, false, true≢false, _&&_}
+use mathlib.Core.Bool.{Bool, true, false, true≢false, _&&_, _||_}
 use mathlib.Core.Logic.{_⊎_, inl, inr}
 use Rattle.leaves.specs.Choice.{if_then_else_}
 
@@ -18,6 +18,11 @@ pub both-hold : (a b : Bool) → a && b ≡ true → (a ≡ true) × (b ≡ true
 both-hold true true h = (refl, refl)
 both-hold true false h = absurd (true≢false (sym h))
 both-hold false b h = absurd (true≢false (sym h))
+
+-- two tests of which neither holds
+pub neither : (a b : Bool) → a || b ≡ false → (a ≡ false) × (b ≡ false)
+neither true b h = absurd (true≢false h)
+neither false b h = (refl, h)
 
 -- what holds of both of two things holds of the one that a test chooses
 pub picks : {A : Type 0} (P : A → Type 0) (b : Bool) (x y : A) → P x → P y → P (if b then x else y)

@@ -1,7 +1,7 @@
 -- Undo: the saved samples of an entry, tested and given back one at a time, and one law for each way out of the tests
 -- and of the call. Assumes nothing.
 use mathlib.Core.Path.{_≡_, refl, sym, ap, _∙_, subst}
-use mathlib.Core.Bool.{Bool, true, false, not, _||_, or-assoc, true≢false}
+use mathlib.Core.Bool.{Bool, true, false, not, _||_, or-assoc}
 use mathlib.Core.List.{List, [], _∷_}
 use Prim.Native.Nat.{ℕ, zero, suc, _+_, _-_, _*_, _≤_, _<_}
 use native.Mathlib.Omega.{arith}
@@ -11,6 +11,7 @@ use lib.ListN.{length, getD, set, length-set, replicate}
 use lib.Seq.{sets}
 use lib.Dec.{leb, ltb, eqb, leb·suc-zero, leb·suc-suc}
 use borrow.Author.Tests.{lt-ltb, le-ltb, le-leb, lt-leb, eq-eqb, ne-eqb, ltb-false, leb-false}
+use Rattle.leaves.proofs.Choice.{neither}
 use Rattle.recording.specs.Recording.{State, state, ended, refused}
 use Rattle.recording.specs.Recording.{fitting}
 use Rattle.recording.specs.Recording.{Saved, savedAt, placePast, notRising, markPast, put, oldWords, oldMarks}
@@ -133,11 +134,6 @@ module _ (journal : List ℕ) (begin m i n least place : ℕ) (whole : Bool) (mo
       none-wrong h = rw (le-ltb place least rises, lt-leb n place within, le-ltb 255 _ h) at opened
 
 -- ---- saved samples given back
-
--- Where neither of two tests found anything, each found nothing.
-neither : (a b : Bool) → a || b ≡ false → (a ≡ false) × (b ≡ false)
-neither true b h = absurd (true≢false h)
-neither false b h = (refl, h)
 
 -- The next sample's place is within the recording, and so are those after it.
 past-first : (n : ℕ) (journal : List ℕ) (begin m i : ℕ) → i < m → placePast n (leftAt journal begin m i) ≡ false
