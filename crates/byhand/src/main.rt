@@ -1,6 +1,6 @@
 // Runs rows of document 01's "Sums done by hand" on the compiled code and writes what each leaves: the
 // number and the value of the answer and used, then samples and journal in hexadecimal digits and the
-// marks in decimal ones.
+// marks and the counts of the blocks in decimal ones.
 ghost use Prim.Native.Nat.{_≤_};
 ghost use lib.ListN.{length};
 use inpaint::gap::inpaint_gap;
@@ -20,6 +20,8 @@ const LAST: u32 = 0x4580_0000;
 
 // What stands in lent memory that nobody has written yet.
 const LEFT: u32 = 0xdead_beef;
+
+const LEFT_COUNT: u16 = 0xbeef;
 
 // Doubles of workspace: enough for a gap of 2048 samples, whatever its window.
 const WORKSPACE: usize = 289_284;
@@ -53,6 +55,17 @@ fn print_marks(marks: &[u8]) {
     io::write_all(1, b"\n");
 }
 
+// Writes the counts of the blocks as a line.
+fn print_counts(counts: &[u16]) {
+    io::write_all(1, b"  counts");
+    let mut i: usize = 0;
+    while i < counts.len() {
+        print_number(b" ", counts[i] as u64);
+        i += 1;
+    }
+    io::write_all(1, b"\n");
+}
+
 // Writes how a call ended.
 fn print_answer(title: &[u8], answer: Answer, used: usize) {
     io::write_all(1, title);
@@ -63,10 +76,19 @@ fn print_answer(title: &[u8], answer: Answer, used: usize) {
 }
 
 // Writes how a call ended, and the recording after it.
-fn show(title: &[u8], answer: Answer, samples: &[u32], marks: &[u8], journal: &[u32], used: usize) {
+fn show(
+    title: &[u8],
+    answer: Answer,
+    samples: &[u32],
+    marks: &[u8],
+    counts: &[u16],
+    journal: &[u32],
+    used: usize,
+) {
     print_answer(title, answer, used);
     print_words(b"  samples", samples, 8);
     print_marks(marks);
+    print_counts(counts);
     print_words(b"  journal", journal, 1);
 }
 
@@ -75,32 +97,41 @@ fn gap_at_2(
     title: &[u8],
     samples: &mut [u32],
     marks: &mut [u8],
+    counts: &mut [u16],
     journal: &mut [u32],
     used: &mut usize,
     len: usize,
 ) {
     let mut work = [1.5f64; 300];
-    let answer = inpaint_gap(samples, marks, journal, used, 2, len, 3, &mut work);
-    show(title, answer, samples, marks, journal, *used);
+    let answer = inpaint_gap(samples, marks, counts, journal, used, 2, len, 3, &mut work);
+    show(title, answer, samples, marks, counts, journal, *used);
 }
 
 // Takes the last entry back and shows the recording.
-fn take_back(samples: &mut [u32], marks: &mut [u8], journal: &mut [u32], used: &mut usize) {
-    let answer = undo(samples, marks, journal, used);
-    show(b"undo", answer, samples, marks, journal, *used);
+fn take_back(
+    samples: &mut [u32],
+    marks: &mut [u8],
+    counts: &mut [u16],
+    journal: &mut [u32],
+    used: &mut usize,
+) {
+    let answer = undo(samples, marks, counts, journal, used);
+    show(b"undo", answer, samples, marks, counts, journal, *used);
 }
 
 // *Quiet*, opened over what was left in the lent memory, repaired and taken back twice.
 fn quiet(journal: &mut [u32]) {
     let mut samples = [SOFT, SOFT, 0, 0, SOFT, SOFT];
     let mut marks = [7u8; 6];
+    let mut counts = [LEFT_COUNT; 1];
     let mut used: usize = 99;
-    let opened = open(&samples, &mut marks, journal, &mut used);
-    show(b"open", opened, &samples, &marks, journal, used);
+    let opened = open(&samples, &mut marks, &mut counts, journal, &mut used);
+    show(b"open", opened, &samples, &marks, &counts, journal, used);
     gap_at_2(
         b"gap of length 0",
         &mut samples,
         &mut marks,
+        &mut counts,
         journal,
         &mut used,
         0,
@@ -109,31 +140,42 @@ fn quiet(journal: &mut [u32]) {
         b"gap of length 2",
         &mut samples,
         &mut marks,
+        &mut counts,
         journal,
         &mut used,
         2,
     );
-    take_back(&mut samples, &mut marks, journal, &mut used);
-    take_back(&mut samples, &mut marks, journal, &mut used);
+    take_back(&mut samples, &mut marks, &mut counts, journal, &mut used);
+    take_back(&mut samples, &mut marks, &mut counts, journal, &mut used);
 }
 
 // 9 samples of which only place 4 is 1, decrackled at sensitivity 10.
 fn crackle() {
     let mut samples = [0u32, 0, 0, 0, ONE, 0, 0, 0, 0];
     let mut marks = [7u8; 9];
+    let mut counts = [LEFT_COUNT; 1];
     let mut journal = [LEFT; 12];
     let mut used: usize = 99;
     let mut work = [LEFT; 20];
-    open(&samples, &mut marks, &mut journal, &mut used);
+    open(&samples, &mut marks, &mut counts, &mut journal, &mut used);
     let answer = decrackle::decrackle(
         &mut samples,
         &mut marks,
+        &mut counts,
         &mut journal,
         &mut used,
         10.0,
         &mut work,
     );
-    show(b"decrackle at 10", answer, &samples, &marks, &journal, used);
+    show(
+        b"decrackle at 10",
+        answer,
+        &samples,
+        &marks,
+        &counts,
+        &journal,
+        used,
+    );
     print_words(b"  workspace", &work, 1);
 }
 
@@ -171,13 +213,15 @@ fn marked(marks: &[u8], mark: u8) -> usize {
 fn line(journal: &mut [u32], work: &mut [f64]) {
     let mut samples = [ONE; 4097];
     let mut marks = [0u8; 4097];
+    let mut counts = [LEFT_COUNT; 17];
     let mut used: usize = 0;
     samples[0] = 0;
     samples[4096] = LAST;
-    open(&samples, &mut marks, journal, &mut used);
+    open(&samples, &mut marks, &mut counts, journal, &mut used);
     let answer = inpaint_gap(
         &mut samples,
         &mut marks,
+        &mut counts,
         journal,
         &mut used,
         1,
@@ -192,17 +236,20 @@ fn line(journal: &mut [u32], work: &mut [f64]) {
     );
     print_number(b"\n  samples marked 2: ", marked(&marks, 2) as u64);
     io::write_all(1, b"\n");
+    print_counts(&counts);
 }
 
 // A gap of `len` samples among ones: by which way it was filled.
 fn boundary(title: &[u8], journal: &mut [u32], work: &mut [f64], len: usize) {
     let mut samples = [ONE; 2052];
     let mut marks = [0u8; 2052];
+    let mut counts = [LEFT_COUNT; 9];
     let mut used: usize = 0;
-    open(&samples, &mut marks, journal, &mut used);
+    open(&samples, &mut marks, &mut counts, journal, &mut used);
     let answer = inpaint_gap(
         &mut samples,
         &mut marks,
+        &mut counts,
         journal,
         &mut used,
         1,
@@ -214,6 +261,7 @@ fn boundary(title: &[u8], journal: &mut [u32], work: &mut [f64], len: usize) {
     print_number(b"  samples marked 1: ", marked(&marks, 1) as u64);
     print_number(b"\n  samples marked 2: ", marked(&marks, 2) as u64);
     io::write_all(1, b"\n");
+    print_counts(&counts);
 }
 
 // The long gaps, in a journal and a workspace that suffice for each.

@@ -466,6 +466,18 @@ not-received-is-raw raw cs o i h =
     let same = unmade-is-raw raw cs o i (rw h) in
     (same .0, sym (same .1) ∙ h)
 
+pub counts-are-worked-out : CountsAreWorkedOut
+counts-are-worked-out = opened-any (λ raw cs end. end .counts ≡ blocks.counted (end .marks)) history.counts-are-worked-out
+
+pub answer-is-each-mark : AnswerIsEachMark
+answer-is-each-mark raw cs o start len h =
+    rw (counts-are-worked-out raw cs o) (asking.answer-is-each-mark (after cs raw .marks) start len h)
+
+pub yes-is-raw : YesIsRaw
+yes-is-raw raw cs o start len yes i low high =
+    let mark = asking.yes-exactly-when (after cs raw .marks) start len .0 (rw (counts-are-worked-out raw cs o) at yes) i low high in
+    (measured-is-raw raw cs o i mark, measured-was-received raw cs o i mark)
+
 pub entries-are-survivors : EntriesAreSurvivors
 entries-are-survivors =
     opened-any

@@ -15,11 +15,13 @@ use Rattle.leaves.specs.Floats.{inRange}
 use Rattle.leaves.proofs.Choice.{EitherWay, truth}
 use Rattle.leaves.proofs.Numbers.{lt-or-ge}
 use Rattle.recording.specs.Answers.{number}
-use Rattle.recording.specs.Recording.{State, Ended, Placed, Plan, change, picked, differ, tooMany, overUsed, alike, fitting, openedWith}
+use Rattle.recording.specs.Recording.{State, Ended, Placed, Plan, change, picked, differ, countsWrong, tooMany, overUsed, orElse, alike}
+use Rattle.recording.specs.Recording.{fitting, blank, openedWith}
 use Rattle.recording.specs.Recording.{unlessRead, unlessRefused, readable, ranged, entrySize, entered, carried, performed, called}
 use Rattle.recording.specs.Recording.{ended, refused, lastCount, malformed, takenBack, undone}
 use Rattle.recording.specs.Consequences.{Among}
-use Rattle.recording.specs.declared.Reason.the-variants.{Read, Result, Nothing, Malformed}
+use Rattle.recording.proofs.open.Laws.{alike-by, fitting-by}
+use Rattle.recording.specs.declared.Reason.the-variants.{Setting, Read, Result, Nothing, Malformed}
 use Rattle.recording.specs.declared.Answer.{Answer}
 use Rattle.recording.specs.declared.Answer.the-variants.{Done, Refused}
 use Rattle.inpaint.specs.Gap.{gapWrong, byLine, from, needed, knownBefore, knownBehind, allReadable, repaired, gapPlan, gapRepair}
@@ -86,20 +88,15 @@ ranged-by (c ∷ cs) =
 
 -- ---- The number of a rule, line by line
 
--- lines 1 to 3, and else k
+-- lines 1, 14, 2 and 3, and else k
 abbrev pub sized : State → ℕ → ℕ
-sized s k = if differ s then 1 else if tooMany s then 2 else if overUsed s then 3 else k
+sized s k = if differ s then 1 else if countsWrong s then 14 else if tooMany s then 2 else if overUsed s then 3 else k
 
 pub unless-number : (s : State) (e : Ended) → number (unlessRefused (fitting s) s e .answer) ≡ sized s (number (e .answer))
-unfolding fitting alike
-unless-number s e = go (truth (differ s)) (truth (tooMany s)) (truth (overUsed s))
-  where
-    go : EitherWay (differ s) → EitherWay (tooMany s) → EitherWay (overUsed s)
-        → number (unlessRefused (fitting s) s e .answer) ≡ sized s (number (e .answer))
-    go (inl a) b c = rw a refl
-    go (inr a) (inl b) c = rw (a, b) refl
-    go (inr a) (inr b) (inl c) = rw (a, b, c) refl
-    go (inr a) (inr b) (inr c) = rw (a, b, c) refl
+unless-number s e =
+    fitting-by (λ (a : Answer). number (unlessRefused a s e .answer) ≡ sized s (number (e .answer))) s (λ one. rw one refl)
+    (λ one fourteen. rw (one, fourteen) refl) (λ one fourteen two. rw (one, fourteen, two) refl)
+    (λ one fourteen two three. rw (one, fourteen, two, three) refl) (λ one fourteen two three. rw (one, fourteen, two, three) refl)
 
 -- lines 8 and 9
 abbrev finished : State → List Placed → ℕ
@@ -245,30 +242,34 @@ undo-number s =
     go (inr a) (inl b) = rw (a, b) refl
     go (inr a) (inr b) = rw (a, b) refl
 
--- lines 1 to 4 of a scan
+-- lines 1, 14 and 2 to 4 of a scan
 pub scan-number : (rate : ℕ) (millis : Float) (s : State)
     → number (auto.scannable rate millis s) ≡ sized s (if not (auto.allowed rate millis) then 4 else 0)
-unfolding auto.scannable fitting alike
-scan-number rate millis s = go (truth (differ s)) (truth (tooMany s)) (truth (overUsed s)) (truth (auto.allowed rate millis))
+unfolding auto.scannable
+scan-number rate millis s =
+    fitting-by (λ (a : Answer). number (orElse a rest) ≡ sized s (if not (auto.allowed rate millis) then 4 else 0)) s (λ one. rw one refl)
+    (λ one fourteen. rw (one, fourteen) refl) (λ one fourteen two. rw (one, fourteen, two) refl)
+    (λ one fourteen two three. rw (one, fourteen, two, three) refl)
+    (λ one fourteen two three. rw (one, fourteen, two, three) (settings (truth (auto.allowed rate millis))))
   where
-    go : EitherWay (differ s) → EitherWay (tooMany s) → EitherWay (overUsed s) → EitherWay (auto.allowed rate millis)
-        → number (auto.scannable rate millis s) ≡ sized s (if not (auto.allowed rate millis) then 4 else 0)
-    go (inl a) b c d = rw a refl
-    go (inr a) (inl b) c d = rw (a, b) refl
-    go (inr a) (inr b) (inl c) d = rw (a, b, c) refl
-    go (inr a) (inr b) (inr c) (inl d) = rw (a, b, c, d) refl
-    go (inr a) (inr b) (inr c) (inr d) = rw (a, b, c, d) refl
+    rest : Answer
+    rest = if auto.allowed rate millis then Done 0 else Refused Setting
 
--- lines 1 and 2 of an opening, whatever raw marks it sets
-pub opening-number : (marks : List ℕ) (s : State) → number (openedWith marks s .answer) ≡ (if differ s then 1 else if tooMany s then 2 else 0)
-unfolding openedWith alike
-opening-number marks s = go (truth (differ s)) (truth (tooMany s))
-  where
-    go : EitherWay (differ s) → EitherWay (tooMany s)
-        → number (openedWith marks s .answer) ≡ (if differ s then 1 else if tooMany s then 2 else 0)
-    go (inl a) b = rw a refl
-    go (inr a) (inl b) = rw (a, b) refl
-    go (inr a) (inr b) = rw (a, b) refl
+    settings : EitherWay (auto.allowed rate millis) → number rest ≡ (if not (auto.allowed rate millis) then 4 else 0)
+    settings (inl a) = rw a refl
+    settings (inr a) = rw a refl
+
+-- lines 1, 14 and 2 of an opening, whatever raw marks it sets
+pub opening-number : (marks : List ℕ) (s : State)
+    → number (openedWith marks s .answer) ≡ (if differ s then 1 else if countsWrong s then 14 else if tooMany s then 2 else 0)
+unfolding openedWith
+opening-number marks s =
+    alike-by
+    (λ (a : Answer).
+    number (unlessRefused a s (ended (Done 0) (blank marks s)) .answer)
+    ≡ (if differ s then 1 else if countsWrong s then 14 else if tooMany s then 2 else 0)) s
+    (λ one. rw one refl) (λ one fourteen. rw (one, fourteen) refl) (λ one fourteen two. rw (one, fourteen, two) refl)
+    (λ one fourteen two. rw (one, fourteen, two) refl)
 
 -- an opening that is turned away keeps all
 pub opened-keeps : (marks : List ℕ) (s : State) → 0 < number (openedWith marks s .answer) → openedWith marks s .after ≡ s

@@ -1,13 +1,14 @@
 -- Every call of the library on a recording, under one type, and what it ends in. What an exported function promises is the
--- equation between what it leaves and `ran` of its call, or `opening`; of the one that reads frames, `toldOf` what these deliver.
--- Definitions only.
+-- equation between what it leaves and `ran` of its call, or `opening`; of the one that reads frames, `toldOf` what these deliver, and of the
+-- one that asks whether a span was measured, `spanToldOf` the verdict. Definitions only.
 use Prim.Native.Nat.{ℕ}
 use mathlib.Core.List.{List, [], _∷_}
 use lib.ListN.{length}
 use lib.Ieee.{Float}
 use Rattle.leaves.specs.Arithmetic.{nought}
-use Rattle.recording.specs.Answers.{number, value}
+use Rattle.recording.specs.Answers.{number, value, verdictNumber, verdictYes}
 use Rattle.recording.specs.Recording.{State, Ended, opened, openedReceived, undone, workAfter}
+use Rattle.recording.specs.declared.Verdict.{Verdict}
 use Rattle.inpaint.specs.Gap.{needed, gapRepair}
 use Rattle.inpaint.specs.Auto.{automatic}
 use Rattle.redraw.specs.Whole as whole
@@ -93,3 +94,14 @@ framesTold k figures samples marks = record { number = k; figures = figures; sam
 
 abbrev pub toldOf : Delivered → FramesTold
 toldOf d = framesTold (number (d .answer)) (value (d .answer) ∷ d .missing ∷ d .dropped ∷ []) (d .samples) (d .marks)
+
+-- the span question, which changes nothing, leaves its number and its yes
+pub record SpanTold : Type 0 where
+  pub number : ℕ
+  pub yes : ℕ
+
+abbrev pub spanTold : ℕ → ℕ → SpanTold
+spanTold k yes = record { number = k; yes = yes }
+
+abbrev pub spanToldOf : Verdict → SpanTold
+spanToldOf v = spanTold (verdictNumber v) (verdictYes v)

@@ -1,6 +1,6 @@
 -- The three demands, of the calls of this library (Calls.antt): each in its words, and then as statements. They are proved as
 -- theorems of the same names, written small, in proofs/Demands.antt, which nobody has to read.
-use Prim.Native.Nat.{ℕ, _≤_, _<_}
+use Prim.Native.Nat.{ℕ, _+_, _≤_, _<_}
 use mathlib.Core.Path.{_≡_}
 use mathlib.Core.List.{List, [], _∷_, _++_, reverse}
 use mathlib.Core.Logic.{_⊎_}
@@ -10,9 +10,13 @@ use lib.Ieee.{Float}
 use Rattle.leaves.specs.Choice.{if_then_else_}
 use Rattle.recording.specs.Recording.{State, Placed, change}
 use Rattle.recording.specs.Marks.{measured, notReceived}
+use Rattle.recording.specs.Counts as blocks
+use Rattle.recording.specs.Question.{marksSay, asked}
 use Rattle.recording.specs.History as single
 use Rattle.recording.specs.Consequences.{Among, MadeOf, AllName, closings, returned}
 use Rattle.recording.specs.declared.Answer.the-variants.{Done, Refused}
+use Rattle.recording.specs.declared.Verdict.{Verdict}
+use Rattle.recording.specs.declared.Verdict.the-variants.{Yes, No}
 use Rattle.inpaint.specs.Gap.{gapPlan}
 use Rattle.inpaint.specs.Auto.{scannable}
 use Rattle.inpaint.specs.Runs.{scanCalls, runAnswers, firstRefusal}
@@ -176,6 +180,35 @@ NotReceivedIsRaw =
     (i : ℕ)
     → getD (after cs raw .marks) i 0 ≡ notReceived
     → (getD (after cs raw .samples) i 0 ≡ getD (raw .samples) i 0) × (getD (raw .marks) i 0 ≡ notReceived))
+
+-- ---- Was this second measured? (request P5)
+
+-- "Demand 3 covers the counts": they are a part of the recording, in `Demand3` above; and they "equal those worked out from the marks"
+abbrev pub CountsAreWorkedOut : Type 0
+CountsAreWorkedOut = AfterAny (λ raw cs. after cs raw .counts ≡ blocks.counted (after cs raw .marks))
+
+-- what the question answers of a recording as it is after these calls, "only our calls wrote" its marks and counts
+abbrev pub measuredThroughout : State → ℕ → ℕ → Verdict
+measuredThroughout s start len = asked (s .marks) (s .counts) start len
+
+-- "its answer must equal looking at each mark": of a span within the recording
+abbrev pub AnswerIsEachMark : Type 0
+AnswerIsEachMark =
+    AfterAny
+    (λ raw cs.
+    let s = after cs raw in
+    (start len : ℕ) → start + len ≤ length (s .marks) → measuredThroughout s start len ≡ (if marksSay (s .marks) start len then Yes else No))
+
+-- so a yes means that every sample of the span has the word that was recorded, and was received
+abbrev pub YesIsRaw : Type 0
+YesIsRaw =
+    AfterAny
+    (λ raw cs.
+    let s = after cs raw in
+    (start len : ℕ) → measuredThroughout s start len ≡ Yes
+    → (i : ℕ) → start ≤ i → i < start + len → (getD (s .samples) i 0 ≡ getD (raw .samples) i 0) × (getD (raw .marks) i 0 ≡ measured))
+
+-- ---- The journal
 
 -- the journal's m and mark, entry by entry, the last first, are those that the survivors returned and set
 abbrev pub EntriesAreSurvivors : Type 0

@@ -1,5 +1,6 @@
--- "What is turned away": document 01's table, a definition for each line, whose words the comments quote. (Refusal 12 is none of them: it is
--- that of the reader of frames, which is no call on a recording, and stands with its rule in the crate `frames`.) A line says of what a call asks
+-- "What is turned away": document 01's table and request P5's line 14, a definition for each line, whose words the comments quote. (Refusal 12
+-- is none of them: it is that of the reader of frames, which is no call on a recording, and stands with its rule in the crate `frames`. So do
+-- the two refusals of the span question, in the crate `recording`.) A line says of what a call asks
 -- for, and of the recording that it finds, whether it applies, whatever the other lines say. "The lowest number that applies is the
 -- answer": a call tests the lines in the order of `tested`, and answers with the first that applies. That each call does so is
 -- `GivenExactlyWhen` of Demands.antt. Definitions only.
@@ -10,7 +11,8 @@ use lib.ListN.{length}
 use lib.Dec.{leb, ltb, eqb}
 use Rattle.leaves.specs.Choice.{if_then_else_}
 use Rattle.leaves.specs.Floats.{inRange}
-use Rattle.recording.specs.Recording.{State, Placed, Plan, refuse, change, picked, entrySize, differ, tooMany, overUsed, malformed}
+use Rattle.recording.specs.Recording.{State, Placed, Plan, refuse, change, picked, entrySize, differ, countsWrong, tooMany, overUsed}
+use Rattle.recording.specs.Recording.{malformed}
 use Rattle.inpaint.specs.Gap as gaps
 use Rattle.inpaint.specs.Auto as auto
 use Rattle.redraw.specs.Whole as whole
@@ -86,6 +88,10 @@ asked undo s = plain true true
 abbrev pub line1 : State → Bool
 line1 s = differ s
 
+-- 14: "wrong number of counts"
+abbrev pub line14 : State → Bool
+line14 s = countsWrong s
+
 -- 2: "more than 1,048,576 samples"
 abbrev pub line2 : State → Bool
 line2 s = tooMany s
@@ -152,6 +158,7 @@ applies a s k =
     if eqb k 9 then line9 a s else
     if eqb k 10 then line10 a s else
     if eqb k 11 then line11 a s else
+    if eqb k 14 then line14 s else
     false
 
 -- ---- The answer
@@ -161,13 +168,13 @@ unfoldable pub first : (ℕ → Bool) → List ℕ → ℕ
 first applies [] = 0
 first applies (k ∷ ks) = let later = first applies ks in if applies k then k else later
 
--- the order in which the lines are tested
+-- the order in which the lines are tested: 14 "after 1"
 abbrev pub tested : List ℕ
-tested = 1 ∷ 2 ∷ 3 ∷ 4 ∷ 5 ∷ 6 ∷ 7 ∷ 8 ∷ 9 ∷ 10 ∷ 11 ∷ []
+tested = 1 ∷ 14 ∷ 2 ∷ 3 ∷ 4 ∷ 5 ∷ 6 ∷ 7 ∷ 8 ∷ 9 ∷ 10 ∷ 11 ∷ []
 
--- "It gives refusals 1 and 2 only": opening tests these
+-- "It gives refusals 1 and 2 only", and 14 "given by opening and undo too": opening tests these
 abbrev pub testedByOpening : List ℕ
-testedByOpening = 1 ∷ 2 ∷ []
+testedByOpening = 1 ∷ 14 ∷ 2 ∷ []
 
 -- the number by which a call is turned away, or 0
 unfoldable pub turnedAway : Call → State → ℕ
@@ -181,12 +188,12 @@ openingTurnedAway s = first (applies (plain true false) s) testedByOpening
 
 -- ---- Which numbers a call can give at all
 
--- "Undo can give 1, 2, 3, 10, 11."; each run of a scan has "its own answer from 6 to 9"
+-- "Undo can give 1, 2, 3, 10, 11.", and 14; each run of a scan has "its own answer from 6 to 9"
 abbrev pub canGive : Call → List ℕ
-canGive (gap start len passes work) = 1 ∷ 2 ∷ 3 ∷ 5 ∷ 6 ∷ 7 ∷ 8 ∷ 9 ∷ []
-canGive (scan rate millis work) = 1 ∷ 2 ∷ 3 ∷ 4 ∷ 6 ∷ 7 ∷ 8 ∷ 9 ∷ []
-canGive (declip threshold work) = 1 ∷ 2 ∷ 3 ∷ 4 ∷ 6 ∷ 7 ∷ 8 ∷ 9 ∷ []
-canGive (decrackle sensitivity work) = 1 ∷ 2 ∷ 3 ∷ 4 ∷ 6 ∷ 7 ∷ 8 ∷ 9 ∷ []
-canGive (dequantize bits strength work) = 1 ∷ 2 ∷ 3 ∷ 4 ∷ 6 ∷ 7 ∷ 8 ∷ 9 ∷ []
-canGive (cosparse bits strength iterations work) = 1 ∷ 2 ∷ 3 ∷ 4 ∷ 6 ∷ 7 ∷ 8 ∷ 9 ∷ []
-canGive undo = 1 ∷ 2 ∷ 3 ∷ 10 ∷ 11 ∷ []
+canGive (gap start len passes work) = 1 ∷ 14 ∷ 2 ∷ 3 ∷ 5 ∷ 6 ∷ 7 ∷ 8 ∷ 9 ∷ []
+canGive (scan rate millis work) = 1 ∷ 14 ∷ 2 ∷ 3 ∷ 4 ∷ 6 ∷ 7 ∷ 8 ∷ 9 ∷ []
+canGive (declip threshold work) = 1 ∷ 14 ∷ 2 ∷ 3 ∷ 4 ∷ 6 ∷ 7 ∷ 8 ∷ 9 ∷ []
+canGive (decrackle sensitivity work) = 1 ∷ 14 ∷ 2 ∷ 3 ∷ 4 ∷ 6 ∷ 7 ∷ 8 ∷ 9 ∷ []
+canGive (dequantize bits strength work) = 1 ∷ 14 ∷ 2 ∷ 3 ∷ 4 ∷ 6 ∷ 7 ∷ 8 ∷ 9 ∷ []
+canGive (cosparse bits strength iterations work) = 1 ∷ 14 ∷ 2 ∷ 3 ∷ 4 ∷ 6 ∷ 7 ∷ 8 ∷ 9 ∷ []
+canGive undo = 1 ∷ 14 ∷ 2 ∷ 3 ∷ 10 ∷ 11 ∷ []

@@ -42,12 +42,12 @@ m /2^ k = fin false m (minus 0 k)
 
 -- ---- Calls: everything that they leave
 
--- number, value and used; samples; marks; journal
-abbrev pub leaving : ℕ → ℕ → ℕ → List ℕ → List ℕ → List ℕ → List (List ℕ)
-leaving number value used samples marks journal = (number ∷ value ∷ used ∷ []) ∷ samples ∷ marks ∷ journal ∷ []
+-- number, value and used; samples; marks; the count of their one block; journal
+abbrev pub leaving : ℕ → ℕ → ℕ → List ℕ → List ℕ → ℕ → List ℕ → List (List ℕ)
+leaving number value used samples marks count journal = (number ∷ value ∷ used ∷ []) ∷ samples ∷ marks ∷ (count ∷ []) ∷ journal ∷ []
 
 unfoldable pub shown : Ended → List (List ℕ)
-shown e = let s = e .after in leaving (number (e .answer)) (value (e .answer)) (s .used) (s .samples) (s .marks) (s .journal)
+shown e = let s = e .after in (number (e .answer) ∷ value (e .answer) ∷ s .used ∷ []) ∷ s .samples ∷ s .marks ∷ s .counts ∷ s .journal ∷ []
 
 -- so many parts of d each, as words
 unfoldable pub partsOf : ℕ → List ℕ → List ℕ
@@ -104,35 +104,35 @@ table =
     ∷ record {
       given = shown repaired;
       should =
-          leaving 0 2 8 (0x30800000 ∷ 0x30800000 ∷ 0x80000000 ∷ 0 ∷ 0x30800000 ∷ 0x30800000 ∷ []) (0 ∷ 0 ∷ 1 ∷ 1 ∷ 0 ∷ 0 ∷ [])
+          leaving 0 2 8 (0x30800000 ∷ 0x30800000 ∷ 0x80000000 ∷ 0 ∷ 0x30800000 ∷ 0x30800000 ∷ []) (0 ∷ 0 ∷ 1 ∷ 1 ∷ 0 ∷ 0 ∷ []) 2
           (2 ∷ 0 ∷ 0 ∷ 3 ∷ 0 ∷ 0 ∷ 2 ∷ 1 ∷ []);
     }
     -- *quiet* then undo: raw words, marks 0, used 0, journal 0
-    ∷ record { given = shown back; should = leaving 0 2 0 quiet (replicate 6 0) (replicate 8 0) }
+    ∷ record { given = shown back; should = leaving 0 2 0 quiet (replicate 6 0) 0 (replicate 8 0) }
     -- a further undo: 10
-    ∷ record { given = shown (undone (back .after)); should = leaving 10 0 0 quiet (replicate 6 0) (replicate 8 0) }
+    ∷ record { given = shown (undone (back .after)); should = leaving 10 0 0 quiet (replicate 6 0) 0 (replicate 8 0) }
     -- *quiet*, journal of 7 words: 9
-    ∷ record { given = shown (quietGap 2 7); should = leaving 9 0 0 quiet (replicate 6 0) (replicate 7 0) }
+    ∷ record { given = shown (quietGap 2 7); should = leaving 9 0 0 quiet (replicate 6 0) 0 (replicate 7 0) }
     -- gap length 0: 5
-    ∷ record { given = shown (quietGap 0 8); should = leaving 5 0 0 quiet (replicate 6 0) (replicate 8 0) }
+    ∷ record { given = shown (quietGap 0 8); should = leaving 5 0 0 quiet (replicate 6 0) 0 (replicate 8 0) }
     -- 5 samples 0,0,0.125,0,0, `dequantize`, bits 4, strength 1: 0, 0.0625, 0.0625, 0.03125, 0. The word of 0.125 is 3e000000.
     ∷ record {
       given = shown (dequantizeRepair 4 one 10 (recorded spike 11));
       should =
-          leaving 0 3 11 (partsOf 32 (0 ∷ 2 ∷ 2 ∷ 1 ∷ 0 ∷ [])) (0 ∷ 5 ∷ 5 ∷ 5 ∷ 0 ∷ [])
+          leaving 0 3 11 (partsOf 32 (0 ∷ 2 ∷ 2 ∷ 1 ∷ 0 ∷ [])) (0 ∷ 5 ∷ 5 ∷ 5 ∷ 0 ∷ []) 3
           (1 ∷ 0 ∷ 0 ∷ 2 ∷ 0x3e000000 ∷ 0 ∷ 3 ∷ 0 ∷ 0 ∷ 3 ∷ 5 ∷ []);
     }
     -- 9 samples, the fifth 1, the last 0.5, others 0, threshold 1: places 1..7 become 22, 80, 162, 256, 350, 432, 490 over 1024
     ∷ record {
       given = shown (declipRepair one 18 (recorded oneClipped 23));
       should =
-          leaving 0 7 23 (partsOf 1024 (0 ∷ 22 ∷ 80 ∷ 162 ∷ 256 ∷ 350 ∷ 432 ∷ 490 ∷ 512 ∷ [])) (0 ∷ 3 ∷ 3 ∷ 3 ∷ 3 ∷ 3 ∷ 3 ∷ 3 ∷ 0 ∷ [])
+          leaving 0 7 23 (partsOf 1024 (0 ∷ 22 ∷ 80 ∷ 162 ∷ 256 ∷ 350 ∷ 432 ∷ 490 ∷ 512 ∷ [])) (0 ∷ 3 ∷ 3 ∷ 3 ∷ 3 ∷ 3 ∷ 3 ∷ 3 ∷ 0 ∷ []) 7
           (1 ∷ 0 ∷ 0 ∷ 2 ∷ 0 ∷ 0 ∷ 3 ∷ 0 ∷ 0 ∷ 4 ∷ 0x3f800000 ∷ 0 ∷ 5 ∷ 0 ∷ 0 ∷ 6 ∷ 0 ∷ 0 ∷ 7 ∷ 0 ∷ 0 ∷ 7 ∷ 3 ∷ []);
     }
     -- 4 samples, only place 1 clipped: nothing named
     ∷ record {
       given = shown (declipRepair one 8 (recorded fourSamples 14));
-      should = leaving 0 0 0 fourSamples (replicate 4 0) (replicate 14 0);
+      should = leaving 0 0 0 fourSamples (replicate 4 0) 0 (replicate 14 0);
     }
     ∷ []
 

@@ -7,39 +7,45 @@ ghost use Rattle.leaves.specs.Floats.{narrowed, rounded};
 ghost use Rattle.leaves.specs.Root.{Rooted};
 ghost use Rattle.cathar.specs.Calls.{gap, scan, declip, decrackle, dequantize, cosparse, undo};
 ghost use Rattle.cathar.specs.Calls.{none, doubles, words, outcome, ran};
-ghost use Rattle.cathar.specs.Calls.{asMeasured, asReceived, opening, framesTold, toldOf};
+ghost use Rattle.cathar.specs.Calls.{asMeasured, asReceived, opening, framesTold, toldOf, spanTold, spanToldOf};
 ghost use Rattle.frames.specs.Frames.{framesRead};
 ghost use Rattle.recording.specs.Lent.{left, lent, leftReading};
+ghost use Rattle.recording.specs.Question.{asked};
 use recording::numbers::number_of;
 use recording::numbers::value_of;
+use recording::numbers::verdict_number;
+use recording::numbers::verdict_yes;
 
-// Opens a recording: all marks and all journal words become 0, and used too. The number of the refusal,
-// 1 or 2, or 0.
+// Opens a recording: all marks, all counts and all journal words become 0, and used too. The number of the
+// refusal, 1, 14 or 2, or 0.
 #[no_mangle]
 pub extern "C" fn cathar_open(
     samples: &[u32],
     marks: &mut [u8],
+    counts: &mut [u16],
     journal: &mut [u32],
     used: &mut usize,
 ) -> u32
-    ensures { λ r. ⌜ outcome r [] (leftReading samples marks journal used) none ≡ opening asMeasured (lent samples marks journal used) ⌝ }
+    ensures { λ r. ⌜ outcome r [] (leftReading samples marks counts journal used) none ≡ opening asMeasured (lent samples marks counts journal used) ⌝ }
 {
-    let answer = recording::open::open(samples, marks, journal, used);
+    let answer = recording::open::open(samples, marks, counts, journal, used);
     number_of(answer)
 }
 
 // Opens a recording as the bus's frames left it: mark 6, not received, stays where it stands, and every
-// other mark becomes 0. Journal, used and the answer as of `cathar_open`.
+// other mark becomes 0; each count becomes the number of marks of its block that stay. Journal, used and the
+// answer as of `cathar_open`.
 #[no_mangle]
 pub extern "C" fn cathar_open_received(
     samples: &[u32],
     marks: &mut [u8],
+    counts: &mut [u16],
     journal: &mut [u32],
     used: &mut usize,
 ) -> u32
-    ensures { λ r. ⌜ outcome r [] (leftReading samples marks journal used) none ≡ opening asReceived (lent samples marks journal used) ⌝ }
+    ensures { λ r. ⌜ outcome r [] (leftReading samples marks counts journal used) none ≡ opening asReceived (lent samples marks counts journal used) ⌝ }
 {
-    let answer = recording::open::open_received(samples, marks, journal, used);
+    let answer = recording::open::open_received(samples, marks, counts, journal, used);
     number_of(answer)
 }
 
@@ -67,12 +73,13 @@ pub extern "C" fn cathar_read_frames(
 }
 
 // Repairs the gap of `len` samples from `start` on, by the model or, where it is longer than 2048, by
-// straight line. The number of the refusal, 1 to 3 or 5 to 9, or 0; value becomes len, the place for 7
+// straight line. The number of the refusal, 1 to 3, 5 to 9 or 14, or 0; value becomes len, the place for 7
 // and 8, and 0 for the other refusals. Every number of passes gives the same.
 #[no_mangle]
 pub extern "C" fn cathar_inpaint_gap(
     samples: &mut [u32],
     marks: &mut [u8],
+    counts: &mut [u16],
     journal: &mut [u32],
     used: &mut usize,
     start: usize,
@@ -81,21 +88,22 @@ pub extern "C" fn cathar_inpaint_gap(
     work: &mut [f64],
     value: &mut usize,
 ) -> u32
-    ensures { λ r. ⌜ outcome r (now (value .exit) ∷ []) (left samples marks journal used) (doubles (now (work .exit)))
-        ≡ ran (gap start len passes (now (work .entry))) (lent samples marks journal used) ⌝ }
+    ensures { λ r. ⌜ outcome r (now (value .exit) ∷ []) (left samples marks counts journal used) (doubles (now (work .exit)))
+        ≡ ran (gap start len passes (now (work .entry))) (lent samples marks counts journal used) ⌝ }
 {
-    let answer = inpaint::gap::inpaint_gap(samples, marks, journal, used, start, len, passes, work);
+    let answer = inpaint::gap::inpaint_gap(samples, marks, counts, journal, used, start, len, passes, work);
     *value = value_of(answer);
     number_of(answer)
 }
 
 // Finds the dropout runs of at most `millis` milliseconds and repairs each as one gap. The number of the
 // first refusal, or 0; qualified and repaired become the numbers of such runs, and 0 where the scan
-// itself is refused, with 1 to 4.
+// itself is refused, with 1 to 4 or 14.
 #[no_mangle]
 pub extern "C" fn cathar_inpaint_auto(
     samples: &mut [u32],
     marks: &mut [u8],
+    counts: &mut [u16],
     journal: &mut [u32],
     used: &mut usize,
     rate: u32,
@@ -104,32 +112,33 @@ pub extern "C" fn cathar_inpaint_auto(
     qualified: &mut usize,
     repaired: &mut usize,
 ) -> u32
-    ensures { λ r. ⌜ outcome r (now (qualified .exit) ∷ now (repaired .exit) ∷ []) (left samples marks journal used) (doubles (now (work .exit)))
-        ≡ ran (scan rate millis (now (work .entry))) (lent samples marks journal used) ⌝ }
+    ensures { λ r. ⌜ outcome r (now (qualified .exit) ∷ now (repaired .exit) ∷ []) (left samples marks counts journal used) (doubles (now (work .exit)))
+        ≡ ran (scan rate millis (now (work .entry))) (lent samples marks counts journal used) ⌝ }
 {
-    let scanned = inpaint::auto::inpaint_auto(samples, marks, journal, used, rate, millis, work);
+    let scanned = inpaint::auto::inpaint_auto(samples, marks, counts, journal, used, rate, millis, work);
     *qualified = scanned.qualified;
     *repaired = scanned.repaired;
     scanned.refused
 }
 
 // Bridges the runs of samples whose magnitude is at or above the threshold, shoulders included. The number
-// of the refusal, 1 to 4 or 6 to 9, or 0; value becomes the number of named samples, the place for 7 and 8,
+// of the refusal, 1 to 4, 6 to 9 or 14, or 0; value becomes the number of named samples, the place for 7 and 8,
 // and 0 for the other refusals.
 #[no_mangle]
 pub extern "C" fn cathar_declip(
     samples: &mut [u32],
     marks: &mut [u8],
+    counts: &mut [u16],
     journal: &mut [u32],
     used: &mut usize,
     threshold: f32,
     work: &mut [u32],
     value: &mut usize,
 ) -> u32
-    ensures { λ r. ⌜ outcome r (now (value .exit) ∷ []) (left samples marks journal used) (words (now (work .exit)))
-        ≡ ran (declip threshold (now (work .entry))) (lent samples marks journal used) ⌝ }
+    ensures { λ r. ⌜ outcome r (now (value .exit) ∷ []) (left samples marks counts journal used) (words (now (work .exit)))
+        ≡ ran (declip threshold (now (work .entry))) (lent samples marks counts journal used) ⌝ }
 {
-    let answer = declip::declip(samples, marks, journal, used, threshold, work);
+    let answer = declip::declip(samples, marks, counts, journal, used, threshold, work);
     *value = value_of(answer);
     number_of(answer)
 }
@@ -139,16 +148,17 @@ pub extern "C" fn cathar_declip(
 pub extern "C" fn cathar_decrackle(
     samples: &mut [u32],
     marks: &mut [u8],
+    counts: &mut [u16],
     journal: &mut [u32],
     used: &mut usize,
     sensitivity: f32,
     work: &mut [u32],
     value: &mut usize,
 ) -> u32
-    ensures { λ r. ⌜ outcome r (now (value .exit) ∷ []) (left samples marks journal used) (words (now (work .exit)))
-        ≡ ran (decrackle sensitivity (now (work .entry))) (lent samples marks journal used) ⌝ }
+    ensures { λ r. ⌜ outcome r (now (value .exit) ∷ []) (left samples marks counts journal used) (words (now (work .exit)))
+        ≡ ran (decrackle sensitivity (now (work .entry))) (lent samples marks counts journal used) ⌝ }
 {
-    let answer = decrackle::decrackle(samples, marks, journal, used, sensitivity, work);
+    let answer = decrackle::decrackle(samples, marks, counts, journal, used, sensitivity, work);
     *value = value_of(answer);
     number_of(answer)
 }
@@ -159,6 +169,7 @@ pub extern "C" fn cathar_decrackle(
 pub extern "C" fn cathar_dequantize(
     samples: &mut [u32],
     marks: &mut [u8],
+    counts: &mut [u16],
     journal: &mut [u32],
     used: &mut usize,
     bits: u32,
@@ -166,10 +177,10 @@ pub extern "C" fn cathar_dequantize(
     work: &mut [u32],
     value: &mut usize,
 ) -> u32
-    ensures { λ r. ⌜ outcome r (now (value .exit) ∷ []) (left samples marks journal used) (words (now (work .exit)))
-        ≡ ran (dequantize bits strength (now (work .entry))) (lent samples marks journal used) ⌝ }
+    ensures { λ r. ⌜ outcome r (now (value .exit) ∷ []) (left samples marks counts journal used) (words (now (work .exit)))
+        ≡ ran (dequantize bits strength (now (work .entry))) (lent samples marks counts journal used) ⌝ }
 {
-    let answer = dequant::passes::dequantize(samples, marks, journal, used, bits, strength, work);
+    let answer = dequant::passes::dequantize(samples, marks, counts, journal, used, bits, strength, work);
     *value = value_of(answer);
     number_of(answer)
 }
@@ -180,6 +191,7 @@ pub extern "C" fn cathar_dequantize(
 pub extern "C" fn cathar_dequantize_cosparse(
     samples: &mut [u32],
     marks: &mut [u8],
+    counts: &mut [u16],
     journal: &mut [u32],
     used: &mut usize,
     bits: u32,
@@ -188,12 +200,13 @@ pub extern "C" fn cathar_dequantize_cosparse(
     work: &mut [u32],
     value: &mut usize,
 ) -> u32
-    ensures { λ r. ⌜ outcome r (now (value .exit) ∷ []) (left samples marks journal used) (words (now (work .exit)))
-        ≡ ran (cosparse bits strength iterations (now (work .entry))) (lent samples marks journal used) ⌝ }
+    ensures { λ r. ⌜ outcome r (now (value .exit) ∷ []) (left samples marks counts journal used) (words (now (work .exit)))
+        ≡ ran (cosparse bits strength iterations (now (work .entry))) (lent samples marks counts journal used) ⌝ }
 {
     let answer = dequant::cosparse::dequantize_cosparse(
         samples,
         marks,
+        counts,
         journal,
         used,
         bits,
@@ -205,22 +218,42 @@ pub extern "C" fn cathar_dequantize_cosparse(
     number_of(answer)
 }
 
-// Takes back the last entry of the journal. The number of the refusal, 1, 2, 3, 10 or 11, or 0; value
+// Takes back the last entry of the journal. The number of the refusal, 1, 2, 3, 10, 11 or 14, or 0; value
 // becomes the number of samples that got their word and mark back, and 0 where the call is refused.
 #[no_mangle]
 pub extern "C" fn cathar_undo(
     samples: &mut [u32],
     marks: &mut [u8],
+    counts: &mut [u16],
     journal: &mut [u32],
     used: &mut usize,
     value: &mut usize,
 ) -> u32
-    ensures { λ r. ⌜ outcome r (now (value .exit) ∷ []) (left samples marks journal used) none
-        ≡ ran undo (lent samples marks journal used) ⌝ }
+    ensures { λ r. ⌜ outcome r (now (value .exit) ∷ []) (left samples marks counts journal used) none
+        ≡ ran undo (lent samples marks counts journal used) ⌝ }
 {
-    let answer = recording::undo::undo(samples, marks, journal, used);
+    let answer = recording::undo::undo(samples, marks, counts, journal, used);
     *value = value_of(answer);
     number_of(answer)
+}
+
+// Whether every sample of the span of `len` samples from `start` on is measured, from marks and counts. The
+// number of the refusal, 14 or 5, or 0; yes becomes 1 where every mark of the span is 0, and else 0, also
+// where the question is refused. The counts are to be those that the calls on the recording left: the
+// blocks between the two that the span's ends fall in are judged by them.
+#[no_mangle]
+pub extern "C" fn cathar_measured(
+    marks: &[u8],
+    counts: &[u16],
+    start: usize,
+    len: usize,
+    yes: &mut u32,
+) -> u32
+    ensures { λ r. ⌜ spanTold r (now (yes .exit)) ≡ spanToldOf (asked (now (marks .entry)) (now (counts .entry)) start len) ⌝ }
+{
+    let verdict = recording::question::measured(marks, counts, start, len);
+    *yes = verdict_yes(verdict);
+    verdict_number(verdict)
 }
 
 // IEEE 754's square root, correctly rounded: a NaN and a number below zero give a NaN, a zero of

@@ -131,18 +131,20 @@ fn bridge_runs(samples: &[u32], threshold: f32, work: &mut [u32])
 pub fn declip(
     samples: &mut [u32],
     marks: &mut [u8],
+    counts: &mut [u16],
     journal: &mut [u32],
     used: &mut usize,
     threshold: f32,
     work: &mut [u32],
 ) -> Answer
-    ensures { λ r. ⌜ (ended r (left samples marks journal used)
-        ≡ declipRepair threshold (length (now (work .entry))) (lent samples marks journal used))
+    ensures { λ r. ⌜ (ended r (left samples marks counts journal used)
+        ≡ declipRepair threshold (length (now (work .entry))) (lent samples marks counts journal used))
         × (now (work .exit) ≡ workAfter 0 (needed (length (now (samples .entry)))) r (now (work .entry))) ⌝ }
 {
     let begun = begin(
         samples,
         marks,
+        counts,
         journal,
         *used,
         threshold_allowed(threshold),
@@ -152,5 +154,5 @@ pub fn declip(
         return begun;
     };
     bridge_runs(samples, threshold, work);
-    finish(samples, marks, journal, used, work, CUBIC_DECLIP)
+    finish(samples, marks, counts, journal, used, work, CUBIC_DECLIP)
 }

@@ -213,18 +213,20 @@ fn draw(samples: &[u32], sensitivity: f32, work: &mut [u32])
 pub fn decrackle(
     samples: &mut [u32],
     marks: &mut [u8],
+    counts: &mut [u16],
     journal: &mut [u32],
     used: &mut usize,
     sensitivity: f32,
     work: &mut [u32],
 ) -> Answer
-    ensures { λ r. ⌜ (ended r (left samples marks journal used)
-        ≡ decrackleRepair sensitivity (length (now (work .entry))) (lent samples marks journal used))
+    ensures { λ r. ⌜ (ended r (left samples marks counts journal used)
+        ≡ decrackleRepair sensitivity (length (now (work .entry))) (lent samples marks counts journal used))
         × (now (work .exit) ≡ workAfter 0 (needed (length (now (samples .entry)))) r (now (work .entry))) ⌝ }
 {
     let begun = begin(
         samples,
         marks,
+        counts,
         journal,
         *used,
         sensitivity == sensitivity,
@@ -234,5 +236,5 @@ pub fn decrackle(
         return begun;
     };
     draw(samples, sensitivity, work);
-    finish(samples, marks, journal, used, work, DECRACKLE)
+    finish(samples, marks, counts, journal, used, work, DECRACKLE)
 }

@@ -112,20 +112,21 @@ fn draw(work: &mut [u32], n: usize, bits: u32, strength: f32)
 pub fn dequantize(
     samples: &mut [u32],
     marks: &mut [u8],
+    counts: &mut [u16],
     journal: &mut [u32],
     used: &mut usize,
     bits: u32,
     strength: f32,
     work: &mut [u32],
 ) -> Answer
-    ensures { λ r. ⌜ (ended r (left samples marks journal used)
-        ≡ dequantizeRepair bits strength (length (now (work .entry))) (lent samples marks journal used))
+    ensures { λ r. ⌜ (ended r (left samples marks counts journal used)
+        ≡ dequantizeRepair bits strength (length (now (work .entry))) (lent samples marks counts journal used))
         × (now (work .exit) ≡ workAfter 0 (needed (length (now (samples .entry)))) r (now (work .entry))) ⌝ }
 {
-    let begun = begin(samples, marks, journal, *used, strength == strength, work);
+    let begun = begin(samples, marks, counts, journal, *used, strength == strength, work);
     let Answer::Done(_) = begun else {
         return begun;
     };
     draw(work, samples.len(), bits, strength);
-    finish(samples, marks, journal, used, work, DEQUANTIZE)
+    finish(samples, marks, counts, journal, used, work, DEQUANTIZE)
 }

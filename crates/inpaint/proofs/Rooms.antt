@@ -15,13 +15,14 @@ use borrow.Author.Tests.{ltb-true, ltb-false}
 use Rattle.leaves.specs.Floats.{inRange}
 use Rattle.recording.specs.Answers.{number}
 use Rattle.recording.specs.Recording.{State, Ended, Placed, each, span, Plan, refuse, change, places, entry, entrySize}
-use Rattle.recording.specs.Recording.{differ, tooMany, overUsed, alike, fitting, ranged, entered, committed, carried, performed, called}
+use Rattle.recording.specs.Recording.{fitting, ranged, entered, committed, carried, performed, called}
 use Rattle.recording.specs.Recording.{unlessRefused}
 use Rattle.recording.specs.Inner.{Fits}
 use Rattle.recording.specs.declared.Answer.{Answer}
 use Rattle.recording.specs.declared.Answer.the-variants.{Done, Refused}
 use Rattle.recording.proofs.commit.Laws.{length-span}
-use Rattle.recording.proofs.open.Laws.{fits-done, accepted-fits}
+use Rattle.recording.proofs.open.Laws.{fitting-by, fits-done, accepted-fits}
+use Rattle.recording.proofs.UndoCommit.{after-fits}
 use Rattle.recording.proofs.Entering.{Enters, Ending, unnamed, turned-away, enters, ending, enters-ends}
 use Rattle.leaves.proofs.Choice.{EitherWay, truth, picks, picks-by, both-hold}
 use Rattle.model.specs.Model.{doublesFor}
@@ -74,16 +75,11 @@ module _ (P : ℕ → Type 0) (s : State) (start len passes room : ℕ) (accepte
   unfolding gapRepair called performed
   gap-number = unless (fitting s) _ unfit plan-number
 
--- refusals 1 to 3 have these numbers
-fitting-number : (P : ℕ → Type 0) (s : State) → P 0 → P 1 → P 2 → P 3 → P (number (fitting s))
-unfolding fitting alike
-fitting-number P s p0 p1 p2 p3 = go (truth (differ s)) (truth (tooMany s)) (truth (overUsed s))
-  where
-    go : EitherWay (differ s) → EitherWay (tooMany s) → EitherWay (overUsed s) → P (number (fitting s))
-    go (inl a) b c = rw a p1
-    go (inr a) (inl b) c = rw (a, b) p2
-    go (inr a) (inr b) (inl c) = rw (a, b, c) p3
-    go (inr a) (inr b) (inr c) = rw (a, b, c) p0
+-- refusals 1, 14, 2 and 3 have these numbers
+fitting-number : (P : ℕ → Type 0) (s : State) → P 0 → P 1 → P 14 → P 2 → P 3 → P (number (fitting s))
+fitting-number P s p0 p1 p14 p2 p3 =
+    fitting-by (λ (a : Answer). P (number a)) s (λ one. p1) (λ one fourteen. p14) (λ one fourteen two. p2) (λ one fourteen two three. p3)
+    (λ one fourteen two three. p0)
 
 -- ---- What it leaves
 
@@ -101,17 +97,12 @@ left-committed : (s : State) (len mark : ℕ) (cs : List Placed) → length cs �
 unfolding committed
 left-committed s len mark cs count e =
     let samples = length-put cs (s .samples) in
-    let marks = length-put (each mark (places cs)) (s .marks) in
     let journal = length-sets (s .journal) (s .used) (entry s mark (places cs)) in
     record {
       samples = samples;
       journal = journal;
       grown = omega (arith, count);
-      fits = λ f. record {
-        counts = marks ∙ f .counts ∙ sym samples;
-        few = rw samples (f .few);
-        within = rw journal (e .room);
-      };
+      fits = λ f. after-fits e;
     }
 
 -- a plan names as many samples as the gap has
@@ -229,7 +220,8 @@ three-words-suffice rate ms work s long =
     step i start len t h later some short inside =
         let left = gap-left t start len sourcePasses (length work) in (
           gap-number P t start len sourcePasses (length work) (other 0 (omega arith))
-              (fitting-number P t (other 0 (omega arith)) (other 1 (omega arith)) (other 2 (omega arith)) (other 3 (omega arith)))
+              (fitting-number P t (other 0 (omega arith)) (other 1 (omega arith)) (λ (e : 14 ≡ 9). omega arith) (other 2 (omega arith))
+              (other 3 (omega arith)))
               (λ w. other 5 (omega arith)) (λ w. other 6 (omega arith)) (other 7 (omega arith)) (other 8 (omega arith))
               (λ full e. omega (arith, full, h .1, h .2)),
           (left .samples ∙ h .0, omega (arith, left .grown, h .1), omega (arith, left .journal, h .2)),
@@ -251,7 +243,7 @@ wide-suffices rate ms work s wide = all-numbers P I (limit ms rate) (length work
     step : Step P I (length (s .samples)) (limit ms rate) (length work)
     step i start len t h later some short inside = (
       gap-number P t start len sourcePasses (length work) (other 0 (inl (omega arith)))
-          (fitting-number P t (other 0 (inl (omega arith))) (other 1 (inl (omega arith))) (other 2 (inl (omega arith)))
+          (fitting-number P t (other 0 (inl (omega arith))) (other 1 (inl (omega arith))) (other 14 (inr (omega arith))) (other 2 (inl (omega arith)))
           (other 3 (inl (omega arith)))) (λ w. other 5 (inl (omega arith)))
           (λ less e. omega (arith, rw h at less, wide start len short)) (other 7 (inr (omega arith))) (other 8 (inr (omega arith)))
           (λ full. other 9 (inr (omega arith))),

@@ -110,12 +110,12 @@ scanFrom most i (suc n) c =
       | At start len ↦ scanFrom most (start + len) n (repairAt c start len)
     ]
 
--- refusals 1 to 4, which "are tested once"; or else an acceptance
+-- refusals 1, 14 and 2 to 4, which "are tested once"; or else an acceptance
 unfoldable pub scannable : ℕ → Float → State → Answer
 unfolding fitting
 scannable rate ms s = orElse (fitting s) (if allowed rate ms then Done 0 else Refused Setting)
 
--- the call: refusals 1 to 4 end it with nothing counted, and else it scans from the first place on
+-- the call: refusals 1, 14 and 2 to 4 end it with nothing counted, and else it scans from the first place on
 unfoldable pub automatic : ℕ → Float → List Float → State → Scan
 unfolding scannable scanFrom limit
 automatic rate ms w s =

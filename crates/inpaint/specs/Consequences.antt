@@ -44,7 +44,7 @@ GapLawful = (start len passes room : ℕ) → LawfulRepair (gapPlan start len pa
 abbrev pub ScanLawful : Type 0
 ScanLawful = (room : ℕ) (runs : List Stretch) → Lawful (gapCalls room runs)
 
--- a scan that refusals 1 to 4 turn away changes nothing
+-- a scan that refusals 1, 14 and 2 to 4 turn away changes nothing
 abbrev pub RefusedScan : Type 0
 RefusedScan =
     (rate : ℕ) (ms : Float) (work : List Float) (s : State) (why : Reason) → scannable rate ms s ≡ Refused why

@@ -63,7 +63,7 @@ firstRefusal [] = 0
 firstRefusal (Done m ∷ later) = firstRefusal later
 firstRefusal (Refused why ∷ later) = reasonNumber why
 
--- something holds of every scan that refusals 1 to 4 do not turn away
+-- something holds of every scan that refusals 1, 14 and 2 to 4 do not turn away
 abbrev pub OfEveryScan : (ℕ → Float → List Float → State → Type 0) → Type 0
 OfEveryScan P =
     (rate : ℕ) (ms : Float) (work : List Float) (s : State) → scannable rate ms s ≡ Done 0 → P rate ms work s

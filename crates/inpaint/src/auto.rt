@@ -136,18 +136,19 @@ pub fn next_run(samples: &[u32], most: usize, from: usize) -> Run
     found
 }
 
-// Refusals 1 to 4, in this order; accepted, with 0, where none of them applies.
+// Refusals 1, 14, 2, 3 and 4, in this order; accepted, with 0, where none of them applies.
 fn check_scan(
     samples: &[u32],
     marks: &[u8],
+    counts: &[u16],
     journal: &[u32],
     used: usize,
     rate: u32,
     millis: f32,
 ) -> Answer
-    ensures { λ r. ⌜ r ≡ scannable rate millis (seen samples marks journal used) ⌝ }
+    ensures { λ r. ⌜ r ≡ scannable rate millis (seen samples marks counts journal used) ⌝ }
 {
-    let sized = check_sizes(samples, marks, journal, used);
+    let sized = check_sizes(samples, marks, counts, journal, used);
     let Answer::Done(_) = sized else {
         return sized;
     };
@@ -177,13 +178,14 @@ fn first_of(number: u32, later: u32) -> u32
 fn repair_runs(
     samples: &mut [u32],
     marks: &mut [u8],
+    counts: &mut [u16],
     journal: &mut [u32],
     used: &mut usize,
     most: usize,
     work: &mut [f64],
 ) -> Scanned
-    ensures { λ r. ⌜ scan (r .qualified) (r .repaired) (r .refused) (left samples marks journal used) (now (work .exit))
-        ≡ scanFrom most 0 (length (now (samples .entry))) (scan 0 0 0 (lent samples marks journal used) (now (work .entry))) ⌝ }
+    ensures { λ r. ⌜ scan (r .qualified) (r .repaired) (r .refused) (left samples marks counts journal used) (now (work .exit))
+        ≡ scanFrom most 0 (length (now (samples .entry))) (scan 0 0 0 (lent samples marks counts journal used) (now (work .entry))) ⌝ }
 {
     let n = samples.len();
     let mut qualified: usize = 0;
@@ -195,7 +197,7 @@ fn repair_runs(
         let Run::At(start, len) = found else {
             break;
         };
-        let answer = inpaint_gap(samples, marks, journal, used, start, len, PASSES, work);
+        let answer = inpaint_gap(samples, marks, counts, journal, used, start, len, PASSES, work);
         let number = number_of(answer);
         qualified += 1;
         repaired += accepted(number);
@@ -213,16 +215,17 @@ fn repair_runs(
 pub fn inpaint_auto(
     samples: &mut [u32],
     marks: &mut [u8],
+    counts: &mut [u16],
     journal: &mut [u32],
     used: &mut usize,
     rate: u32,
     millis: f32,
     work: &mut [f64],
 ) -> Scanned
-    ensures { λ r. ⌜ scan (r .qualified) (r .repaired) (r .refused) (left samples marks journal used) (now (work .exit))
-        ≡ automatic rate millis (now (work .entry)) (lent samples marks journal used) ⌝ }
+    ensures { λ r. ⌜ scan (r .qualified) (r .repaired) (r .refused) (left samples marks counts journal used) (now (work .exit))
+        ≡ automatic rate millis (now (work .entry)) (lent samples marks counts journal used) ⌝ }
 {
-    let checked = check_scan(samples, marks, journal, *used, rate, millis);
+    let checked = check_scan(samples, marks, counts, journal, *used, rate, millis);
     let Answer::Done(_) = checked else {
         return Scanned {
             qualified: 0,
@@ -231,5 +234,5 @@ pub fn inpaint_auto(
         };
     };
     let most = longest_run(millis, rate);
-    repair_runs(samples, marks, journal, used, most, work)
+    repair_runs(samples, marks, counts, journal, used, most, work)
 }

@@ -78,16 +78,17 @@ fn model_fill(gap: &mut [u32], results: &[f64])
 pub fn repair_by_model(
     samples: &mut [u32],
     marks: &mut [u8],
+    counts: &mut [u16],
     journal: &mut [u32],
     used: &mut usize,
     start: usize,
     len: usize,
     work: &mut [f64],
 ) -> Answer
-    requires { ⌜ Fits (given samples marks journal used) × (start + len ≤ length (now samples))
+    requires { ⌜ Fits (given samples marks counts journal used) × (start + len ≤ length (now samples))
         × (1 ≤ len) × (len ≤ 2048) × (needed (length (now samples)) start len ≤ length (now work)) ⌝ }
-    ensures { λ r. ⌜ (ended r (left samples marks journal used)
-        ≡ carried (lent samples marks journal used) (change gapByModel (span start (model 1 (now (samples .entry)) start len))))
+    ensures { λ r. ⌜ (ended r (left samples marks counts journal used)
+        ≡ carried (lent samples marks counts journal used) (change gapByModel (span start (model 1 (now (samples .entry)) start len))))
         × (length (now (work .exit)) ≡ length (now (work .entry)))
         × (drop (needed (length (now (samples .entry))) start len) (now (work .exit))
         ≡ drop (needed (length (now (samples .entry))) start len) (now (work .entry))) ⌝ }
@@ -102,7 +103,7 @@ pub fn repair_by_model(
     let Answer::Done(_) = checked else {
         return checked;
     };
-    let entered = enter_span(samples, marks, journal, used, start, len, GAP_BY_MODEL);
+    let entered = enter_span(samples, marks, counts, journal, used, start, len, GAP_BY_MODEL);
     let Answer::Done(_) = entered else {
         return entered;
     };

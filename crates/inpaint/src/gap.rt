@@ -21,6 +21,7 @@ use recording::open::check_sizes;
 pub fn inpaint_gap(
     samples: &mut [u32],
     marks: &mut [u8],
+    counts: &mut [u16],
     journal: &mut [u32],
     used: &mut usize,
     start: usize,
@@ -28,11 +29,11 @@ pub fn inpaint_gap(
     passes: u32,
     work: &mut [f64],
 ) -> Answer
-    ensures { λ r. ⌜ (ended r (left samples marks journal used)
-        ≡ gapRepair start len passes (length (now (work .entry))) (lent samples marks journal used))
+    ensures { λ r. ⌜ (ended r (left samples marks counts journal used)
+        ≡ gapRepair start len passes (length (now (work .entry))) (lent samples marks counts journal used))
         × (now (work .exit) ≡ workAfter nought (needed (length (now (samples .entry))) start len) r (now (work .entry))) ⌝ }
 {
-    let sized = check_sizes(samples, marks, journal, *used);
+    let sized = check_sizes(samples, marks, counts, journal, *used);
     let Answer::Done(_) = sized else {
         return sized;
     };
@@ -48,11 +49,11 @@ pub fn inpaint_gap(
         return read;
     };
     if MAX_SOLVE < len {
-        let by_line = repair_by_line(samples, marks, journal, used, start, len);
+        let by_line = repair_by_line(samples, marks, counts, journal, used, start, len);
         clear_doubles(work, needed);
         return by_line;
     }
-    let by_model = repair_by_model(samples, marks, journal, used, start, len, work);
+    let by_model = repair_by_model(samples, marks, counts, journal, used, start, len, work);
     clear_doubles(work, needed);
     by_model
 }

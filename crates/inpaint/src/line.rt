@@ -82,14 +82,15 @@ fn line_fill(gap: &mut [u32], left: f32, right: f32)
 pub fn repair_by_line(
     samples: &mut [u32],
     marks: &mut [u8],
+    counts: &mut [u16],
     journal: &mut [u32],
     used: &mut usize,
     start: usize,
     len: usize,
 ) -> Answer
-    requires { ⌜ Fits (given samples marks journal used) × (start + len ≤ length (now samples)) ⌝ }
-    ensures { λ r. ⌜ ended r (left samples marks journal used)
-        ≡ carried (lent samples marks journal used) (change gapByLine (span start (line (now (samples .entry)) start len))) ⌝ }
+    requires { ⌜ Fits (given samples marks counts journal used) × (start + len ≤ length (now samples)) ⌝ }
+    ensures { λ r. ⌜ ended r (left samples marks counts journal used)
+        ≡ carried (lent samples marks counts journal used) (change gapByLine (span start (line (now (samples .entry)) start len))) ⌝ }
 {
     let end = start + len;
     let left = left_of(samples, start);
@@ -98,7 +99,7 @@ pub fn repair_by_line(
     let Answer::Done(_) = checked else {
         return checked;
     };
-    let entered = enter_span(samples, marks, journal, used, start, len, GAP_BY_LINE);
+    let entered = enter_span(samples, marks, counts, journal, used, start, len, GAP_BY_LINE);
     let Answer::Done(_) = entered else {
         return entered;
     };

@@ -4,10 +4,11 @@
 use Prim.Native.Nat.{ℕ, _≤_}
 use mathlib.Core.Path.{_≡_}
 use mathlib.Core.List.{List}
-use lib.ListN.{length}
+use lib.ListN.{length, replicate}
 use lib.Ieee.{Float}
 use Rattle.leaves.specs.Arithmetic.{one}
-use Rattle.recording.specs.Recording.{State}
+use Rattle.recording.specs.Recording.{State, state}
+use Rattle.recording.specs.Counts.{blocks}
 use Rattle.recording.specs.History.{fresh}
 use Rattle.inpaint.specs.Auto.{Scan, limit, automatic}
 use Rattle.inpaint.specs.Runs.{runAnswers}
@@ -30,6 +31,14 @@ limitMs = one
 -- "a journal of 12,288 words"
 abbrev pub journalWords : ℕ
 journalWords = 12288
+
+-- the counts of the blocks that 4,096 samples make
+abbrev pub mostBlocks : ℕ
+mostBlocks = 16
+
+-- what a program opens: words and marks, with a count for each block and the journal, which are all 0
+abbrev pub unopened : List ℕ → List ℕ → State
+unopened words marks = state words marks (replicate (blocks (length words)) 0) (replicate journalWords 0) 0
 
 -- the doubles that a gap of 48 samples needs at most: a window of 48 + 2 * 1024, a band of 48 rows of 49, 3 * 48 and 4 * 49
 abbrev pub workspace : ℕ

@@ -13,6 +13,9 @@ use recording::marks::MEASURED;
 // The most samples that are taken.
 pub const MOST_SAMPLES: usize = 4096;
 
+// The counts of the blocks that so many samples make.
+pub const MOST_BLOCKS: usize = 16;
+
 // What the journal holds, which always suffices, and the workspace, likewise.
 pub const JOURNAL_WORDS: usize = 12_288;
 
@@ -51,14 +54,15 @@ pub fn print_bad_input() {
 pub fn scan_recording(
     samples: &mut [u32],
     marks: &mut [u8],
+    counts: &mut [u16],
     journal: &mut [u32],
     used: &mut usize,
     work: &mut [f64],
 ) -> Scanned
-    ensures { λ r. ⌜ scan (r .qualified) (r .repaired) (r .refused) (left samples marks journal used) (now (work .exit))
-        ≡ scanning (now (work .entry)) (lent samples marks journal used) ⌝ }
+    ensures { λ r. ⌜ scan (r .qualified) (r .repaired) (r .refused) (left samples marks counts journal used) (now (work .exit))
+        ≡ scanning (now (work .entry)) (lent samples marks counts journal used) ⌝ }
 {
-    inpaint_auto(samples, marks, journal, used, RATE, LIMIT_MS, work)
+    inpaint_auto(samples, marks, counts, journal, used, RATE, LIMIT_MS, work)
 }
 
 // Writes a name and a number.

@@ -12,8 +12,9 @@ use lib.Dec.{leb, ltb, eqb}
 use borrow.Author.Tests.{ne-eqb, le-ltb, leb-true, eqb-true, eqb-false, ltb-false}
 use Rattle.leaves.proofs.Lists.{read-before, read-after}
 use Rattle.leaves.specs.Floats.{inRange}
-use Rattle.recording.specs.Recording.{State, ended, Placed, places, each, entrySize, entry, committed}
+use Rattle.recording.specs.Recording.{State, ended, Placed, places, put, each, entrySize, entry, recountedBy, committed}
 use Rattle.recording.specs.Marks.{made}
+use Rattle.recording.specs.Counts.{counted}
 use Rattle.recording.specs.Recording.{entered, ranged, Plan, refuse, change, carried, performed}
 use Rattle.recording.specs.History.{Ascending, Bytes, Keeps}
 use Rattle.recording.specs.Consequences.{Among}
@@ -22,7 +23,8 @@ use Rattle.recording.specs.declared.Reason.{Reason}
 use Rattle.recording.specs.declared.Reason.the-variants.{Result, Room}
 use Rattle.recording.specs.declared.Answer.the-variants.{Done, Refused}
 use Rattle.recording.proofs.Put.{among-or-not, among-below, put-elsewhere, put-each, places-each}
-use Rattle.recording.proofs.Put.{length-places}
+use Rattle.recording.proofs.Put.{length-put, length-places}
+use Rattle.recording.proofs.Counting.{recounted-all}
 use Rattle.recording.proofs.Journal.{length-entry}
 use Rattle.recording.proofs.open.Laws.{fits-done, fits-or-not}
 use Rattle.leaves.proofs.Choice.{truth, EitherWay, both-hold}
@@ -36,11 +38,12 @@ pub record Enters (s : State) (mark : ℕ) (cs : List Placed) : Type 0 where
   pub valid : made mark ≡ true
   pub ascending : Ascending (length (s .samples)) 0 cs
 
--- what a recording keeps from its opening on: the free journal words are 0, and marks are bytes
+-- what a recording keeps from its opening on: the free journal words are 0, marks are bytes, and the counts are those of the marks
 pub record Sound (s : State) : Type 0 where
   pub within : s .used ≤ length (s .journal)
   pub free : (i : ℕ) → s .used ≤ i → getD (s .journal) i 0 ≡ 0
   pub bytes : Bytes (s .marks)
+  pub counts : s .counts ≡ counted (s .marks)
 
 -- a mark that a repair sets is a byte
 made-byte : (k : ℕ) → made k ≡ true → k < 256
@@ -131,7 +134,7 @@ module _ {s : State} {mark : ℕ} {cs : List Placed} (e : Enters s mark cs) wher
   unfolding committed
   after-named i a =
       let below : i < length (s .samples) = among-below (length (s .samples)) 0 i cs (e .ascending) a in
-      let within : i < length (s .marks) = omega (arith, e .fits .counts) in
+      let within : i < length (s .marks) = omega (arith, e .fits .marked) in
       put-each mark i (places cs) (s .marks) within a
 
   -- so one whose mark is none that a repair sets is as it was
@@ -141,9 +144,9 @@ module _ {s : State} {mark : ℕ} {cs : List Placed} (e : Enters s mark cs) wher
       never : Among i (places cs) → SameAt i (committed s mark cs) s
       never a = let both : true ≡ false = sym (e .valid) ∙ (rw (after-named i a) at h) in (cc, cc)
 
-  -- the free words stay 0, and marks stay bytes
+  -- the free words stay 0, marks stay bytes, and the counts are those of the marks
   pub after-sound : Sound s → Sound (committed s mark cs)
-  after-sound kept = record { within = within; free = free; bytes = bytes }
+  after-sound kept = record { within = within; free = free; bytes = bytes; counts = counts }
     where
       within : committed s mark cs .used ≤ length (committed s mark cs .journal)
       within = unfold committed in simp length-sets (e .room)
@@ -160,3 +163,10 @@ module _ {s : State} {mark : ℕ} {cs : List Placed} (e : Enters s mark cs) wher
             | inl a ↦ rw (after-named i a) (made-byte mark (e .valid))
             | inr f ↦ rw (after-elsewhere s mark cs i f .1) (kept .bytes i)
           ]
+
+      counts : committed s mark cs .counts ≡ counted (committed s mark cs .marks)
+      counts =
+          unfold committed recountedBy in
+          (rw (kept .counts, places-each)
+          (recounted-all (s .marks) (put (each mark (places cs)) (s .marks)) (places cs) (length-put (each mark (places cs)) (s .marks))
+          (λ i f. put-elsewhere i (each mark (places cs)) (s .marks) (rw places-each f))))

@@ -17,7 +17,7 @@ use Rattle.recording.specs.History.{Repair, Call, repair, undo, did, run
 use Rattle.recording.specs.History.{replay, fresh}
 use Rattle.recording.specs.History.{OpeningIsFresh, Bytes, RawMarks, Keeps, Lawful, AfterAny, Demand3}
 use Rattle.recording.specs.Consequences.{AllName, SurvivorsStand, UndoingAll, MeasuredIsRaw, UnmadeIsRaw}
-use Rattle.recording.specs.Consequences.{FreeIsZero}
+use Rattle.recording.specs.Consequences.{FreeIsZero, CountsAreWorkedOut}
 use Rattle.recording.specs.Consequences.{Closing, closings, markOf, returned, EntriesAreSurvivors}
 use Rattle.recording.specs.declared.Answer.{Answer}
 use Rattle.recording.specs.declared.Answer.the-variants.{Done, Refused}
@@ -38,7 +38,7 @@ pub data Reached (raw : State) : List Repair → State → Type 0 where
       → Reached raw kept s → r (s .samples) ≡ change mark cs → Enters s mark cs
       → Reached raw (r ∷ kept) (committed s mark cs)
 
--- its free journal words are 0, and its marks are bytes
+-- its free journal words are 0, its marks are bytes, and its counts are those of its marks
 reached-sound : {raw : State} {kept : List Repair} {s : State} → Reached raw kept s → Sound s
 reached-sound (none sound empty) = sound
 reached-sound (more before p e) = after-sound e (reached-sound before)
@@ -221,7 +221,7 @@ kept-are-bytes marks i = elim (kept-or-measured marks i) [ inl h ↦ omega arith
 -- after any calls it is one that the survivors reach
 reached : AfterAny (λ raw cs. Reached raw (survivorsOver [] cs raw) (run cs raw))
 reached words marks room cs bytes l =
-    reached-run cs l (none (record { within = omega arith; free = λ i h. all-zero room i; bytes = bytes }) refl)
+    reached-run cs l (none (record { within = omega arith; free = λ i h. all-zero room i; bytes = bytes; counts = refl }) refl)
 
 -- ---- The demand
 
@@ -252,6 +252,9 @@ pub free-is-zero : FreeIsZero
 free-is-zero words marks room cs bytes l =
     let sound = reached-sound (reached words marks room cs bytes l) in
     (sound .within, sound .free)
+
+pub counts-are-worked-out : CountsAreWorkedOut
+counts-are-worked-out words marks room cs bytes l = reached-sound (reached words marks room cs bytes l) .counts
 
 pub entries-are-survivors : EntriesAreSurvivors
 unfolding survivors

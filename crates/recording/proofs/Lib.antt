@@ -2,6 +2,8 @@
 pub mod Runs
 pub mod Put
 pub mod Journal
+pub mod Counting
+pub mod Asking
 pub mod Tests
 pub mod Entering
 pub mod UndoCommit

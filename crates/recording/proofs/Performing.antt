@@ -1,4 +1,4 @@
--- What the proof of a repair cites, whatever its plan: how refusals 1 to 3 and a commit end it, what they leave in its
+-- What the proof of a repair cites, whatever its plan: how refusals 1, 14, 2 and 3 and a commit end it, what they leave in its
 -- workspace, of words or of doubles, and that the places it names ascend. Assumes nothing.
 use mathlib.Core.Path.{_≡_, refl, sym, ap, _∙_}
 use mathlib.Core.Bool.{Bool, true, false, cond}
@@ -9,7 +9,7 @@ use native.Mathlib.Omega.{arith}
 use lib.Dec.{ltb, eqb}
 use lib.ListN.{length, drop, replicate, length-replicate}
 use lib.Seq.{sets-eq}
-use Rattle.recording.specs.Recording.{State, Ended, ended, differ, tooMany, overUsed, fitting, alike, cleared, clears}
+use Rattle.recording.specs.Recording.{State, Ended, ended, fitting, cleared, clears}
 use Rattle.recording.specs.Recording.{workAfter, unlessRead}
 use Rattle.recording.specs.Recording.{Placed, entrySize, entered, ranged, Plan, change, span, picked, carried, performed}
 use Rattle.recording.specs.History.{Ascending, Keeps}
@@ -17,9 +17,10 @@ use Rattle.recording.specs.declared.Reason.{Reason}
 use Rattle.recording.specs.declared.Answer.{Answer}
 use Rattle.recording.specs.declared.Answer.the-variants.{Done, Refused}
 use Rattle.leaves.proofs.Choice.{truth, EitherWay}
+use Rattle.recording.proofs.open.Laws.{fitting-by}
 use Rattle.recording.proofs.Entering.{ranged-ends}
 
--- ---- Refusals 1 to 3, as `check_sizes` answers them
+-- ---- Refusals 1, 14, 2 and 3, as `check_sizes` answers them
 
 module _ (s : State) (p : Plan) (a : Answer) (sized : a ≡ fitting s) where
   -- one of them applies
@@ -34,20 +35,12 @@ module _ (s : State) (p : Plan) (a : Answer) (sized : a ≡ fitting s) where
 
 -- ---- The workspace
 
--- refusals 1 to 3 keep its contents
+-- refusals 1, 14, 2 and 3 keep its contents
 pub fitting-keeps : (s : State) (why : Reason) → fitting s ≡ Refused why → clears (fitting s) ≡ false
-unfolding fitting alike
-fitting-keeps s why h = one (truth (differ s)) (truth (tooMany s)) (truth (overUsed s))
-  where
-    one : EitherWay (differ s) → EitherWay (tooMany s) → EitherWay (overUsed s) → clears (fitting s) ≡ false
-    one (inl a) b c = rw a refl
-    one (inr a) (inl b) c = rw (a, b) refl
-    one (inr a) (inr b) (inl c) = rw (a, b, c) refl
-    one (inr a) (inr b) (inr c) =
-        let all : fitting s ≡ Done 0 = rw (a, b, c) refl in
-        let both : Done 0 ≡ Refused why = sym all ∙ h in
-        let none : _≡_ {A = ℕ} 0 1 = cc in
-        absurd (omega arith)
+fitting-keeps s why =
+    fitting-by (λ (a : Answer). a ≡ Refused why → clears a ≡ false) s (λ one e. refl) (λ one fourteen e. refl)
+    (λ one fourteen two e. refl) (λ one fourteen two three e. refl)
+    (λ one fourteen two three e. let none : _≡_ {A = ℕ} 0 1 = cc in absurd (omega arith))
 
 pub unfit-keeps : {A : Type 0} (nought : A) (s : State) (a : Answer) → a ≡ fitting s → (why : Reason) → a ≡ Refused why
     → (n : ℕ) (work : List A) → work ≡ workAfter nought n a work

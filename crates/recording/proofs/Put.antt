@@ -41,8 +41,13 @@ abbrev pub valued : (ℕ → ℕ) → List ℕ → List Placed
 valued v [] = []
 valued v (i ∷ is) = record { place = i; value = v i } ∷ valued v is
 
+-- its places are these
+pub places-valued : (v : ℕ → ℕ) (is : List ℕ) → places (valued v is) ≡ is
+places-valued v [] = refl
+places-valued v (i ∷ is) = ap (λ (js : List ℕ). i ∷ js) (places-valued v is)
+
 -- after that, a place that is among them, or had its value already, has its value
-put-valued : (v : ℕ → ℕ) (i : ℕ) (is l : List ℕ) → i < length l → Among i is ⊎ (getD l i 0 ≡ v i)
+pub put-valued : (v : ℕ → ℕ) (i : ℕ) (is l : List ℕ) → i < length l → Among i is ⊎ (getD l i 0 ≡ v i)
     → getD (put (valued v is) l) i 0 ≡ v i
 unfolding put
 put-valued v i [] l h (inl none) = absurd none
@@ -77,13 +82,12 @@ put-back cs l = ext-getD 0 _ _ same at-each
         (elim (among-or-not i (places cs)) [ inl a ↦ inl a | inr f ↦ inr (put-elsewhere i cs l f) ])
 
 -- one mark for every place: their places, and what a place among them then has
-pub places-each : (v : ℕ) (is : List ℕ) → places (each v is) ≡ is
-places-each v [] = refl
-places-each v (i ∷ is) = ap (λ (js : List ℕ). i ∷ js) (places-each v is)
-
 each-valued : (v : ℕ) (is : List ℕ) → each v is ≡ valued (λ i. v) is
 each-valued v [] = refl
 each-valued v (i ∷ is) = ap (λ (cs : List Placed). record { place = i; value = v } ∷ cs) (each-valued v is)
+
+pub places-each : (v : ℕ) (is : List ℕ) → places (each v is) ≡ is
+places-each v is = rw each-valued (places-valued (λ i. v) is)
 
 pub put-each : (v i : ℕ) (is l : List ℕ) → i < length l → Among i is → getD (put (each v is) l) i 0 ≡ v
 put-each v i is l h a = rw each-valued (put-valued (λ i. v) i is l h (inl a))

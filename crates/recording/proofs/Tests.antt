@@ -12,7 +12,7 @@ use borrow.Author.Tests.{eq-eqb, ne-eqb, le-ltb}
 use Rattle.recording.specs.Recording.{State, ended, Saved, fitting, entrySize, lastCount, lastMark}
 use Rattle.recording.specs.Marks.{made}
 use Rattle.recording.specs.Recording.{lastSaved, placePast, notRising, markPast, malformed, oldWords, oldMarks}
-use Rattle.recording.specs.Recording.{put, state, takenBack, undone}
+use Rattle.recording.specs.Recording.{put, state, recountedBy, takenBack, undone}
 use Rattle.recording.specs.Inner.{Fits}
 use Rattle.recording.specs.declared.Answer.the-variants.{Done}
 use Rattle.recording.proofs.open.Laws.{fits-done, fits-or-not}
@@ -30,12 +30,12 @@ pub record Sealed (s : State) (m mark : ℕ) (olds : List Saved) : Type 0 where
   pub bytes : markPast olds ≡ false
   pub valid : made mark ≡ true
 
--- the words and marks that it saved return, and it is cleared
+-- the words and marks that it saved return, their blocks are recounted, and it is cleared
 abbrev pub without : State → ℕ → List Saved → State
 without s m olds =
     let begin = s .used - entrySize m in
     let journal = sets (s .journal) begin (replicate (entrySize m) 0) in
-    state (put (oldWords olds) (s .samples)) (put (oldMarks olds) (s .marks)) journal begin
+    state (put (oldWords olds) (s .samples)) (put (oldMarks olds) (s .marks)) (recountedBy (oldMarks olds) s) journal begin
 
 module _ {s : State} {m mark : ℕ} {olds : List Saved} (e : Sealed s m mark olds) where
   well-formed : malformed (length (s .samples)) (s .journal) (s .used) ≡ false

@@ -5,26 +5,29 @@ use Prim.Native.Nat.{ℕ, _+_, _-_, _*_, _≤_, _<_}
 use native.Mathlib.Omega.{arith}
 use lib.ListN.{length, getD, replicate, length-replicate}
 use lib.Seq.{sets, length-sets}
-use Rattle.recording.specs.Recording.{State, state, ended, Placed, places, put, saved, savedAt, oldWords}
+use Rattle.recording.specs.Recording.{State, state, ended, Placed, places, put, each, saved, savedAt, oldWords}
 use Rattle.recording.specs.Recording.{oldMarks, entrySize, entry, committed, lastCount, lastMark, lastSaved}
-use Rattle.recording.specs.Recording.{undone}
+use Rattle.recording.specs.Recording.{recountedBy, undone}
+use Rattle.recording.specs.Counts.{recounted}
 use Rattle.recording.specs.Inner.{Fits}
 use Rattle.recording.specs.declared.Answer.the-variants.{Done}
 use Rattle.recording.proofs.Put.{length-put, length-places, ascending-count, put-back, marks-back, words-kept}
-use Rattle.recording.proofs.Put.{marks-kept}
+use Rattle.recording.proofs.Put.{marks-kept, places-valued}
 use Rattle.recording.proofs.Journal.{length-entry, entry-count, entry-mark, entry-saved, stored-back, all-zero}
 use Rattle.recording.proofs.Journal.{none-past, rising, all-bytes}
-use Rattle.recording.proofs.Entering.{Enters, Sound}
+use Rattle.recording.proofs.Entering.{Enters, Sound, after-sound, after-elsewhere}
+use Rattle.recording.proofs.Counting.{length-recounted, recounted-all}
 use Rattle.recording.proofs.Tests.{Sealed, sealed-undone}
 
 -- after such a repair
 module _ {s : State} {mark : ℕ} {cs : List Placed} (e : Enters s mark cs) where
-  -- refusals 1 to 3 do not apply
-  after-fits : Fits (committed s mark cs)
-  unfolding committed
+  -- refusals 1, 14, 2 and 3 do not apply
+  pub after-fits : Fits (committed s mark cs)
+  unfolding committed recountedBy
   after-fits =
       record {
-        counts = simp length-put (e .fits .counts);
+        marked = simp length-put (e .fits .marked);
+        counted = simp (length-recounted, length-put) (e .fits .counted);
         few = simp length-put (e .fits .few);
         within = simp length-sets (e .room);
       }
@@ -111,8 +114,24 @@ module _ {s : State} {mark : ℕ} {cs : List Placed} (e : Enters s mark cs) wher
             → getD {A = ℕ} (replicate (entrySize (length cs)) 0) i 0 ≡ getD (s .journal) (s .used + i) 0
         zeros i h = all-zero (entrySize (length cs)) i ∙ sym (kept .free (s .used + i) (omega arith))
 
+    -- the blocks are recounted from the marks that returned
+    count-back : recountedBy (oldMarks (saved (s .samples) (s .marks) (places cs))) (committed s mark cs) ≡ s .counts
+    unfolding recountedBy
+    count-back =
+        let after = committed s mark cs in
+        let olds = oldMarks (saved (s .samples) (s .marks) (places cs)) in
+        let named : places olds ≡ places cs = rw (marks-kept, places-valued) refl in
+        ap (λ (marks : List ℕ). recounted marks (places olds) (after .counts)) mark-back
+        ∙ ap (λ (is : List ℕ). recounted (s .marks) is (after .counts)) named
+        ∙ ap (recounted (s .marks) (places cs)) (after-sound e kept .counts)
+        ∙ recounted-all (after .marks) (s .marks) (places cs) same (λ i f. sym (after-elsewhere s mark cs i f .1))
+        ∙ sym (kept .counts)
+      where
+        same : length (s .marks) ≡ length (committed s mark cs .marks)
+        same = unfold committed in sym (length-put (each mark (places cs)) (s .marks))
+
     -- so undo gives back the very state before
     pub undo-commit : undone (committed s mark cs) ≡ ended (Done (length cs)) s
     undo-commit =
         sealed-undone last-sealed after-fits
-        ∙ (rw last-begin (λ i. ended (Done (length cs)) (state (words-back i) (mark-back i) (entry-back i) (s .used))))
+        ∙ (rw last-begin (λ i. ended (Done (length cs)) (state (words-back i) (mark-back i) (count-back i) (entry-back i) (s .used))))

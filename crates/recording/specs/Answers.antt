@@ -2,9 +2,11 @@
 use Prim.Native.Nat.{ℕ}
 use Rattle.recording.specs.declared.Reason.{Reason}
 use Rattle.recording.specs.declared.Reason.the-variants.{Counts, TooMany, Used, Setting, Gap, Workspace, Read}
-use Rattle.recording.specs.declared.Reason.the-variants.{Result, Room, Nothing, Malformed, Frames}
+use Rattle.recording.specs.declared.Reason.the-variants.{Result, Room, Nothing, Malformed, Frames, Blocks}
 use Rattle.recording.specs.declared.Answer.{Answer}
 use Rattle.recording.specs.declared.Answer.the-variants.{Done, Refused}
+use Rattle.recording.specs.declared.Verdict.{Verdict}
+use Rattle.recording.specs.declared.Verdict.the-variants.{Yes, No, TurnedAway}
 
 -- "What is turned away": the table's number of each reason; from 12 on document 02's
 abbrev pub reasonNumber : Reason → ℕ
@@ -20,6 +22,7 @@ reasonNumber Room = 9
 reasonNumber Nothing = 10
 reasonNumber Malformed = 11
 reasonNumber Frames = 12
+reasonNumber Blocks = 14
 
 -- "the reason carries the sample's place for 7 and 8"; for the others 0 stands there
 abbrev pub reasonPlace : Reason → ℕ
@@ -35,6 +38,7 @@ reasonPlace Room = 0
 reasonPlace Nothing = 0
 reasonPlace Malformed = 0
 reasonPlace Frames = 0
+reasonPlace Blocks = 0
 
 -- 0 for an acceptance, and else the number of the refusal
 abbrev pub number : Answer → ℕ
@@ -45,3 +49,15 @@ number (Refused why) = reasonNumber why
 abbrev pub value : Answer → ℕ
 value (Done m) = m
 value (Refused why) = reasonPlace why
+
+-- of the span question: 0 where it is answered, and else the number of the refusal
+abbrev pub verdictNumber : Verdict → ℕ
+verdictNumber Yes = 0
+verdictNumber No = 0
+verdictNumber (TurnedAway why) = reasonNumber why
+
+-- 1 for yes, and else 0
+abbrev pub verdictYes : Verdict → ℕ
+verdictYes Yes = 1
+verdictYes No = 0
+verdictYes (TurnedAway why) = 0

@@ -1,18 +1,22 @@
--- What follows from the rules of a call and from demand 3. Proved in proofs/Single.antt and proofs/History.antt under the same names,
--- written small.
-use Prim.Native.Nat.{ℕ, zero, suc, _≤_}
+-- What follows from the rules of a call, from those of the span question and from demand 3. Proved in proofs/Single.antt,
+-- proofs/Counting.antt, proofs/Asking.antt and proofs/History.antt under the same names, written small.
+use Prim.Native.Nat.{ℕ, zero, suc, _+_, _-_, _≤_, _<_}
 use mathlib.Core.Logic.{_⊎_}
 use mathlib.Core.Path.{_≡_}
 use mathlib.Core.Bool.{false}
-use mathlib.Core.List.{List, [], _∷_, reverse}
+use mathlib.Core.List.{List, [], _∷_, map, reverse}
 use lib.ListN.{length, getD, replicate}
 use Rattle.recording.specs.Answers.{value}
 use Rattle.recording.specs.Recording.{State, Placed, places, put, Plan, refuse, change}
 use Rattle.recording.specs.Recording.{lastCount, lastMark, lastBegin}
+use Rattle.leaves.specs.Choice.{if_then_else_}
 use Rattle.recording.specs.Marks.{measured, made}
+use Rattle.recording.specs.Counts.{blockOf, countOf, counted, recounted}
+use Rattle.recording.specs.Question.{marksSay, asked}
 use Rattle.recording.specs.History.{Repair, Call, repair, undo, did, run, survivors, LawfulRepair, AfterAny}
 use Rattle.recording.specs.declared.Reason.{Reason}
 use Rattle.recording.specs.declared.Answer.the-variants.{Done, Refused}
+use Rattle.recording.specs.declared.Verdict.the-variants.{Yes, No}
 
 -- ---- Of every call, on any recording
 
@@ -39,7 +43,52 @@ AcceptedAsRuled =
     (r : Repair) (s : State) (mark : ℕ) (cs : List Placed) (m : ℕ) → LawfulRepair r → r (s .samples) ≡ change mark cs
     → did (repair r) s .answer ≡ Done m → MadeOf mark cs s (did (repair r) s .after) × (m ≡ length cs)
 
+-- request P5: "recounts the blocks of its samples and no others", for samples at any places, whatever counts are lent: a block of theirs
+-- gets the count of the marks as they are now, and any other keeps what it had
+abbrev pub ItsBlocksAndNoOthers : Type 0
+ItsBlocksAndNoOthers =
+    (marks is counts : List ℕ) (block : ℕ)
+    → (Among block (map blockOf is) → block < length counts → getD (recounted marks is counts) block 0 ≡ countOf marks block)
+    × ((Among block (map blockOf is) → ⊥) → getD (recounted marks is counts) block 0 ≡ getD counts block 0)
+
+-- ---- Of the span question
+
+-- every sample of a span is marked measured
+abbrev pub EachMeasured : List ℕ → ℕ → ℕ → Type 0
+EachMeasured marks start len = (i : ℕ) → start ≤ i → i < start + len → getD marks i 0 ≡ measured
+
+-- "its answer must equal looking at each mark": where the counts are "those worked out from the marks", and the span is within them
+abbrev pub AnswerIsEachMark : Type 0
+AnswerIsEachMark =
+    (marks : List ℕ) (start len : ℕ) → start + len ≤ length marks
+    → asked marks (counted marks) start len ≡ (if marksSay marks start len then Yes else No)
+
+-- so it is yes exactly when every mark of the span is 0
+abbrev pub YesExactlyWhen : Type 0
+YesExactlyWhen =
+    (marks : List ℕ) (start len : ℕ)
+    → (asked marks (counted marks) start len ≡ Yes → EachMeasured marks start len)
+    × (start + len ≤ length marks → EachMeasured marks start len → asked marks (counted marks) start len ≡ Yes)
+
+-- "looks at marks only in the blocks its ends fall in": two lists of marks that agree there give the same answer, whatever the counts are
+abbrev pub OtherMarksHaveNoSay : Type 0
+OtherMarksHaveNoSay =
+    (marks others counts : List ℕ) (start len : ℕ) → length others ≡ length marks
+    → ((i : ℕ) → (blockOf i ≡ blockOf start) ⊎ (blockOf i ≡ blockOf (start + len - 1)) → getD others i 0 ≡ getD marks i 0)
+    → asked others counts start len ≡ asked marks counts start len
+
+-- and of the counts only those of the blocks between have a say
+abbrev pub OtherCountsHaveNoSay : Type 0
+OtherCountsHaveNoSay =
+    (marks counts others : List ℕ) (start len : ℕ) → length others ≡ length counts
+    → ((block : ℕ) → blockOf start < block → block < blockOf (start + len - 1) → getD others block 0 ≡ getD counts block 0)
+    → asked marks others start len ≡ asked marks counts start len
+
 -- ---- Of every freshly opened recording with every sequence of calls
+
+-- request P5: the counts "equal those worked out from the marks"
+abbrev pub CountsAreWorkedOut : Type 0
+CountsAreWorkedOut = AfterAny (λ raw cs. run cs raw .counts ≡ counted (run cs raw .marks))
 
 -- every repair of a replay is accepted, as it was, and names a sample
 abbrev pub AllName : List Repair → State → Type 0

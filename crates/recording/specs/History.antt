@@ -10,6 +10,7 @@ use mathlib.Core.Logic.{_⊎_}
 use lib.ListN.{length, getD, replicate}
 use Rattle.recording.specs.Recording.{State, state, Ended, Placed, Plan, refuse, change}
 use Rattle.recording.specs.Marks.{measured, notReceived, made}
+use Rattle.recording.specs.Counts.{counted}
 use Rattle.recording.specs.Recording.{called, undone, keptMark, openedWith}
 use Rattle.recording.specs.declared.Answer.{Answer}
 use Rattle.recording.specs.declared.Answer.the-variants.{Done, Refused}
@@ -66,9 +67,9 @@ replay rs s = run (map repair rs) s
 
 -- ---- "on a freshly opened recording"
 
--- any words, any marks, a journal of so many words, all 0, none used
+-- any words, any marks with the counts worked out from them, a journal of so many words, all 0, none used
 abbrev pub fresh : List ℕ → List ℕ → ℕ → State
-fresh words marks room = state words marks (replicate room 0) 0
+fresh words marks room = state words marks (counted marks) (replicate room 0) 0
 
 -- an accepted opening gives such a recording, under the raw marks that it sets
 abbrev pub OpeningIsFresh : Type 0
@@ -113,6 +114,6 @@ Lawful (undo ∷ cs) = Lawful cs
 abbrev pub AfterAny : (State → List Call → Type 0) → Type 0
 AfterAny P = (words marks : List ℕ) (room : ℕ) (cs : List Call) → Bytes marks → Lawful cs → P (fresh words marks room) cs
 
--- samples, marks, journal and used are those that the survivors alone give
+-- samples, marks, counts, journal and used are those that the survivors alone give; request P5: "Demand 3 covers the counts"
 abbrev pub Demand3 : Type 0
 Demand3 = AfterAny (λ raw cs. run cs raw ≡ replay (survivors cs raw) raw)

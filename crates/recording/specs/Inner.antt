@@ -9,12 +9,14 @@ use lib.Seq.{sets}
 use lib.Dec.{leb, ltb, eqb}
 use Rattle.leaves.specs.Choice.{if_then_else_}
 use Rattle.recording.specs.Recording.{State, state, Placed, Saved, mostSamples, picked, savedAt, placePast, markPast}
+use Rattle.recording.specs.Counts.{blocks}
 use Rattle.recording.specs.declared.Answer.{Answer}
 use Rattle.recording.specs.declared.Answer.the-variants.{Done, Refused}
 
--- refusals 1 to 3 do not apply
+-- refusals 1, 14, 2 and 3 do not apply
 pub record Fits (s : State) : Type 0 where
-  pub counts : length (s .marks) ≡ length (s .samples)
+  pub marked : length (s .marks) ≡ length (s .samples)
+  pub counted : length (s .counts) ≡ blocks (length (s .samples))
   pub few : length (s .samples) ≤ mostSamples
   pub within : s .used ≤ length (s .journal)
 
@@ -25,7 +27,7 @@ consecutive i (suc n) = i ∷ consecutive (i + 1) n
 
 -- a recording in which a span was entered, once the words are in place, which they are where the call was accepted
 abbrev pub filled : Answer → ℕ → List ℕ → State → State
-filled (Done m) start words s = state (sets (s .samples) start words) (s .marks) (s .journal) (s .used)
+filled (Done m) start words s = state (sets (s .samples) start words) (s .marks) (s .counts) (s .journal) (s .used)
 filled (Refused why) start words s = s
 
 -- The workspace of a repair over the whole recording, of n samples: n new words, then n words of which each that is not 0
@@ -56,3 +58,9 @@ pub record Restorable (samples marks journal : List ℕ) (begin m : ℕ) : Type 
   pub there : begin + 3 * m ≤ length journal
   pub places : placePast (length samples) (savedAt journal begin m) ≡ false
   pub bytes : markPast (savedAt journal begin m) ≡ false
+
+-- m saved samples from journal word `begin` on can be recounted: they are there, their places are such, and there is a count for each block
+pub record Recountable (marks counts journal : List ℕ) (begin m : ℕ) : Type 0 where
+  pub counted : length counts ≡ blocks (length marks)
+  pub there : begin + 3 * m ≤ length journal
+  pub places : placePast (length marks) (savedAt journal begin m) ≡ false

@@ -1,5 +1,7 @@
 pub mod Answers
 pub mod Marks
+pub mod Counts
+pub mod Question
 pub mod Recording
 pub mod Lent
 pub mod Runs

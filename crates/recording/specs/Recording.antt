@@ -10,23 +10,26 @@ use lib.Dec.{leb, ltb, eqb}
 use Rattle.leaves.specs.Choice.{if_then_else_}
 use Rattle.leaves.specs.Floats.{inRange}
 use Rattle.recording.specs.declared.Reason.{Reason}
-use Rattle.recording.specs.declared.Reason.the-variants.{Counts, TooMany, Used, Read, Result, Room, Nothing, Malformed}
+use Rattle.recording.specs.declared.Reason.the-variants.{Counts, TooMany, Used, Read, Result, Room, Nothing, Malformed, Blocks}
 use Rattle.recording.specs.declared.Answer.{Answer}
 use Rattle.recording.specs.declared.Answer.the-variants.{Done, Refused}
 use Rattle.recording.specs.Answers.{number}
 use Rattle.recording.specs.Marks.{measured, notReceived, made}
+use Rattle.recording.specs.Counts.{miscounted, counted, recounted}
 
 -- ---- The recording
 
--- "Samples: .. words of 32 bits", "Marks: one byte per sample", "Journal: lent 32-bit words and a used count"
+-- "Samples: .. words of 32 bits", "Marks: one byte per sample", "Journal: lent 32-bit words and a used count"; request P5: "beside the
+-- marks a count for each block"
 pub record State : Type 0 where
   pub samples : List ℕ
   pub marks : List ℕ
+  pub counts : List ℕ
   pub journal : List ℕ
   pub used : ℕ
 
-abbrev pub state : List ℕ → List ℕ → List ℕ → ℕ → State
-state s m j u = record { samples = s; marks = m; journal = j; used = u }
+abbrev pub state : List ℕ → List ℕ → List ℕ → List ℕ → ℕ → State
+state s m c j u = record { samples = s; marks = m; counts = c; journal = j; used = u }
 
 -- "at most 1,048,576"
 abbrev pub mostSamples : ℕ
@@ -42,13 +45,17 @@ pub record Ended : Type 0 where
 abbrev pub ended : Answer → State → Ended
 ended a s = record { answer = a; after = s }
 
--- "All refusals keep samples, marks, journal and used."
+-- "All refusals keep samples, marks, journal and used.", and the counts
 abbrev pub refused : State → Reason → Ended
 refused s why = ended (Refused why) s
 
 -- 1: "marks and samples differ in number"
 abbrev pub differ : State → Bool
 differ s = not (eqb (length (s .marks)) (length (s .samples)))
+
+-- request P5, 14: "wrong number of counts"
+abbrev pub countsWrong : State → Bool
+countsWrong s = miscounted (length (s .samples)) (s .counts)
 
 -- 2: "more than 1,048,576 samples"
 abbrev pub tooMany : State → Bool
@@ -63,14 +70,15 @@ abbrev pub orElse : Answer → Answer → Answer
 orElse (Done m) later = later
 orElse (Refused why) later = Refused why
 
--- the refusal among 1 and 2, or else an acceptance
+-- the refusal among 1, 14 and 2, or else an acceptance: 14 is given "after 1"
 unfoldable pub alike : State → Answer
 alike s =
     if differ s then Refused Counts else
+    if countsWrong s then Refused Blocks else
     if tooMany s then Refused TooMany else
     Done 0
 
--- the refusal among 1 to 3, or else an acceptance
+-- the refusal among 1, 14, 2 and 3, or else an acceptance
 unfoldable pub fitting : State → Answer
 unfolding alike
 fitting s = orElse (alike s) (if overUsed s then Refused Used else Done 0)
@@ -138,11 +146,17 @@ unfoldable pub entry : State → ℕ → List ℕ → List ℕ
 unfolding saved
 entry s mark is = threeWords (saved (s .samples) (s .marks) is) ++ (length is ∷ mark ∷ [])
 
--- the entry is appended, and the named samples get their words and the mark
+-- request P5: "an accepted repair or undo recounts the blocks of its samples and no others", once these marks stand at their places
+unfoldable pub recountedBy : List Placed → State → List ℕ
+unfolding put recounted
+recountedBy ms s = recounted (put ms (s .marks)) (places ms) (s .counts)
+
+-- the entry is appended, the named samples get their words and the mark, and their blocks are recounted
 unfoldable pub committed : State → ℕ → List Placed → State
-unfolding entry put
+unfolding entry put recountedBy
 committed s mark cs =
-    state (put cs (s .samples)) (put (each mark (places cs)) (s .marks)) (sets (s .journal) (s .used) (entry s mark (places cs)))
+    let ms = each mark (places cs) in
+    state (put cs (s .samples)) (put ms (s .marks)) (recountedBy ms s) (sets (s .journal) (s .used) (entry s mark (places cs)))
     (s .used + entrySize (length cs))
 
 -- ---- A repair: its rule, and refusals 7, 8 and 9
@@ -186,7 +200,7 @@ unfolding ranged entered
 carried s (refuse why) = refused s why
 carried s (change mark cs) = unlessRefused (ranged cs) s (entered s mark cs)
 
--- refusals 1 to 3, and then the plan
+-- refusals 1, 14, 2 and 3, and then the plan
 unfoldable pub performed : State → Plan → Ended
 unfolding fitting carried
 performed s p = unlessRefused (fitting s) s (carried s p)
@@ -211,11 +225,11 @@ workAfter nought n a work = if clears a then cleared nought n work else work
 
 -- ---- Opening
 
--- "all journal words to 0 and used to 0", under these raw marks
+-- "all journal words to 0 and used to 0", under these raw marks; request P5: "Opening sets" the counts
 abbrev pub blank : List ℕ → State → State
-blank marks s = state (s .samples) marks (replicate (length (s .journal)) 0) 0
+blank marks s = state (s .samples) marks (counted marks) (replicate (length (s .journal)) 0) 0
 
--- "It gives refusals 1 and 2 only, and returns 0 when accepted."
+-- "It gives refusals 1 and 2 only, and returns 0 when accepted." Request P5: 14 is "given by opening and undo too".
 unfoldable pub openedWith : List ℕ → State → Ended
 unfolding alike
 openedWith marks s = unlessRefused (alike s) s (ended (Done 0) (blank marks s))
@@ -298,16 +312,18 @@ abbrev pub oldMarks : List Saved → List Placed
 oldMarks [] = []
 oldMarks (t ∷ ts) = record { place = t .place; value = t .mark } ∷ oldMarks ts
 
--- "words and marks return, used falls by 3m+2, and the freed journal words become 0"
+-- "words and marks return, used falls by 3m+2, and the freed journal words become 0"; and the blocks of its samples are recounted
 unfoldable pub takenBack : State → State
-unfolding lastSaved put
+unfolding lastSaved put recountedBy
 takenBack s =
     let m = lastCount (s .journal) (s .used) in
     let begin = lastBegin (s .journal) (s .used) in
     let olds = lastSaved (s .journal) (s .used) in
-    state (put (oldWords olds) (s .samples)) (put (oldMarks olds) (s .marks)) (sets (s .journal) begin (replicate (entrySize m) 0)) begin
+    let ms = oldMarks olds in
+    state (put (oldWords olds) (s .samples)) (put ms (s .marks)) (recountedBy ms s) (sets (s .journal) begin (replicate (entrySize m) 0))
+    begin
 
--- "Undo can give 1, 2, 3, 10, 11." 10: "undo with used 0"
+-- "Undo can give 1, 2, 3, 10, 11.", and 14 by request P5. 10: "undo with used 0"
 unfoldable pub undone : State → Ended
 unfolding fitting malformed takenBack
 undone s =

@@ -1,4 +1,5 @@
-// The commit of an accepted repair: its named samples are saved in the journal, marked and written.
+// The commit of an accepted repair: its named samples are saved in the journal, marked and written, and
+// their blocks are recounted.
 ghost use Prim.Native.Nat.{ℕ, _+_, _*_, _≤_, _<_};
 ghost use mathlib.Core.Path.{_≡_};
 ghost use mathlib.Core.List.{List, [], _∷_};
@@ -10,6 +11,7 @@ ghost use Rattle.recording.specs.Inner.{Fits, consecutive, filled, picke
 use super::Answer;
 use super::Reason;
 use super::clear::set_marks;
+use super::counts::recount;
 use leaves::words::in_range;
 
 // Place, old word and old mark of one sample, written from journal word `at` on.
@@ -61,15 +63,17 @@ fn save_span(
 pub fn enter_span(
     samples: &[u32],
     marks: &mut [u8],
+    counts: &mut [u16],
     journal: &mut [u32],
     used: &mut usize,
     start: usize,
     len: usize,
     mark: u8,
 ) -> Answer
-    requires { ⌜ Fits (given samples marks journal used) × (start + len ≤ length (now samples)) ⌝ }
+    requires { ⌜ Fits (given samples marks counts journal used) × (start + len ≤ length (now samples)) ⌝ }
     ensures { λ r. ⌜ ((words : List ℕ) → length words ≡ len
-        → ended r (filled r start words (leftReading samples marks journal used)) ≡ entered (lent samples marks journal used) mark (span start words)) ⌝ }
+        → ended r (filled r start words (leftReading samples marks counts journal used))
+        ≡ entered (lent samples marks counts journal used) mark (span start words)) ⌝ }
 {
     if len == 0 {
         return Answer::Done(0);
@@ -80,6 +84,7 @@ pub fn enter_span(
     }
     save_span(samples, marks, journal, at, start, len);
     set_marks(marks, start, len, mark);
+    recount(marks, counts, journal, at, len);
     seal(journal, used, len, mark);
     Answer::Done(len)
 }
@@ -161,18 +166,19 @@ fn write_picked(samples: &mut [u32], marks: &mut [u8], work: &[u32], mark: u8)
 }
 
 // Commits a repair whose named samples and new words stand in a workspace of 2n words (see `pickedBy`):
-// refusals 8 and 9 in their order, and else the entry, the marks and the words.
+// refusals 8 and 9 in their order, and else the entry, the marks, the counts and the words.
 pub fn commit_picked(
     samples: &mut [u32],
     marks: &mut [u8],
+    counts: &mut [u16],
     journal: &mut [u32],
     used: &mut usize,
     work: &[u32],
     mark: u8,
 ) -> Answer
-    requires { ⌜ Fits (given samples marks journal used) × (length (now samples) + length (now samples) ≤ length (now work)) ⌝ }
-    ensures { λ r. ⌜ ended r (left samples marks journal used)
-        ≡ carried (lent samples marks journal used) (change mark (pickedBy (now (work .entry)) (length (now (samples .entry))))) ⌝ }
+    requires { ⌜ Fits (given samples marks counts journal used) × (length (now samples) + length (now samples) ≤ length (now work)) ⌝ }
+    ensures { λ r. ⌜ ended r (left samples marks counts journal used)
+        ≡ carried (lent samples marks counts journal used) (change mark (pickedBy (now (work .entry)) (length (now (samples .entry))))) ⌝ }
 {
     let n = samples.len();
     let checked = check_picked(work, n);
@@ -189,6 +195,7 @@ pub fn commit_picked(
     }
     save_picked(samples, marks, journal, at, work);
     write_picked(samples, marks, work, mark);
+    recount(marks, counts, journal, at, m);
     seal(journal, used, m, mark);
     Answer::Done(m)
 }

@@ -1,11 +1,13 @@
-// The recording: samples, a mark for each that says measured or made, and a journal of what repairs
-// overwrote. Here are the answers that every call gives, opening, the commit of an accepted repair,
-// and undo.
+// The recording: samples, a mark for each that says measured or made, a count for each block of marks, and
+// a journal of what repairs overwrote. Here are the answers that every call gives, opening, the commit of
+// an accepted repair, undo, and the question whether a span was measured.
 pub mod clear;
 pub mod commit;
+pub mod counts;
 pub mod marks;
 pub mod numbers;
 pub mod open;
+pub mod question;
 pub mod read;
 pub mod undo;
 
@@ -36,10 +38,19 @@ pub enum Reason {
     Malformed,
     // 12: the bus's input is not whole frames, or the room for its samples or marks is short.
     Frames,
+    // 14: the number of counts is not that of the blocks.
+    Blocks,
 }
 
 // How a call ends: accepted, with the number of samples that it named or took back, or refused.
 pub enum Answer {
     Done(usize),
     Refused(Reason),
+}
+
+// What the question whether a span was measured gives: an answer, or why it is turned away.
+pub enum Verdict {
+    Yes,
+    No,
+    TurnedAway(Reason),
 }

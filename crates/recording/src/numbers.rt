@@ -1,8 +1,9 @@
 // An answer as document 01's number and value, for callers that take numbers.
 ghost use mathlib.Core.Path.{_≡_};
-ghost use Rattle.recording.specs.Answers.{reasonNumber, reasonPlace, number, value};
+ghost use Rattle.recording.specs.Answers.{reasonNumber, reasonPlace, number, value, verdictNumber, verdictYes};
 use super::Answer;
 use super::Reason;
+use super::Verdict;
 
 // The table's number of a reason.
 fn reason_number(why: Reason) -> u32
@@ -21,6 +22,7 @@ fn reason_number(why: Reason) -> u32
         Reason::Nothing => 10,
         Reason::Malformed => 11,
         Reason::Frames => 12,
+        Reason::Blocks => 14,
     }
 }
 
@@ -41,6 +43,7 @@ fn reason_place(why: Reason) -> usize
         Reason::Nothing => 0,
         Reason::Malformed => 0,
         Reason::Frames => 0,
+        Reason::Blocks => 0,
     }
 }
 
@@ -61,5 +64,27 @@ pub fn value_of(answer: Answer) -> usize
     match answer {
         Answer::Done(m) => m,
         Answer::Refused(why) => reason_place(why),
+    }
+}
+
+// 0 where the question of a span is answered, and else the number of the refusal.
+pub fn verdict_number(verdict: Verdict) -> u32
+    ensures { λ r. ⌜ r ≡ verdictNumber verdict ⌝ }
+{
+    match verdict {
+        Verdict::Yes => 0,
+        Verdict::No => 0,
+        Verdict::TurnedAway(why) => reason_number(why),
+    }
+}
+
+// 1 for yes, and 0 for no and for a refusal.
+pub fn verdict_yes(verdict: Verdict) -> u32
+    ensures { λ r. ⌜ r ≡ verdictYes verdict ⌝ }
+{
+    match verdict {
+        Verdict::Yes => 1,
+        Verdict::No => 0,
+        Verdict::TurnedAway(_) => 0,
     }
 }

@@ -2,25 +2,31 @@
 ghost use mathlib.Core.Path.{_≡_};
 ghost use mathlib.Core.List.{[], map};
 ghost use lib.ListN.{length, replicate};
+ghost use Rattle.recording.specs.Counts.{blocks, counted};
 ghost use Rattle.recording.specs.Recording.{state, ended, alike, fitting, opened, keptMark, openedReceived};
 ghost use Rattle.recording.specs.Lent.{lent, leftReading, seen};
 use super::Answer;
 use super::Reason;
 use super::clear::clear_words;
 use super::clear::set_marks;
+use super::counts::block_count;
+use super::counts::count_all;
 use super::marks::MEASURED;
 use super::marks::NOT_RECEIVED;
 
 // The number of samples that a recording has at most.
 pub const MOST_SAMPLES: usize = 1_048_576;
 
-// Refusals 1 and 2, in this order; accepted, with 0, where neither of them applies. Journal and used have
+// Refusals 1, 14 and 2, in this order; accepted, with 0, where none of them applies. Journal and used have
 // no say in them.
-fn check_counts(samples: &[u32], marks: &[u8]) -> Answer
-    ensures { λ r. ⌜ r ≡ alike (state (now (samples .entry)) (now (marks .entry)) [] 0) ⌝ }
+fn check_counts(samples: &[u32], marks: &[u8], counts: &[u16]) -> Answer
+    ensures { λ r. ⌜ r ≡ alike (state (now (samples .entry)) (now (marks .entry)) (now (counts .entry)) [] 0) ⌝ }
 {
     if marks.len() != samples.len() {
         return Answer::Refused(Reason::Counts);
+    }
+    if counts.len() != block_count(samples.len()) {
+        return Answer::Refused(Reason::Blocks);
     }
     if MOST_SAMPLES < samples.len() {
         return Answer::Refused(Reason::TooMany);
@@ -28,11 +34,17 @@ fn check_counts(samples: &[u32], marks: &[u8]) -> Answer
     Answer::Done(0)
 }
 
-// Refusals 1, 2 and 3, in this order; accepted, with 0, where none of them applies.
-pub fn check_sizes(samples: &[u32], marks: &[u8], journal: &[u32], used: usize) -> Answer
-    ensures { λ r. ⌜ r ≡ fitting (seen samples marks journal used) ⌝ }
+// Refusals 1, 14, 2 and 3, in this order; accepted, with 0, where none of them applies.
+pub fn check_sizes(
+    samples: &[u32],
+    marks: &[u8],
+    counts: &[u16],
+    journal: &[u32],
+    used: usize,
+) -> Answer
+    ensures { λ r. ⌜ r ≡ fitting (seen samples marks counts journal used) ⌝ }
 {
-    let counted = check_counts(samples, marks);
+    let counted = check_counts(samples, marks, counts);
     let Answer::Done(_) = counted else {
         return counted;
     };
@@ -51,18 +63,34 @@ fn empty_journal(journal: &mut [u32], used: &mut usize)
     *used = 0;
 }
 
-// Opens a recording: every mark says measured, and the journal is empty. Whatever stood in marks,
-// journal and used is lost, so that only refusals 1 and 2 can be given.
-pub fn open(samples: &[u32], marks: &mut [u8], journal: &mut [u32], used: &mut usize) -> Answer
-    ensures { λ r. ⌜ ended r (leftReading samples marks journal used) ≡ opened (lent samples marks journal used) ⌝ }
+// What both openings do once the marks stand: every block is counted, and the journal is emptied.
+fn begin_afresh(marks: &[u8], counts: &mut [u16], journal: &mut [u32], used: &mut usize)
+    requires { ⌜ length (now counts) ≡ blocks (length (now marks)) ⌝ }
+    ensures { λ _. ⌜ (now (counts .exit) ≡ counted (now (marks .entry)))
+        × (now (journal .exit) ≡ replicate (length (now (journal .entry))) 0) × (now (used .exit) ≡ 0) ⌝ }
 {
-    let counted = check_counts(samples, marks);
+    count_all(marks, counts);
+    empty_journal(journal, used);
+}
+
+// Opens a recording: every mark says measured, every block is counted, and the journal is empty. Whatever
+// stood in marks, counts, journal and used is lost, so that only refusals 1, 14 and 2 can be given.
+pub fn open(
+    samples: &[u32],
+    marks: &mut [u8],
+    counts: &mut [u16],
+    journal: &mut [u32],
+    used: &mut usize,
+) -> Answer
+    ensures { λ r. ⌜ ended r (leftReading samples marks counts journal used) ≡ opened (lent samples marks counts journal used) ⌝ }
+{
+    let counted = check_counts(samples, marks, counts);
     let Answer::Done(_) = counted else {
         return counted;
     };
     let count = marks.len();
     set_marks(marks, 0, count, MEASURED);
-    empty_journal(journal, used);
+    begin_afresh(marks, counts, journal, used);
     Answer::Done(0)
 }
 
@@ -93,16 +121,17 @@ fn keep_received(marks: &mut [u8])
 pub fn open_received(
     samples: &[u32],
     marks: &mut [u8],
+    counts: &mut [u16],
     journal: &mut [u32],
     used: &mut usize,
 ) -> Answer
-    ensures { λ r. ⌜ ended r (leftReading samples marks journal used) ≡ openedReceived (lent samples marks journal used) ⌝ }
+    ensures { λ r. ⌜ ended r (leftReading samples marks counts journal used) ≡ openedReceived (lent samples marks counts journal used) ⌝ }
 {
-    let counted = check_counts(samples, marks);
+    let counted = check_counts(samples, marks, counts);
     let Answer::Done(_) = counted else {
         return counted;
     };
     keep_received(marks);
-    empty_journal(journal, used);
+    begin_afresh(marks, counts, journal, used);
     Answer::Done(0)
 }

@@ -8,6 +8,7 @@ ghost use Rattle.recording.specs.Inner.{anyWrong, Restorable};
 use super::Answer;
 use super::Reason;
 use super::clear::clear_words;
+use super::counts::recount;
 use super::marks::is_made;
 use super::open::check_sizes;
 
@@ -88,13 +89,19 @@ fn give_back(samples: &mut [u32], marks: &mut [u8], journal: &[u32], begin: usiz
     }
 }
 
-// Takes back the last entry: its samples get their old words and marks, and its journal words become 0
-// and free. Any journal whatever is answered, also one that no repair wrote.
-pub fn undo(samples: &mut [u32], marks: &mut [u8], journal: &mut [u32], used: &mut usize) -> Answer
-    ensures { λ r. ⌜ ended r (left samples marks journal used) ≡ undone (lent samples marks journal used) ⌝ }
+// Takes back the last entry: its samples get their old words and marks, their blocks are recounted, and its
+// journal words become 0 and free. Any journal whatever is answered, also one that no repair wrote.
+pub fn undo(
+    samples: &mut [u32],
+    marks: &mut [u8],
+    counts: &mut [u16],
+    journal: &mut [u32],
+    used: &mut usize,
+) -> Answer
+    ensures { λ r. ⌜ ended r (left samples marks counts journal used) ≡ undone (lent samples marks counts journal used) ⌝ }
 {
     let end = *used;
-    let sized = check_sizes(samples, marks, journal, end);
+    let sized = check_sizes(samples, marks, counts, journal, end);
     let Answer::Done(_) = sized else {
         return sized;
     };
@@ -107,6 +114,7 @@ pub fn undo(samples: &mut [u32], marks: &mut [u8], journal: &mut [u32], used: &m
     let m = index(journal[end - 2]);
     let begin = end - (3 * m + 2);
     give_back(samples, marks, journal, begin, m);
+    recount(marks, counts, journal, begin, m);
     clear_words(journal, begin, 3 * m + 2);
     *used = begin;
     Answer::Done(m)

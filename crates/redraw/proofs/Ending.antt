@@ -27,7 +27,7 @@ use Rattle.redraw.proofs.Workspace.{room-stays}
 use Rattle.redraw.specs.Whole.{Drawn, untouched, needed, wholePlan}
 use Rattle.redraw.specs.Inner.{begun, Begun, wordsIn, drawnIn, Holds, Room}
 
--- ---- Refusals 1 to 4, 6 and 7
+-- ---- Refusals 1, 14 and 2 to 4, 6 and 7
 
 -- their tests, with what they test under other names
 abbrev first : Answer → Bool → Bool → Answer → Answer

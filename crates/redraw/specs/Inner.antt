@@ -13,7 +13,7 @@ use Rattle.recording.specs.declared.Answer.{Answer}
 use Rattle.recording.specs.declared.Answer.the-variants.{Done, Refused}
 use Rattle.redraw.specs.Whole.{Drawn, drawn, untouched, needed}
 
--- refusals 1 to 4, 6 and 7, in this order; or else an acceptance
+-- refusals 1, 14 and 2 to 4, 6 and 7, in this order; or else an acceptance
 unfoldable pub begun : Bool → ℕ → State → Answer
 unfolding fitting readable
 begun allowed room s =

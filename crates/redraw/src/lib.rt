@@ -29,19 +29,20 @@ fn lay_out(samples: &[u32], work: &mut [u32])
     clear_words(work, n, n);
 }
 
-// Refusals 1 to 4, 6 and 7, in this order; where none applies the workspace holds the samples.
+// Refusals 1, 14, 2 to 4, 6 and 7, in this order; where none applies the workspace holds the samples.
 pub fn begin(
     samples: &[u32],
     marks: &[u8],
+    counts: &[u16],
     journal: &[u32],
     used: usize,
     allowed: bool,
     work: &mut [u32],
 ) -> Answer
-    ensures { λ r. ⌜ (r ≡ begun allowed (length (now (work .entry))) (seen samples marks journal used))
+    ensures { λ r. ⌜ (r ≡ begun allowed (length (now (work .entry))) (seen samples marks counts journal used))
         × Begun r (now (samples .entry)) (now (work .entry)) (now (work .exit)) ⌝ }
 {
-    let sized = check_sizes(samples, marks, journal, used);
+    let sized = check_sizes(samples, marks, counts, journal, used);
     let Answer::Done(_) = sized else {
         return sized;
     };
@@ -63,18 +64,19 @@ pub fn begin(
 pub fn finish(
     samples: &mut [u32],
     marks: &mut [u8],
+    counts: &mut [u16],
     journal: &mut [u32],
     used: &mut usize,
     work: &mut [u32],
     mark: u8,
 ) -> Answer
-    requires { ⌜ Fits (given samples marks journal used) × (needed (length (now samples)) ≤ length (now work)) ⌝ }
-    ensures { λ r. ⌜ (ended r (left samples marks journal used)
-        ≡ carried (lent samples marks journal used) (change mark (pickedBy (now (work .entry)) (length (now (samples .entry))))))
+    requires { ⌜ Fits (given samples marks counts journal used) × (needed (length (now samples)) ≤ length (now work)) ⌝ }
+    ensures { λ r. ⌜ (ended r (left samples marks counts journal used)
+        ≡ carried (lent samples marks counts journal used) (change mark (pickedBy (now (work .entry)) (length (now (samples .entry))))))
         × (now (work .exit) ≡ cleared 0 (needed (length (now (samples .entry)))) (now (work .entry))) ⌝ }
 {
     let n = samples.len();
-    let answer = commit_picked(samples, marks, journal, used, work, mark);
+    let answer = commit_picked(samples, marks, counts, journal, used, work, mark);
     clear_words(work, 0, 2 * n);
     answer
 }

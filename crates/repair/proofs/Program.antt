@@ -7,9 +7,8 @@ use lib.Seq.{sets}
 use lib.Ieee.{Float, binary64, ofBits}
 use Rattle.leaves.specs.Arithmetic.{nought}
 use Rattle.leaves.proofs.Stores.{stored-over}
-use Rattle.recording.specs.History.{fresh}
 use Rattle.inpaint.specs.Auto.{Scan}
-use Rattle.monitor.specs.Scanning.{journalWords, workspace, reportOf}
+use Rattle.monitor.specs.Scanning.{unopened, workspace, reportOf}
 use Rattle.monitor.proofs.Scanning.{empty-work}
 use Rattle.wire.specs.Wire.{decoded}
 use Rattle.wire.proofs.Laws.{length-decoded}
@@ -18,11 +17,11 @@ use Rattle.repair.specs.Program.{repairing, reported}
 -- all samples are decoded, and the code's workspace begins with its 0.0
 pub reports : (bytes before words marks : List ℕ) (scanned : Scan) → length marks ≡ length before
     → words ≡ sets before 0 (decoded bytes 0 (length before))
-    → scanned ≡ repairing (replicate workspace (ofBits binary64 0)) (fresh words marks journalWords)
+    → scanned ≡ repairing (replicate workspace (ofBits binary64 0)) (unopened words marks)
     → reportOf scanned ≡ reported bytes marks
 unfolding reported
 reports bytes before words marks scanned count read h =
-    let repaired : List Float → List ℕ → Scan = λ work l. repairing work (fresh l marks journalWords) in
+    let repaired : List Float → List ℕ → Scan = λ work l. repairing work (unopened l marks) in
     let empty : List Float = replicate workspace nought in
     let whole : words ≡ decoded bytes 0 (length before) =
     read ∙ stored-over before (decoded bytes 0 (length before)) (length-decoded bytes 0 (length before)) in

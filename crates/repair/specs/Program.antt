@@ -8,9 +8,8 @@ use lib.Dec.{ltb, eqb}
 use lib.Ieee.{Float}
 use Rattle.leaves.specs.Arithmetic.{nought}
 use Rattle.recording.specs.Recording.{State, opened}
-use Rattle.recording.specs.History.{fresh}
 use Rattle.inpaint.specs.Auto.{Scan}
-use Rattle.monitor.specs.Scanning.{mostInput, journalWords, workspace, scanning, Report, reportOf}
+use Rattle.monitor.specs.Scanning.{mostInput, unopened, workspace, scanning, Report, reportOf}
 use Rattle.wire.specs.Wire.{decoded}
 
 -- "Input over 4,096 samples or not a multiple of 4 bytes"
@@ -22,10 +21,10 @@ unfoldable pub repairing : List Float → State → Scan
 unfolding opened scanning
 repairing work s = scanning work (opened s .after)
 
--- the report of an input, "little-endian f32 words", with lent marks for its samples, an empty journal and an empty workspace of the
--- program's own
+-- the report of an input, "little-endian f32 words", with lent marks for its samples, and counts, an empty journal and an empty
+-- workspace of the program's own
 unfoldable pub reported : List ℕ → List ℕ → Report
 unfolding decoded repairing
 reported bytes marks =
     let words = decoded bytes 0 (length marks) in
-    reportOf (repairing (replicate workspace nought) (fresh words marks journalWords))
+    reportOf (repairing (replicate workspace nought) (unopened words marks))

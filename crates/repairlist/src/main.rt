@@ -27,8 +27,11 @@ use recording::marks::MEASURED;
 use recording::numbers::number_of;
 use recording::numbers::value_of;
 
-// How many samples a recording of the list has at most; what its journal and its workspaces hold.
+// How many samples a recording of the list has, at least one and at most this; its counts, of one block; what its
+// journal and its workspaces hold.
 const MOST: usize = 120;
+
+const COUNTS: usize = 1;
 
 const JOURNAL_WORDS: usize = 512;
 
@@ -200,6 +203,7 @@ fn repair_gap(
     passes: u32,
     samples: &mut [u32],
     marks: &mut [u8],
+    counts: &mut [u16],
     journal: &mut [u32],
 ) -> Answered {
     let mut work = [1.5f64; WORKSPACE];
@@ -207,6 +211,7 @@ fn repair_gap(
     of_repair(inpaint_gap(
         samples,
         marks,
+        counts,
         journal,
         &mut used,
         start as usize,
@@ -222,12 +227,22 @@ fn scan(
     limit: u32,
     samples: &mut [u32],
     marks: &mut [u8],
+    counts: &mut [u16],
     journal: &mut [u32],
 ) -> Answered {
     let mut work = [1.5f64; WORKSPACE];
     let mut used: usize = 0;
     let millis = f32_of_word(limit);
-    of_scan(inpaint_auto(samples, marks, journal, &mut used, rate, millis, &mut work))
+    of_scan(inpaint_auto(
+        samples,
+        marks,
+        counts,
+        journal,
+        &mut used,
+        rate,
+        millis,
+        &mut work,
+    ))
 }
 
 // Repairs a recording over the whole of it, as a case's letter and its three settings say.
@@ -238,6 +253,7 @@ fn repair_whole(
     third: u32,
     samples: &mut [u32],
     marks: &mut [u8],
+    counts: &mut [u16],
     journal: &mut [u32],
     work: &mut [u32],
 ) -> Answer {
@@ -245,10 +261,10 @@ fn repair_whole(
     let b = f32_of_word(second);
     let mut used: usize = 0;
     match letter {
-        b'd' => declip::declip(samples, marks, journal, &mut used, a, work),
-        b'c' => decrackle::decrackle(samples, marks, journal, &mut used, a, work),
-        b'q' => dequantize(samples, marks, journal, &mut used, first, b, work),
-        _ => dequantize_cosparse(samples, marks, journal, &mut used, first, b, third, work),
+        b'd' => declip::declip(samples, marks, counts, journal, &mut used, a, work),
+        b'c' => decrackle::decrackle(samples, marks, counts, journal, &mut used, a, work),
+        b'q' => dequantize(samples, marks, counts, journal, &mut used, first, b, work),
+        _ => dequantize_cosparse(samples, marks, counts, journal, &mut used, first, b, third, work),
     }
 }
 
@@ -260,10 +276,11 @@ fn repair(list: &[u8], at: usize, samples: &mut [u32], marks: &mut [u8]) -> Answ
     let first = told_word(list, at, 0);
     let second = told_word(list, at, 1);
     let third = told_word(list, at, 2);
+    let mut counts = [0u16; COUNTS];
     let mut journal = [0u32; JOURNAL_WORDS];
     match letter {
-        b'g' => repair_gap(first, second, third, samples, marks, &mut journal),
-        b's' => scan(first, second, samples, marks, &mut journal),
+        b'g' => repair_gap(first, second, third, samples, marks, &mut counts, &mut journal),
+        b's' => scan(first, second, samples, marks, &mut counts, &mut journal),
         _ => {
             let mut work = [7u32; WORKSPACE_WORDS];
             of_repair(repair_whole(
@@ -273,6 +290,7 @@ fn repair(list: &[u8], at: usize, samples: &mut [u32], marks: &mut [u8]) -> Answ
                 third,
                 samples,
                 marks,
+                &mut counts,
                 &mut journal,
                 &mut work,
             ))

@@ -166,7 +166,7 @@ pub limit-is : (ms : Float) (rate : ℕ) (k l : Float) (r : ℕ) → k ≡ count
     → r ≡ toUnsigned 64 l → r ≡ limit ms rate
 limit-is ms rate k l r a b c = c ∙ ap (toUnsigned 64) (b ∙ rw (a, thousand, one-word) refl) ∙ limit-opened ms rate
 
--- ---- refusals 1 to 4
+-- ---- refusals 1, 14 and 2 to 4
 
 abbrev settled : ℕ → Float → Answer → Answer
 settled rate ms sized =

@@ -9,14 +9,18 @@ use native.Mathlib.Nat.{add-zero, sub-zero}
 use native.Mathlib.Numerals.{add-one}
 use borrow.Author.Tests.{lt-ltb, le-ltb, eq-eqb, ne-eqb}
 use lib.Dec.{eqb}
-use lib.ListN.{length, set, getD, take, drop, replicate}
-use lib.Seq.{sets, drop-cons}
+use lib.ListN.{length, set, getD, take, drop, replicate, length-take, length-replicate}
+use lib.Seq.{sets, length-sets, drop-cons}
 use Rattle.leaves.specs.Floats.{inRange}
 use Rattle.recording.specs.Recording.{State, state, ended, refused, Placed, places, put, each, saved, threeWords}
-use Rattle.recording.specs.Recording.{entrySize, entry, committed, entered, ranged, change, span, picked, carried}
-use Rattle.recording.specs.Inner.{consecutive, flags, pickedBy, pickedFrom, filled}
-use Rattle.recording.proofs.Put.{length-places}
-use Rattle.recording.proofs.Journal.{length-saved, length-threeWords}
+use Rattle.recording.specs.Recording.{entrySize, entry, recountedBy, committed, entered, ranged, change, span, picked, carried, savedAt, oldMarks}
+use Rattle.recording.specs.Counts.{recounted}
+use Rattle.recording.specs.Inner.{consecutive, flags, pickedBy, pickedFrom, filled, Fits, Recountable}
+use Rattle.recording.specs.History.{Ascending}
+use Rattle.recording.proofs.Put.{length-places, places-each, places-valued, marks-kept}
+use Rattle.recording.proofs.Journal.{length-saved, length-threeWords, read-saved, none-past}
+use Rattle.recording.proofs.Performing.{span-ascends, picked-ascends}
+use Rattle.leaves.proofs.Lists.{read-within}
 use Rattle.recording.specs.declared.Reason.{Reason}
 use Rattle.recording.specs.declared.Reason.the-variants.{Result, Room}
 use Rattle.recording.specs.declared.Answer.{Answer}
@@ -202,6 +206,68 @@ few-from work n i (suc left) = at-most (eqb (getD work (n + i) 0) 0) _ _ left (f
 pub picked-few : (m : ℕ) (work : List ℕ) (n : ℕ) → m ≡ length (pickedBy work n) → n + n ≤ length work → m ≤ n
 picked-few m work n e h = rw (e, ← picked-all work n h, sub-zero) (few-from work n 0 n)
 
+-- ---- The blocks of the named samples
+
+-- samples that were saved are read where they were saved
+saved-there : (j words marks is : List ℕ) (u : ℕ) → u + 3 * length is ≤ length j
+    → savedAt (sets j u (threeWords (saved words marks is))) u (length is) ≡ saved words marks is
+saved-there j words marks is u room =
+    let ts = saved words marks is in
+    let size : length (threeWords ts) ≡ 3 * length is = simp (length-threeWords, length-saved) in
+    rw length-saved at
+    (read-saved (sets j u (threeWords ts)) u ts (λ i h. read-within j (threeWords ts) u i 0 (omega arith) h))
+
+-- so recounting their blocks is recounting those of their places
+places-there : (j words marks is : List ℕ) (u : ℕ) → u + 3 * length is ≤ length j
+    → places (oldMarks (savedAt (sets j u (threeWords (saved words marks is))) u (length is))) ≡ is
+places-there j words marks is u room = rw (saved-there j words marks is u room, marks-kept, places-valued) refl
+
+-- and it can be done, where they ascend: under marks of the same number
+pub named-recountable : (s : State) (cs : List Placed) (m : ℕ) (marks middle : List ℕ) → Fits s → Ascending (length (s .samples)) 0 cs
+    → m ≡ length cs
+    → entrySize m ≤ length (s .journal) - s .used
+    → length marks ≡ length (s .marks)
+    → middle ≡ sets (s .journal) (s .used) (threeWords (saved (s .samples) (s .marks) (places cs)))
+    → Recountable marks (s .counts) middle (s .used) m
+named-recountable s cs m marks middle fits ascend count h long em =
+    let same : length marks ≡ length (s .samples) = long ∙ fits .marked in
+    let named : m ≡ length (places cs) = count ∙ sym (length-places cs) in
+    let room : s .used + 3 * length (places cs) ≤ length (s .journal) = omega arith in
+    let read = saved-there (s .journal) (s .samples) (s .marks) (places cs) (s .used) room in
+    record {
+      counted = rw same (fits .counted);
+      there = rw (em, length-sets) (omega arith);
+      places = rw (same, named, em, read) (none-past (length (s .samples)) 0 (s .samples) (s .marks) cs ascend);
+    }
+
+-- of a span
+pub span-recountable : (s : State) (start len : ℕ) (marks middle : List ℕ) → Fits s → start + len ≤ length (s .samples)
+    → entrySize len ≤ length (s .journal) - s .used
+    → length marks ≡ length (s .marks)
+    → middle ≡ sets (s .journal) (s .used) (threeWords (saved (s .samples) (s .marks) (consecutive start len)))
+    → Recountable marks (s .counts) middle (s .used) len
+span-recountable s start len marks middle fits within h long em =
+    let words = replicate len 0 in
+    let size : length words ≡ len = length-replicate len 0 in
+    let named : consecutive start len ≡ places (span start words) = sym (places-span start words ∙ ap (consecutive start) size) in
+    named-recountable s (span start words) len marks middle fits (span-ascends (length (s .samples)) 0 start words (omega arith) (omega arith))
+    (sym (length-span start words ∙ size)) h long (rw named at em)
+
+-- of a workspace
+pub picked-recountable : (s : State) (work : List ℕ) (m : ℕ) (marks middle : List ℕ) → Fits s
+    → m ≡ length (pickedBy work (length (s .samples)))
+    → entrySize m ≤ length (s .journal) - s .used
+    → length marks ≡ length (s .marks)
+    → middle ≡ sets (s .journal) (s .used) (threeWords (saved (s .samples) (s .marks) (places (pickedBy work (length (s .samples))))))
+    → Recountable marks (s .counts) middle (s .used) m
+picked-recountable s work m marks middle fits count h long em =
+    named-recountable s (pickedBy work (length (s .samples))) m marks middle fits ascends count h long em
+  where
+    ascends : Ascending (length (s .samples)) 0 (pickedBy work (length (s .samples)))
+    ascends =
+        unfold pickedBy in
+        picked-ascends (length (s .samples)) 0 0 _ (take (length (s .samples)) work) (omega arith) (omega (arith, length-take (length (s .samples)) work))
+
 -- ---- How a commit ends
 
 -- the saved samples, with m and the mark behind them, are the entry
@@ -237,18 +303,25 @@ module _ (s : State) (mark : ℕ) (cs : List Placed) where
     entered-room h = rw (ne-eqb _ _ some, lt-ltb _ _ h) refl
 
     -- words, marks, entry and used, with m under another name
-    pub entered-done : (m : ℕ) (samples marks middle journal : List ℕ) (used : ℕ) → m ≡ length cs → entrySize m ≤ length (s .journal) - s .used
+    pub entered-done : (m : ℕ) (samples marks counts middle journal : List ℕ) (used : ℕ)
+        → m ≡ length cs
+        → entrySize m ≤ length (s .journal) - s .used
         → samples ≡ put cs (s .samples)
         → marks ≡ put (each mark (places cs)) (s .marks)
         → middle ≡ sets (s .journal) (s .used) (threeWords (saved (s .samples) (s .marks) (places cs)))
+        → counts ≡ recounted marks (places (oldMarks (savedAt middle (s .used) m))) (s .counts)
         → journal ≡ sets middle (s .used + 3 * m) (m ∷ mark ∷ [])
         → used ≡ s .used + entrySize m
-        → ended (Done m) (state samples marks journal used) ≡ entered s mark cs
-    unfolding entered committed
-    entered-done m samples marks middle journal used count h es em ei ej eu =
+        → ended (Done m) (state samples marks counts journal used) ≡ entered s mark cs
+    unfolding entered committed recountedBy
+    entered-done m samples marks counts middle journal used count h es em ei ec ej eu =
         let room : entrySize (length cs) ≤ length (s .journal) - s .used = rw count at h in
         let all : journal ≡ sets (s .journal) (s .used) (entry s mark (places cs)) = (rw (count, ei) at ej) ∙ entry-words s mark cs in
-        rw (ne-eqb _ _ some, le-ltb _ _ room, es, em, all, eu, count) refl
+        let places-m : m ≡ length (places cs) = count ∙ sym (length-places cs) in
+        let named : places (oldMarks (savedAt middle (s .used) m)) ≡ places cs =
+        (rw (ei, places-m) (places-there (s .journal) (s .samples) (s .marks) (places cs) (s .used) (omega arith))) in
+        let recount : counts ≡ recounted (put (each mark (places cs)) (s .marks)) (places cs) (s .counts) = rw (← em, ← named) ec in
+        rw (ne-eqb _ _ some, le-ltb _ _ room, es, em, recount, all, eu, count, places-each) refl
 
 none-stored : (l : List ℕ) (start : ℕ) (words : List ℕ) → length words ≡ 0 → sets l start words ≡ l
 none-stored l start [] h = refl
@@ -256,9 +329,10 @@ none-stored l start (w ∷ words) h = absurd (omega arith)
 
 -- The same for a span, whose words come after the entry: nothing is named, there is no room, the entry stands.
 module _ (s : State) (mark start len : ℕ) (words : List ℕ) (count : length words ≡ len) where
-  pub span-none : len ≡ 0 → ended (Done 0) (state (sets (s .samples) start words) (s .marks) (s .journal) (s .used)) ≡ entered s mark (span start words)
+  pub span-none : len ≡ 0
+      → ended (Done 0) (state (sets (s .samples) start words) (s .marks) (s .counts) (s .journal) (s .used)) ≡ entered s mark (span start words)
   span-none h =
-      ap (λ (l : List ℕ). ended (Done 0) (state l (s .marks) (s .journal) (s .used))) (none-stored (s .samples) start words (count ∙ h))
+      ap (λ (l : List ℕ). ended (Done 0) (state l (s .marks) (s .counts) (s .journal) (s .used))) (none-stored (s .samples) start words (count ∙ h))
       ∙ entered-none s mark (span start words) (length-span start words ∙ count ∙ h)
 
   module _ (some : len ≡ 0 → ⊥) where
@@ -269,29 +343,31 @@ module _ (s : State) (mark start len : ℕ) (words : List ℕ) (count : length w
     pub span-room : length (s .journal) - s .used < entrySize len → refused s Room ≡ entered s mark (span start words)
     span-room h = entered-room s mark (span start words) span-some (rw (length-span start words, count) h)
 
-    pub span-entered : (marks middle journal : List ℕ) (used : ℕ) → entrySize len ≤ length (s .journal) - s .used
+    pub span-entered : (marks counts middle journal : List ℕ) (used : ℕ) → entrySize len ≤ length (s .journal) - s .used
         → marks ≡ sets (s .marks) start (replicate len mark)
         → middle ≡ sets (s .journal) (s .used) (threeWords (saved (s .samples) (s .marks) (consecutive start len)))
+        → counts ≡ recounted marks (places (oldMarks (savedAt middle (s .used) len))) (s .counts)
         → journal ≡ sets middle (s .used + 3 * len) (len ∷ mark ∷ [])
         → used ≡ s .used + entrySize len
-        → ended (Done len) (state (sets (s .samples) start words) marks journal used) ≡ entered s mark (span start words)
-    span-entered marks middle journal used h em ei ej eu =
+        → ended (Done len) (state (sets (s .samples) start words) marks counts journal used) ≡ entered s mark (span start words)
+    span-entered marks counts middle journal used h em ei ec ej eu =
         let named : consecutive start len ≡ places (span start words) = sym (places-span start words ∙ ap (consecutive start) count) in
-        entered-done s mark (span start words) span-some len _ marks middle journal used (sym (length-span start words ∙ count)) h
+        entered-done s mark (span start words) span-some len _ marks counts middle journal used (sym (length-span start words ∙ count)) h
         (sym (put-span start words (s .samples)))
         (em ∙ sym (put-each mark start len (s .marks)) ∙ ap (λ (is : List ℕ). put (each mark is) (s .marks)) named)
         (rw named at ei)
+        ec
         ej
         eu
 
   -- the words are in range: the call ends as the entry does, and the caller writes the words where it stands
-  module _ (a : Answer) (m : ℕ) (r : Answer) (marks journal : List ℕ) (used : ℕ) (e : a ≡ ranged (span start words)) (d : a ≡ Done m) where
+  module _ (a : Answer) (m : ℕ) (r : Answer) (marks counts journal : List ℕ) (used : ℕ) (e : a ≡ ranged (span start words)) (d : a ≡ Done m) where
     pub span-refused : (why : Reason) → r ≡ Refused why
-        → ended r (filled r start words (state (s .samples) marks journal used)) ≡ entered s mark (span start words)
-        → ended r (state (s .samples) marks journal used) ≡ carried s (change mark (span start words))
+        → ended r (filled r start words (state (s .samples) marks counts journal used)) ≡ entered s mark (span start words)
+        → ended r (state (s .samples) marks counts journal used) ≡ carried s (change mark (span start words))
     span-refused why er end = rw er ((rw er at end) ∙ carried-on s mark (span start words) a m e d)
 
     pub span-written : (k : ℕ) (samples : List ℕ) → r ≡ Done k → samples ≡ sets (s .samples) start words
-        → ended r (filled r start words (state (s .samples) marks journal used)) ≡ entered s mark (span start words)
-        → ended r (state samples marks journal used) ≡ carried s (change mark (span start words))
+        → ended r (filled r start words (state (s .samples) marks counts journal used)) ≡ entered s mark (span start words)
+        → ended r (state samples marks counts journal used) ≡ carried s (change mark (span start words))
     span-written k samples er es end = rw (er, es) ((rw er at end) ∙ carried-on s mark (span start words) a m e d)

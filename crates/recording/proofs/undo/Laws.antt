@@ -17,8 +17,9 @@ use Rattle.recording.specs.Recording.{fitting}
 use Rattle.recording.specs.Recording.{Saved, savedAt, placePast, notRising, markPast, put, oldWords, oldMarks}
 use Rattle.recording.specs.Recording.{entrySize, lastCount, lastMark, lastSaved, malformed}
 use Rattle.recording.specs.Marks.{made}
-use Rattle.recording.specs.Recording.{takenBack, undone}
-use Rattle.recording.specs.Inner.{anyWrong, Fits, Restorable}
+use Rattle.recording.specs.Recording.{places, recountedBy, takenBack, undone}
+use Rattle.recording.specs.Counts.{recounted}
+use Rattle.recording.specs.Inner.{anyWrong, Fits, Restorable, Recountable}
 use Rattle.recording.specs.declared.Reason.{Reason}
 use Rattle.recording.specs.declared.Reason.the-variants.{Nothing, Malformed}
 use Rattle.recording.specs.declared.Answer.{Answer}
@@ -77,11 +78,11 @@ abbrev pub leftAt : List ℕ → ℕ → ℕ → ℕ → List Saved
 leftAt journal begin m i = savedAt journal (begin + 3 * i) (m - i)
 
 -- It is all of them at first.
-left-all : (journal : List ℕ) (begin m : ℕ) → leftAt journal begin m 0 ≡ savedAt journal begin m
+pub left-all : (journal : List ℕ) (begin m : ℕ) → leftAt journal begin m 0 ≡ savedAt journal begin m
 left-all journal begin m = let start : begin + 3 * 0 ≡ begin = omega arith in rw (start, sub-zero) refl
 
 -- While there are more, it begins with the next.
-left-first : (journal : List ℕ) (begin m i : ℕ) → i < m
+pub left-first : (journal : List ℕ) (begin m i : ℕ) → i < m
     → leftAt journal begin m i
     ≡ record {
       place = getD journal (begin + 3 * i) 0;
@@ -95,7 +96,7 @@ left-first journal begin m i more =
     rw (left, next) refl
 
 -- And in the end nothing is left.
-left-none : (journal : List ℕ) (begin m i : ℕ) → m ≤ i → leftAt journal begin m i ≡ []
+pub left-none : (journal : List ℕ) (begin m i : ℕ) → m ≤ i → leftAt journal begin m i ≡ []
 unfolding savedAt
 left-none journal begin m i h = let done : m - i ≡ 0 = omega arith in rw done refl
 
@@ -136,7 +137,7 @@ module _ (journal : List ℕ) (begin m i n least place : ℕ) (whole : Bool) (mo
 -- ---- saved samples given back
 
 -- The next sample's place is within the recording, and so are those after it.
-past-first : (n : ℕ) (journal : List ℕ) (begin m i : ℕ) → i < m → placePast n (leftAt journal begin m i) ≡ false
+pub past-first : (n : ℕ) (journal : List ℕ) (begin m i : ℕ) → i < m → placePast n (leftAt journal begin m i) ≡ false
     → (leb n (getD journal (begin + 3 * i) 0) ≡ false) × (placePast n (leftAt journal begin m (i + 1)) ≡ false)
 unfolding placePast
 past-first n journal begin m i more none =
@@ -325,11 +326,18 @@ sound s m read h =
       bytes = tests .1;
     }
 
--- A sound entry can be given back to a recording whose sizes fit.
+-- A sound entry can be given back to a recording whose sizes fit,
 pub restorable : (s : State) (m : ℕ) → Fits s → Sound s m
     → Restorable (s .samples) (s .marks) (s .journal) (s .used - entrySize m) m
 restorable s m fits entry =
-    record { counts = fits .counts; there = omega arith; places = entry .places; bytes = entry .bytes }
+    record { counts = fits .marked; there = omega arith; places = entry .places; bytes = entry .bytes }
+
+-- and its samples' blocks recounted, under any marks of that number.
+pub recountable : (s : State) (m : ℕ) → Fits s → Sound s m → (marks : List ℕ) → length marks ≡ length (s .marks)
+    → Recountable marks (s .counts) (s .journal) (s .used - entrySize m) m
+recountable s m fits entry marks long =
+    let same : length marks ≡ length (s .samples) = long ∙ fits .marked in
+    record { counted = rw same (fits .counted); there = omega (arith, entry .there, fits .within); places = rw same (entry .places) }
 
 -- One law for each way out: what the tests of the sizes answered, the tests that failed, the test that holds, and how
 -- the call ends
@@ -350,11 +358,12 @@ module _ (s : State) (sized : Answer) (answered : sized ≡ fitting s) where
       undone-malformed h = rw (← answered, accepted, ne-eqb (s .used) 0 some, ← found, h) refl
 
       pub undone-done : bad ≡ false → (m : ℕ) → m ≡ lastCount (s .journal) (s .used)
-          → (samples marks journal : List ℕ)
+          → (samples marks counts journal : List ℕ)
           → samples ≡ put (oldWords (savedAt (s .journal) (s .used - entrySize m) m)) (s .samples)
           → marks ≡ put (oldMarks (savedAt (s .journal) (s .used - entrySize m) m)) (s .marks)
+          → counts ≡ recounted marks (places (oldMarks (savedAt (s .journal) (s .used - entrySize m) m))) (s .counts)
           → journal ≡ sets (s .journal) (s .used - entrySize m) (replicate (entrySize m) 0)
-          → ended (Done m) (state samples marks journal (s .used - entrySize m)) ≡ undone s
-      unfolding undone takenBack lastSaved
-      undone-done good m read samples marks journal words bytes zeros =
-          rw (← answered, accepted, ne-eqb (s .used) 0 some, ← found, good, words, bytes, zeros, ← read) refl
+          → ended (Done m) (state samples marks counts journal (s .used - entrySize m)) ≡ undone s
+      unfolding undone takenBack lastSaved recountedBy
+      undone-done good m read samples marks counts journal words bytes blocks zeros =
+          rw (← answered, accepted, ne-eqb (s .used) 0 some, ← found, good, blocks, words, bytes, zeros, ← read) refl

@@ -18,7 +18,7 @@ abbrev start : tie.After-check-sizes → tie.Start
 start c = c .before .before .before .before .before
 
 abbrev recording : tie.After-check-sizes → State
-recording c = let a = start c .args in state (a .samples .now) (a .marks .now) (a .journal .now) (a .used)
+recording c = let a = start c .args in state (a .samples .now) (a .marks .now) (a .counts .now) (a .journal .now) (a .used)
 
 check-sizes-requires : tie.Need-check-sizes-requires
 check-sizes-requires c κs = search needs

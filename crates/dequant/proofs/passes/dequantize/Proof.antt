@@ -14,10 +14,10 @@ abbrev start : tie.After-begin → tie.Start
 start c = c .before .before .before .before .before .before .before .before .before .before
 
 abbrev recording : tie.After-begin → State
-recording c = let a = start c .args in state (a .samples .now) (a .marks .now) (a .journal .now) (a .used .now)
+recording c = let a = start c .args in state (a .samples .now) (a .marks .now) (a .counts .now) (a .journal .now) (a .used .now)
 
 abbrev after : tie.After-finish → State
-after c = let l = c .finish .last in state (l .0) (l .1 .0) (l .1 .1 .0) (l .1 .1 .1 .0)
+after c = let l = c .finish .last in state (l .0) (l .1 .0) (l .1 .1 .0) (l .1 .1 .1 .0) (l .1 .1 .1 .1 .0)
 
 begin-requires : tie.Need-begin-requires
 begin-requires c κs = search needs

@@ -1,16 +1,16 @@
--- `inpaint::auto::inpaint_auto` meets its contract: refusals 1 to 4 end it, and else it is the scan with the limit. Assumes nothing.
+-- `inpaint::auto::inpaint_auto` meets its contract: refusals 1, 14 and 2 to 4 end it, and else it is the scan with the limit. Assumes nothing.
 use borrow.Author.Needs.{needs}
 use Rattle.recording.specs.Recording.{State, state}
 use Rattle.inpaint.proofs.auto.Laws.{automatic-refused, automatic-scanned, accepted-rate}
 use Rattle.inpaint.proofs.auto.inpaint_auto.Statement.{statement}
 use Rattle.inpaint.proofs.auto.inpaint_auto.Tie as tie
 
--- where the call begins, once refusals 1 to 4 are tested, and the recording there
+-- where the call begins, once refusals 1, 14 and 2 to 4 are tested, and the recording there
 abbrev start : tie.After-check-scan → tie.Start
 start c = c .before .before .before .before .before .before .before .before .before
 
 abbrev recording : tie.After-check-scan → State
-recording c = let a = start c .args in state (a .samples .now) (a .marks .now) (a .journal .now) (a .used .now)
+recording c = let a = start c .args in state (a .samples .now) (a .marks .now) (a .counts .now) (a .journal .now) (a .used .now)
 
 check-scan-requires : tie.Need-check-scan-requires
 check-scan-requires c κs = search needs

@@ -14,8 +14,8 @@ use Rattle.inpaint.proofs.auto.repair_runs.Statement.{statement}
 use Rattle.inpaint.proofs.auto.repair_runs.Tie as tie
 
 abbrev Inv-loop : tie.InvT-loop
-Inv-loop samples₀ marks₀ journal₀ used₀ most work₀ n qualified₀ repaired₀ refused₀ at₀
-    samples marks journal used work qualified repaired refused at =
+Inv-loop samples₀ marks₀ counts₀ journal₀ used₀ most work₀ n qualified₀ repaired₀ refused₀ at₀
+    samples marks counts journal used work qualified repaired refused at =
     (at ≤ n)
     × (2 * qualified ≤ at)
     × (repaired ≤ qualified)
@@ -23,12 +23,12 @@ Inv-loop samples₀ marks₀ journal₀ used₀ most work₀ n qualified₀ repa
     × (length marks ≡ length marks₀)
     × (length journal ≡ length journal₀)
     × (length work ≡ length work₀)
-    × (scanFrom most at (n - qualified) (scan qualified repaired refused (state samples marks journal used) work)
-    ≡ scanFrom most 0 n (scan 0 0 0 (state samples₀ marks₀ journal₀ used₀) work₀))
+    × (scanFrom most at (n - qualified) (scan qualified repaired refused (state samples marks counts journal used) work)
+    ≡ scanFrom most 0 n (scan 0 0 0 (state samples₀ marks₀ counts₀ journal₀ used₀) work₀))
 
 abbrev μ-loop : tie.MeasureT-loop
-μ-loop samples₀ marks₀ journal₀ used₀ most work₀ n qualified₀ repaired₀ refused₀ at₀
-    samples marks journal used work qualified repaired refused at =
+μ-loop samples₀ marks₀ counts₀ journal₀ used₀ most work₀ n qualified₀ repaired₀ refused₀ at₀
+    samples marks counts journal used work qualified repaired refused at =
     n - at
 
 -- where the scan begins
@@ -37,7 +37,7 @@ start c = c .before .before .before .before .before
 
 -- the recording as a turn finds it
 abbrev turned : tie.At-loop Inv-loop μ-loop → State
-turned c = state (c .loop .samples) (c .loop .marks) (c .loop .journal) (c .loop .used)
+turned c = state (c .loop .samples) (c .loop .marks) (c .loop .counts) (c .loop .journal) (c .loop .used)
 
 -- where the run lies that a turn finds
 run-found : (c : tie.After-found Inv-loop μ-loop)

@@ -46,7 +46,7 @@ testing c = tested (entering c) .before .before
 abbrev recording : tie.After-check-results → State
 recording c =
     let a = start (filling c .before) .args in
-    state (a .samples .now) (a .marks .now) (a .journal .now) (a .used .now)
+    state (a .samples .now) (a .marks .now) (a .counts .now) (a .journal .now) (a .used .now)
 
 inside : (c : tie.After-check-results)
     → let a = start (filling c .before) .args in a .start + a .len ≤ length (a .samples .now)

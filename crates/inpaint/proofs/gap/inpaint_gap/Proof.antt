@@ -32,7 +32,7 @@ roomy c = c .before .before .before .before
 
 -- the recording before the call, and how many doubles the repair needs
 abbrev recording : tie.After-check-sizes → State
-recording c = let a = start c .args in state (a .samples .now) (a .marks .now) (a .journal .now) (a .used .now)
+recording c = let a = start c .args in state (a .samples .now) (a .marks .now) (a .counts .now) (a .journal .now) (a .used .now)
 
 abbrev doubles : tie.After-check-sizes → ℕ
 doubles c = let a = start c .args in needed (length (a .samples .now)) (a .start) (a .len)

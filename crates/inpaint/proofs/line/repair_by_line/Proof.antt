@@ -20,7 +20,7 @@ tested c = c .before .before .before .before .before
 
 -- the recording before the call
 abbrev recording : tie.After-check-line → State
-recording c = let a = start c .args in state (a .samples .now) (a .marks .now) (a .journal .now) (a .used .now)
+recording c = let a = start c .args in state (a .samples .now) (a .marks .now) (a .counts .now) (a .journal .now) (a .used .now)
 
 -- the line's ends, and the test of its range
 left-end : (c : tie.After-check-line)

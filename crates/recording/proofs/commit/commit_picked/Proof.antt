@@ -17,7 +17,7 @@ start c = c .before .before .before .before .before .before .before .before
 
 -- the recording before the call
 abbrev recording : tie.After-count-picked → State
-recording c = let a = start c .args in state (a .samples .now) (a .marks .now) (a .journal .now) (a .used .now)
+recording c = let a = start c .args in state (a .samples .now) (a .marks .now) (a .counts .now) (a .journal .now) (a .used .now)
 
 -- they are no more than the samples, and so no more than a recording has
 few : (c : tie.After-count-picked) → c .count-picked .result ≤ mostSamples

@@ -18,7 +18,7 @@ start c = c .before .before .before .before .before .before .before .before .bef
 
 -- the recording before the call
 abbrev recording : tie.After-enum-told → State
-recording c = let a = start c .args in state (a .samples .now) (a .marks .now) (a .journal .now) (a .used .now)
+recording c = let a = start c .args in state (a .samples .now) (a .marks .now) (a .counts .now) (a .journal .now) (a .used .now)
 
 -- what the acceptance of the sizes tells
 sizes-fit : (c : tie.After-enum-told) → Fits (recording c)

@@ -1,0 +1,90 @@
+-- The span question, line by line: one turn of the loops that look at marks and at counts, whatever they look for, the parts of a span, and
+-- how the question ends. Assumes nothing.
+use mathlib.Core.Path.{_≡_, refl, sym, ap, _∙_}
+use mathlib.Core.Bool.{Bool, true, false, _&&_}
+use mathlib.Core.List.{List}
+use Prim.Native.Nat.{ℕ, suc, _+_, _-_, _*_, _/_, _≤_, _<_}
+use native.Mathlib.Omega.{arith}
+use lib.ListN.{length, getD}
+use borrow.Author.Tests.{eq-eqb, ne-eqb, lt-ltb, le-ltb}
+use Rattle.recording.specs.Counts.{blockOf, blockBegin, blocks}
+use Rattle.recording.specs.Question.{allAre, marksSay, countsSay, spanMeasured, spanPast, asked}
+use Rattle.recording.specs.declared.Reason.the-variants.{Gap, Blocks}
+use Rattle.recording.specs.declared.Verdict.the-variants.{Yes, No, TurnedAway}
+
+-- ---- One turn over a stretch of elements
+
+module _ (k : ℕ) (l : List ℕ) (start n i : ℕ) (whole : Bool) (rest : allAre k l (start + i) (n - i) ≡ whole) where
+  -- nothing is left to look at
+  pub all-looked : n ≤ i → true ≡ whole
+  unfolding allAre
+  all-looked h = let none : n - i ≡ 0 = omega arith in sym (ap (allAre k l (start + i)) none) ∙ rest
+
+  module _ (more : i < n) where
+    left-more : n - i ≡ suc (n - (i + 1))
+    left-more = omega arith
+
+    -- an element that is another
+    pub one-other : (getD l (start + i) 0 ≡ k → ⊥) → false ≡ whole
+    unfolding allAre
+    one-other h = rw (ne-eqb _ _ h) at (sym (ap (allAre k l (start + i)) left-more) ∙ rest)
+
+    -- one that is not
+    pub one-same : getD l (start + i) 0 ≡ k → allAre k l (start + (i + 1)) (n - (i + 1)) ≡ whole
+    unfolding allAre
+    one-same h =
+        let next : start + (i + 1) ≡ start + i + 1 = omega arith in
+        rw next (rw (eq-eqb _ _ h) at (sym (ap (allAre k l (start + i)) left-more) ∙ rest))
+
+-- ---- A span within one block, and over several
+
+module _ (marks counts : List ℕ) (start : ℕ) where
+  -- a span of no samples
+  pub span-none : (len : ℕ) → len ≡ 0 → true ≡ spanMeasured marks counts start len
+  unfolding spanMeasured
+  span-none len h = rw h refl
+
+  module _ (more : ℕ) where
+    -- the block behind the first, and the last
+    abbrev second : ℕ
+    second = blockOf start + 1
+
+    abbrev final : ℕ
+    final = blockOf (start + more)
+
+    pub span-one : blockOf start ≡ final → marksSay marks start (suc more) ≡ spanMeasured marks counts start (suc more)
+    unfolding spanMeasured
+    span-one h = rw (eq-eqb _ _ h) refl
+
+    pub span-parts : (blockOf start ≡ final → ⊥)
+        → marksSay marks start (blockBegin second - start) && countsSay counts second (final - second)
+        && marksSay marks (blockBegin final) (start + more + 1 - blockBegin final)
+        ≡ spanMeasured marks counts start (suc more)
+    unfolding spanMeasured
+    span-parts h = rw (ne-eqb _ _ h) refl
+
+-- ---- How the question ends
+
+-- 5's test: the start alone passes the end, or the length does
+module _ (n start len : ℕ) where
+  pub past-start : n < start → true ≡ spanPast n start len
+  past-start h = rw (lt-ltb n (start + len) (omega arith)) refl
+
+module _ (marks counts : List ℕ) (start len : ℕ) where
+  pub asked-blocks : (length counts ≡ blocks (length marks) → ⊥) → TurnedAway Blocks ≡ asked marks counts start len
+  unfolding asked
+  asked-blocks h = rw (ne-eqb _ _ h) refl
+
+  module _ (one : length counts ≡ blocks (length marks)) (past : Bool) (tested : past ≡ spanPast (length marks) start len) where
+    pub asked-gap : past ≡ true → TurnedAway Gap ≡ asked marks counts start len
+    unfolding asked
+    asked-gap h = rw (eq-eqb _ _ one, ← tested, h) refl
+
+    module _ (inside : past ≡ false) (says : Bool) (looked : says ≡ spanMeasured marks counts start len) where
+      pub asked-yes : says ≡ true → Yes ≡ asked marks counts start len
+      unfolding asked
+      asked-yes h = rw (eq-eqb _ _ one, ← tested, inside, ← looked, h) refl
+
+      pub asked-no : says ≡ false → No ≡ asked marks counts start len
+      unfolding asked
+      asked-no h = rw (eq-eqb _ _ one, ← tested, inside, ← looked, h) refl
