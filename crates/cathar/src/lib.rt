@@ -91,7 +91,17 @@ pub extern "C" fn cathar_inpaint_gap(
     ensures { λ r. ⌜ outcome r (now (value .exit) ∷ []) (left samples marks counts journal used) (doubles (now (work .exit)))
         ≡ ran (gap start len passes (now (work .entry))) (lent samples marks counts journal used) ⌝ }
 {
-    let answer = inpaint::gap::inpaint_gap(samples, marks, counts, journal, used, start, len, passes, work);
+    let answer = inpaint::gap::inpaint_gap(
+        samples,
+        marks,
+        counts,
+        journal,
+        used,
+        start,
+        len,
+        passes,
+        work,
+    );
     *value = value_of(answer);
     number_of(answer)
 }
@@ -115,7 +125,16 @@ pub extern "C" fn cathar_inpaint_auto(
     ensures { λ r. ⌜ outcome r (now (qualified .exit) ∷ now (repaired .exit) ∷ []) (left samples marks counts journal used) (doubles (now (work .exit)))
         ≡ ran (scan rate millis (now (work .entry))) (lent samples marks counts journal used) ⌝ }
 {
-    let scanned = inpaint::auto::inpaint_auto(samples, marks, counts, journal, used, rate, millis, work);
+    let scanned = inpaint::auto::inpaint_auto(
+        samples,
+        marks,
+        counts,
+        journal,
+        used,
+        rate,
+        millis,
+        work,
+    );
     *qualified = scanned.qualified;
     *repaired = scanned.repaired;
     scanned.refused
@@ -180,7 +199,16 @@ pub extern "C" fn cathar_dequantize(
     ensures { λ r. ⌜ outcome r (now (value .exit) ∷ []) (left samples marks counts journal used) (words (now (work .exit)))
         ≡ ran (dequantize bits strength (now (work .entry))) (lent samples marks counts journal used) ⌝ }
 {
-    let answer = dequant::passes::dequantize(samples, marks, counts, journal, used, bits, strength, work);
+    let answer = dequant::passes::dequantize(
+        samples,
+        marks,
+        counts,
+        journal,
+        used,
+        bits,
+        strength,
+        work,
+    );
     *value = value_of(answer);
     number_of(answer)
 }

@@ -141,7 +141,15 @@ pub fn dequantize_cosparse(
         ≡ cosparseRepair bits strength iterations (length (now (work .entry))) (lent samples marks counts journal used))
         × (now (work .exit) ≡ workAfter 0 (needed (length (now (samples .entry)))) r (now (work .entry))) ⌝ }
 {
-    let begun = begin(samples, marks, counts, journal, *used, strength == strength, work);
+    let begun = begin(
+        samples,
+        marks,
+        counts,
+        journal,
+        *used,
+        strength == strength,
+        work,
+    );
     let Answer::Done(_) = begun else {
         return begun;
     };

@@ -123,7 +123,15 @@ pub fn dequantize(
         ≡ dequantizeRepair bits strength (length (now (work .entry))) (lent samples marks counts journal used))
         × (now (work .exit) ≡ workAfter 0 (needed (length (now (samples .entry)))) r (now (work .entry))) ⌝ }
 {
-    let begun = begin(samples, marks, counts, journal, *used, strength == strength, work);
+    let begun = begin(
+        samples,
+        marks,
+        counts,
+        journal,
+        *used,
+        strength == strength,
+        work,
+    );
     let Answer::Done(_) = begun else {
         return begun;
     };

@@ -197,7 +197,17 @@ fn repair_runs(
         let Run::At(start, len) = found else {
             break;
         };
-        let answer = inpaint_gap(samples, marks, counts, journal, used, start, len, PASSES, work);
+        let answer = inpaint_gap(
+            samples,
+            marks,
+            counts,
+            journal,
+            used,
+            start,
+            len,
+            PASSES,
+            work,
+        );
         let number = number_of(answer);
         qualified += 1;
         repaired += accepted(number);

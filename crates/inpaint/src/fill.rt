@@ -103,7 +103,16 @@ pub fn repair_by_model(
     let Answer::Done(_) = checked else {
         return checked;
     };
-    let entered = enter_span(samples, marks, counts, journal, used, start, len, GAP_BY_MODEL);
+    let entered = enter_span(
+        samples,
+        marks,
+        counts,
+        journal,
+        used,
+        start,
+        len,
+        GAP_BY_MODEL,
+    );
     let Answer::Done(_) = entered else {
         return entered;
     };

@@ -99,7 +99,16 @@ pub fn repair_by_line(
     let Answer::Done(_) = checked else {
         return checked;
     };
-    let entered = enter_span(samples, marks, counts, journal, used, start, len, GAP_BY_LINE);
+    let entered = enter_span(
+        samples,
+        marks,
+        counts,
+        journal,
+        used,
+        start,
+        len,
+        GAP_BY_LINE,
+    );
     let Answer::Done(_) = entered else {
         return entered;
     };

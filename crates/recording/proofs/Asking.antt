@@ -7,6 +7,7 @@ use mathlib.Core.Logic.{_⊎_, inl, inr}
 use Prim.Native.Nat.{ℕ, zero, suc, _+_, _-_, _*_, _/_, _≤_, _<_, min}
 use native.Mathlib.Decide.{ℕ-discrete}
 use native.Mathlib.Omega.{arith}
+use native.Mathlib.Nat.{add-zero, zero-add, suc-add}
 use lib.ListN.{length, getD}
 use lib.Dec.{eqb, ltb}
 use borrow.Author.Tests.{eqb-true, eq-eqb, ne-eqb, le-ltb, ltb-false}
@@ -29,10 +30,10 @@ use Rattle.recording.proofs.question.Laws.{span-one, span-parts}
 -- two stretches, one behind the other
 all-join : (k : ℕ) (l : List ℕ) (i n m : ℕ) → allAre k l i (n + m) ≡ allAre k l i n && allAre k l (i + n) m
 unfolding allAre
-all-join k l i zero m = let here : i + 0 ≡ i = omega arith in rw here refl
+all-join k l i zero m = rw (add-zero, zero-add) refl
 all-join k l i (suc n) m =
     let there : i + suc n ≡ i + 1 + n = omega arith in
-    rw (there, all-join k l (i + 1) n m) (sym (and-assoc (eqb (getD l i 0) k) (allAre k l (i + 1) n) (allAre k l (i + 1 + n) m)))
+    rw (there, suc-add, all-join k l (i + 1) n m) (sym (and-assoc (eqb (getD l i 0) k) (allAre k l (i + 1) n) (allAre k l (i + 1 + n) m)))
 
 -- elements elsewhere have no say
 all-same : (k : ℕ) (a b : List ℕ) (i n : ℕ) → ((j : ℕ) → i ≤ j → j < i + n → getD a j 0 ≡ getD b j 0) → allAre k a i n ≡ allAre k b i n
@@ -45,16 +46,12 @@ all-same k a b i (suc n) same =
 all-each : (k : ℕ) (l : List ℕ) (i n : ℕ) → allAre k l i n ≡ true → (j : ℕ) → i ≤ j → j < i + n → getD l j 0 ≡ k
 unfolding allAre
 all-each k l i zero h j low high = absurd (omega arith)
-all-each k l i (suc n) h j low high = elim (ℕ-discrete j i) [ yes e ↦ rw e first | no f ↦ later f ]
-  where
-    both : (eqb (getD l i 0) k ≡ true) × (allAre k l (i + 1) n ≡ true)
-    both = both-hold (eqb (getD l i 0) k) (allAre k l (i + 1) n) h
-
-    first : getD l i 0 ≡ k
-    first = eqb-true _ _ (both .0)
-
-    later : (j ≡ i → ⊥) → getD l j 0 ≡ k
-    later f = all-each k l (i + 1) n (both .1) j (omega arith) (omega arith)
+all-each k l i (suc n) h j low high =
+    let both = both-hold (eqb (getD l i 0) k) (allAre k l (i + 1) n) h in
+    elim (ℕ-discrete j i) [
+      | yes e ↦ rw e (eqb-true _ _ (both .0))
+      | no f ↦ all-each k l (i + 1) n (both .1) j (omega arith) (omega arith)
+    ]
 
 each-all : (k : ℕ) (l : List ℕ) (i n : ℕ) → ((j : ℕ) → i ≤ j → j < i + n → getD l j 0 ≡ k) → allAre k l i n ≡ true
 unfolding allAre
@@ -68,34 +65,33 @@ each-all k l i (suc n) all =
 none-counted : (marks : List ℕ) (i n : ℕ) → eqb (unmeasured marks i n) 0 ≡ marksSay marks i n
 unfolding unmeasured allAre
 none-counted marks i zero = refl
-none-counted marks i (suc n) = go (truth (eqb (getD marks i 0) measured))
-  where
-    rest : ℕ
-    rest = unmeasured marks (i + 1) n
-
-    go : EitherWay (eqb (getD marks i 0) measured)
-        → eqb (countedMark (getD marks i 0) + rest) 0 ≡ eqb (getD marks i 0) measured && allAre measured marks (i + 1) n
-    go (inl t) = let none : 0 + rest ≡ rest = omega arith in rw (t, none) (none-counted marks (i + 1) n)
-    go (inr f) = rw f (ne-eqb (1 + rest) 0 (λ (z : 1 + rest ≡ 0). omega arith))
+none-counted marks i (suc n) =
+    let rest = unmeasured marks (i + 1) n in
+    elim (truth (eqb (getD marks i 0) measured)) [
+      | inl t ↦ rw (t, zero-add) (none-counted marks (i + 1) n)
+      | inr f ↦ rw f (ne-eqb (1 + rest) 0 (λ (z : 1 + rest ≡ 0). omega arith))
+    ]
 
 -- blocks that are whole
+whole-block : (marks : List ℕ) (block : ℕ) → blockBegin (block + 1) ≤ length marks
+    → getD (counted marks) block 0 ≡ unmeasured marks (blockBegin block) blockSize
+unfolding countOf
+whole-block marks block here =
+    let whole : blockLength (length marks) block ≡ blockSize = omega arith in
+    read-counted marks block (omega arith) ∙ ap (unmeasured marks (blockBegin block)) whole
+
 blocks-say : (marks : List ℕ) (block n : ℕ) → blockBegin (block + n) ≤ length marks
     → countsSay (counted marks) block n ≡ marksSay marks (blockBegin block) (n * blockSize)
 unfolding allAre
-blocks-say marks block zero h = let none : 0 * blockSize ≡ 0 = omega arith in rw none refl
+blocks-say marks block zero h = refl
 blocks-say marks block (suc n) h =
     let here : blockBegin (block + 1) ≤ length marks = omega arith in
     let next : blockBegin (block + 1) ≡ blockBegin block + blockSize = omega arith in
     let size : blockSize + n * blockSize ≡ suc n * blockSize = omega arith in
-    ap₂ _&&_ (ap (λ (k : ℕ). eqb k 0) (first here) ∙ none-counted marks (blockBegin block) blockSize)
+    ap₂ _&&_ (ap (λ (k : ℕ). eqb k 0) (whole-block marks block here) ∙ none-counted marks (blockBegin block) blockSize)
     (blocks-say marks (block + 1) n (omega arith) ∙ ap (λ (k : ℕ). marksSay marks k (n * blockSize)) next)
     ∙ sym (all-join measured marks (blockBegin block) blockSize (n * blockSize))
     ∙ ap (marksSay marks (blockBegin block)) size
-  where
-    first : blockBegin (block + 1) ≤ length marks → getD (counted marks) block 0 ≡ unmeasured marks (blockBegin block) blockSize
-    first here =
-        let whole : blockLength (length marks) block ≡ blockSize = omega arith in
-        read-counted marks block (omega arith) ∙ (unfold countOf in ap (unmeasured marks (blockBegin block)) whole)
 
 -- ---- The span
 
@@ -173,9 +169,9 @@ same-marks marks others counts start (suc more) same =
           ∙ span-one marks counts start more e
       | no f ↦ sym (span-parts others counts start more f)
           ∙ ap₂ _&&_
-            (ap (λ (x : Bool). x && countsSay counts (blockOf start + 1) (blockOf (start + more) - (blockOf start + 1)))
-            (all-same measured others marks start _ (λ i low high. same i (inl (omega arith)))))
-            (all-same measured others marks _ _ (λ i low high. same i (inr (omega arith))))
+          (ap (λ (x : Bool). x && countsSay counts (blockOf start + 1) (blockOf (start + more) - (blockOf start + 1)))
+          (all-same measured others marks start _ (λ i low high. same i (inl (omega arith)))))
+          (all-same measured others marks _ _ (λ i low high. same i (inr (omega arith))))
           ∙ span-parts marks counts start more f
     ]
 
@@ -188,11 +184,13 @@ same-counts : (marks counts others : List ℕ) (start len : ℕ)
     → spanMeasured marks others start len ≡ spanMeasured marks counts start len
 same-counts marks counts others start zero same = unfold spanMeasured in refl
 same-counts marks counts others start (suc more) same =
+    let final = blockBegin (blockOf (start + more)) in
+    let behind = marksSay marks final (start + more + 1 - final) in
     elim (ℕ-discrete (blockOf start) (blockOf (start + more))) [
       | yes e ↦ sym (span-one marks others start more e) ∙ span-one marks counts start more e
       | no f ↦ sym (span-parts marks others start more f)
-          ∙ ap (λ (x : Bool). marksSay marks start (blockBegin (blockOf start + 1) - start) && x && marksSay marks _ _)
-            (all-same 0 others counts (blockOf start + 1) _ (λ block low high. same block (omega arith) (omega arith)))
+          ∙ ap (λ (x : Bool). marksSay marks start (blockBegin (blockOf start + 1) - start) && x && behind)
+          (all-same 0 others counts (blockOf start + 1) _ (λ block low high. same block (omega arith) (omega arith)))
           ∙ span-parts marks counts start more f
     ]
 

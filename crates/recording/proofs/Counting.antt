@@ -5,10 +5,12 @@ use mathlib.Core.List.{List, [], _∷_, map}
 use mathlib.Core.Logic.{inl, inr}
 use Prim.Native.Nat.{ℕ, zero, suc, _+_, _-_, _/_, _≤_, _<_, min}
 use native.Mathlib.Omega.{arith}
+use native.Mathlib.Nat.{zero-add, sub-zero}
 use lib.ListN.{length, getD, set, length-set}
 use lib.Seq.{sets, ext-getD}
 use lib.Dec.{eqb}
 use Rattle.leaves.proofs.Choice.{picks}
+use Rattle.leaves.proofs.Stores.{stored-over}
 use Rattle.recording.specs.Marks.{measured}
 use Rattle.recording.specs.Recording.{Placed, places, put}
 use Rattle.recording.specs.Counts.{blockSize, blockOf, blockBegin, blocks, blockLength, countedMark, unmeasured}
@@ -19,14 +21,16 @@ use Rattle.recording.proofs.Put.{among-or-not, length-put, valued, plac
 -- ---- The count of a block, mark by mark
 
 -- a mark adds at most 1
-pub counted-one : (mark : ℕ) → countedMark mark ≤ 1
-counted-one mark = picks (λ (k : ℕ). k ≤ 1) (eqb mark measured) 0 1 (omega arith) (omega arith)
+pub counted-one : (mark r : ℕ) → r ≡ countedMark mark → r ≤ 1
+unfolding countedMark
+counted-one mark r e = rw e (picks (λ (k : ℕ). k ≤ 1) (eqb mark measured) 0 1 (omega arith) (omega arith))
 
 -- one mark more
-pub count-more : (marks : List ℕ) (begin size i count whole : ℕ) → i < size → count + unmeasured marks (begin + i) (size - i) ≡ whole
-    → count + countedMark (getD marks (begin + i) 0) + unmeasured marks (begin + (i + 1)) (size - (i + 1)) ≡ whole
+pub count-more : (marks : List ℕ) (begin size i count whole r : ℕ) → i < size → r ≡ countedMark (getD marks (begin + i) 0)
+    → count + unmeasured marks (begin + i) (size - i) ≡ whole
+    → count + r + unmeasured marks (begin + (i + 1)) (size - (i + 1)) ≡ whole
 unfolding unmeasured
-count-more marks begin size i count whole h rest =
+count-more marks begin size i count whole r h e rest =
     let left : size - i ≡ suc (size - (i + 1)) = omega arith in
     let next : begin + i + 1 ≡ begin + (i + 1) = omega arith in
     let all = rw next at (ap (λ (k : ℕ). count + unmeasured marks (begin + i) k) (sym left) ∙ rest) in
@@ -76,7 +80,7 @@ read-from marks block (suc n) (suc k) h =
 -- each count stands at its block
 pub read-counted : (marks : List ℕ) (block : ℕ) → block < blocks (length marks) → getD (counted marks) block 0 ≡ countOf marks block
 unfolding counted
-read-counted marks block h = read-from marks 0 (blocks (length marks)) block h
+read-counted marks block h = rw zero-add at (read-from marks 0 (blocks (length marks)) block h)
 
 -- one turn of the loop that counts every block
 pub counts-more : (marks counts whole : List ℕ) (block n count : ℕ) → block < n → count ≡ countOf marks block
@@ -88,6 +92,20 @@ counts-more marks counts whole block n count h e rest =
     let next : block + 1 ≡ suc block = omega arith in
     ap (λ (k : ℕ). sets (set counts block count) k (countsFrom marks (block + 1) (n - (block + 1)))) next
     ∙ rw e (sym (ap (λ (k : ℕ). sets counts block (countsFrom marks block k)) left) ∙ rest)
+
+-- at first it has all to store, and in the end nothing
+pub counts-first : (marks counts : List ℕ) → length counts ≡ blocks (length marks)
+    → sets counts 0 (countsFrom marks 0 (length counts - 0)) ≡ counted marks
+unfolding counted
+counts-first marks counts h =
+    rw (sub-zero, h) (stored-over counts (countsFrom marks 0 (blocks (length marks))) (length-from marks 0 (blocks (length marks)) ∙ sym h))
+
+pub counts-all : (marks counts whole : List ℕ) (block n : ℕ) → n ≤ block → sets counts block (countsFrom marks block (n - block)) ≡ whole
+    → counts ≡ whole
+unfolding countsFrom
+counts-all marks counts whole block n h rest =
+    let none : n - block ≡ 0 = omega arith in
+    sym (ap (λ (k : ℕ). sets counts block (countsFrom marks block k)) none) ∙ rest
 
 -- ---- Recounting
 

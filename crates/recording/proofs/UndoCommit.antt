@@ -120,7 +120,7 @@ module _ {s : State} {mark : ℕ} {cs : List Placed} (e : Enters s mark cs) wher
     count-back =
         let after = committed s mark cs in
         let olds = oldMarks (saved (s .samples) (s .marks) (places cs)) in
-        let named : places olds ≡ places cs = rw (marks-kept, places-valued) refl in
+        let named : places olds ≡ places cs = rw (marks-kept, places-valued) in
         ap (λ (marks : List ℕ). recounted marks (places olds) (after .counts)) mark-back
         ∙ ap (λ (is : List ℕ). recounted (s .marks) is (after .counts)) named
         ∙ ap (recounted (s .marks) (places cs)) (after-sound e kept .counts)

@@ -33,11 +33,12 @@ blockLength n block = min (n - blockBegin block) blockSize
 -- ---- Counts
 
 -- 1 for a mark that is counted, one "whose mark is not 0", and 0 for measured
-abbrev pub countedMark : ℕ → ℕ
+unfoldable pub countedMark : ℕ → ℕ
 countedMark mark = if eqb mark measured then 0 else 1
 
 -- how many of the n marks from place i on are counted
 unfoldable pub unmeasured : List ℕ → ℕ → ℕ → ℕ
+unfolding countedMark
 unmeasured marks i zero = 0
 unmeasured marks i (suc n) = countedMark (getD marks i 0) + unmeasured marks (i + 1) n
 

@@ -6,6 +6,7 @@ use Prim.Native.Nat.{ℕ}
 use lib.ListN.{replicate}
 use Rattle.recording.specs.Recording.{State, change, span}
 use Rattle.recording.specs.Marks.{measured, gapByModel, decrackle, dequantize}
+use Rattle.recording.specs.Counts.{counted}
 use Rattle.recording.specs.History.{Repair, repair, undo, survivors, fresh}
 
 -- six samples with a journal of so many words
@@ -25,17 +26,17 @@ first samples = change dequantize (span 0 (0 ∷ []))
 
 -- one that names nothing and one that is undone do not survive, nor one that finds no room (8 words and 5 are needed)
 pub gap-survives : survivors (repair gap ∷ repair nothing ∷ repair first ∷ undo ∷ []) (six 13) ≡ gap ∷ []
-unfolding survivors six gap nothing first
+unfolding survivors six gap nothing first counted
 gap-survives = refl
 
 pub no-room-survives-not : survivors (repair gap ∷ repair first ∷ []) (six 12) ≡ gap ∷ []
-unfolding survivors six gap first
+unfolding survivors six gap first counted
 no-room-survives-not = refl
 
 pub both-survive : survivors (repair gap ∷ repair first ∷ []) (six 13) ≡ gap ∷ first ∷ []
-unfolding survivors six gap first
+unfolding survivors six gap first counted
 both-survive = refl
 
 pub none-survives : survivors (repair gap ∷ undo ∷ undo ∷ undo ∷ []) (six 13) ≡ []
-unfolding survivors six gap
+unfolding survivors six gap counted
 none-survives = refl

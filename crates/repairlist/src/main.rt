@@ -264,7 +264,17 @@ fn repair_whole(
         b'd' => declip::declip(samples, marks, counts, journal, &mut used, a, work),
         b'c' => decrackle::decrackle(samples, marks, counts, journal, &mut used, a, work),
         b'q' => dequantize(samples, marks, counts, journal, &mut used, first, b, work),
-        _ => dequantize_cosparse(samples, marks, counts, journal, &mut used, first, b, third, work),
+        _ => dequantize_cosparse(
+            samples,
+            marks,
+            counts,
+            journal,
+            &mut used,
+            first,
+            b,
+            third,
+            work,
+        ),
     }
 }
 
@@ -279,7 +289,15 @@ fn repair(list: &[u8], at: usize, samples: &mut [u32], marks: &mut [u8]) -> Answ
     let mut counts = [0u16; COUNTS];
     let mut journal = [0u32; JOURNAL_WORDS];
     match letter {
-        b'g' => repair_gap(first, second, third, samples, marks, &mut counts, &mut journal),
+        b'g' => repair_gap(
+            first,
+            second,
+            third,
+            samples,
+            marks,
+            &mut counts,
+            &mut journal,
+        ),
         b's' => scan(first, second, samples, marks, &mut counts, &mut journal),
         _ => {
             let mut work = [7u32; WORKSPACE_WORDS];

@@ -241,13 +241,14 @@ named-recountable s cs m marks middle fits ascend count h long em =
     }
 
 -- of a span
-pub span-recountable : (s : State) (start len : ℕ) (marks middle : List ℕ) → Fits s → start + len ≤ length (s .samples)
+pub span-recountable : (s : State) (mark start len : ℕ) (marks middle : List ℕ) → Fits s → start + len ≤ length (s .samples)
     → entrySize len ≤ length (s .journal) - s .used
-    → length marks ≡ length (s .marks)
+    → marks ≡ sets (s .marks) start (replicate len mark)
     → middle ≡ sets (s .journal) (s .used) (threeWords (saved (s .samples) (s .marks) (consecutive start len)))
     → Recountable marks (s .counts) middle (s .used) len
-span-recountable s start len marks middle fits within h long em =
-    let words = replicate len 0 in
+span-recountable s mark start len marks middle fits within h set em =
+    let long : length marks ≡ length (s .marks) = ap length set ∙ length-sets (s .marks) start (replicate len mark) in
+    let words : List ℕ = replicate len 0 in
     let size : length words ≡ len = length-replicate len 0 in
     let named : consecutive start len ≡ places (span start words) = sym (places-span start words ∙ ap (consecutive start) size) in
     named-recountable s (span start words) len marks middle fits (span-ascends (length (s .samples)) 0 start words (omega arith) (omega arith))
@@ -266,7 +267,7 @@ picked-recountable s work m marks middle fits count h long em =
     ascends : Ascending (length (s .samples)) 0 (pickedBy work (length (s .samples)))
     ascends =
         unfold pickedBy in
-        picked-ascends (length (s .samples)) 0 0 _ (take (length (s .samples)) work) (omega arith) (omega (arith, length-take (length (s .samples)) work))
+        picked-ascends (length (s .samples)) 0 0 (flags (take (length (s .samples)) (drop (length (s .samples)) work))) (take (length (s .samples)) work) (omega arith) (omega (arith, length-take (length (s .samples)) work))
 
 -- ---- How a commit ends
 

@@ -7,8 +7,8 @@ use mathlib.Core.Logic.{_⊎_, inl, inr}
 use Prim.Native.Nat.{ℕ, _≤_, _<_}
 use borrow.Author.Tests.{lt-ltb, le-ltb, eq-eqb, ne-eqb, eqb-true, ltb-false, not-false}
 use native.Mathlib.Omega.{arith}
-use lib.ListN.{length, replicate, length-replicate}
-use lib.Seq.{sets}
+use lib.ListN.{length, replicate, length-map, length-replicate}
+use lib.Seq.{sets, length-sets}
 use Rattle.leaves.specs.Choice.{if_then_else_}
 use Rattle.leaves.proofs.Choice.{picks-by}
 use Rattle.leaves.proofs.Stores.{stored-over}
@@ -126,8 +126,8 @@ module _ (s : State) (a : Answer) (tested : a ≡ alike (state (s .samples) (s .
     unfolding openedReceived
     received-done = with-done _ marks counts journal used m accepted
 
-  -- a list as long as the marks has as many blocks
-  pub alike-counted : (m : ℕ) → a ≡ Done m → (marks : List ℕ) → length marks ≡ length (s .marks)
+  -- there is a count for each block, also under the marks that an opening sets
+  alike-counted : (m : ℕ) → a ≡ Done m → (marks : List ℕ) → length marks ≡ length (s .marks)
       → length (s .counts) ≡ blocks (length marks)
   alike-counted m accepted marks long =
       alike-by (λ (b : Answer). b ≡ Done m → length (s .counts) ≡ blocks (length marks)) (state (s .samples) (s .marks) (s .counts) [] 0)
@@ -135,6 +135,13 @@ module _ (s : State) (a : Answer) (tested : a ≡ alike (state (s .samples) (s .
       (λ one fourteen two e. absurd (omega (arith, ap number e)))
       (λ one fourteen two e. eqb-true _ _ (not-false _ fourteen) ∙ sym (ap blocks (long ∙ eqb-true _ _ (not-false _ one))))
       (sym tested ∙ accepted)
+
+  module _ (m : ℕ) (accepted : a ≡ Done m) (marks : List ℕ) where
+    pub opened-counted : marks ≡ sets (s .marks) 0 (replicate (length (s .marks)) 0) → length (s .counts) ≡ blocks (length marks)
+    opened-counted em = alike-counted m accepted marks (ap length em ∙ length-sets (s .marks) 0 (replicate (length (s .marks)) 0))
+
+    pub received-counted : marks ≡ map keptMark (s .marks) → length (s .counts) ≡ blocks (length marks)
+    received-counted em = alike-counted m accepted marks (ap length em ∙ length-map (s .marks) keptMark)
 
 -- ---- Refusals 1, 14, 2 and 3 as facts
 

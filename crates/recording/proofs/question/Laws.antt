@@ -3,9 +3,12 @@
 use mathlib.Core.Path.{_≡_, refl, sym, ap, _∙_}
 use mathlib.Core.Bool.{Bool, true, false, _&&_}
 use mathlib.Core.List.{List}
-use Prim.Native.Nat.{ℕ, suc, _+_, _-_, _*_, _/_, _≤_, _<_}
+use Prim.Native.Nat.{ℕ, zero, suc, _+_, _-_, _*_, _/_, _≤_, _<_}
 use native.Mathlib.Omega.{arith}
 use lib.ListN.{length, getD}
+use lib.Dec.{ltb}
+use mathlib.Core.Logic.{inl, inr}
+use Rattle.leaves.proofs.Numbers.{lt-or-ge}
 use borrow.Author.Tests.{eq-eqb, ne-eqb, lt-ltb, le-ltb}
 use Rattle.recording.specs.Counts.{blockOf, blockBegin, blocks}
 use Rattle.recording.specs.Question.{allAre, marksSay, countsSay, spanMeasured, spanPast, asked}
@@ -63,12 +66,63 @@ module _ (marks counts : List ℕ) (start : ℕ) where
     unfolding spanMeasured
     span-parts h = rw (ne-eqb _ _ h) refl
 
+-- the same of a span of len samples, as the code has it: the last sample lies one place before the end
+span-within : (marks counts : List ℕ) (start len : ℕ) → (len ≡ 0 → ⊥) → blockOf start ≡ blockOf (start + len - 1)
+    → marksSay marks start len ≡ spanMeasured marks counts start len
+span-within marks counts start zero some h = absurd (some refl)
+span-within marks counts start (suc more) some h =
+    let last : start + suc more - 1 ≡ start + more = omega arith in
+    span-one marks counts start more (rw last at h)
+
+span-several : (marks counts : List ℕ) (start len : ℕ) → (len ≡ 0 → ⊥) → (blockOf start ≡ blockOf (start + len - 1) → ⊥)
+    → let second = blockOf start + 1 in
+    let final = blockOf (start + len - 1) in
+    marksSay marks start (blockBegin second - start) && countsSay counts second (final - second)
+    && marksSay marks (blockBegin final) (start + len - blockBegin final)
+    ≡ spanMeasured marks counts start len
+span-several marks counts start zero some h = absurd (some refl)
+span-several marks counts start (suc more) some h =
+    let last : start + suc more - 1 ≡ start + more = omega arith in
+    let end : start + suc more ≡ start + more + 1 = omega arith in
+    rw (last, end) (span-parts marks counts start more (rw last at h))
+
+-- one law for each way out
+module _ (marks counts : List ℕ) (start len : ℕ) (some : len ≡ 0 → ⊥) where
+  pub one-block : (says : Bool) → says ≡ marksSay marks start len → blockOf start ≡ blockOf (start + len - 1)
+      → says ≡ spanMeasured marks counts start len
+  one-block says e h = e ∙ span-within marks counts start len some h
+
+  module _ (h : blockOf start ≡ blockOf (start + len - 1) → ⊥) (first : Bool)
+      (looked : first ≡ marksSay marks start (blockBegin (blockOf start + 1) - start)) where
+    -- a mark of the first block
+    pub first-not : first ≡ false → false ≡ spanMeasured marks counts start len
+    first-not e = rw (sym looked ∙ e) at (span-several marks counts start len some h)
+
+    module _ (yes : first ≡ true) (between : Bool)
+        (told : between ≡ countsSay counts (blockOf start + 1) (blockOf (start + len - 1) - (blockOf start + 1))) where
+      -- a count between
+      pub between-not : between ≡ false → false ≡ spanMeasured marks counts start len
+      between-not e = rw (sym looked ∙ yes, sym told ∙ e) at (span-several marks counts start len some h)
+
+      -- or the last block decides
+      pub last-says : between ≡ true → (says : Bool)
+          → says ≡ marksSay marks (blockBegin (blockOf (start + len - 1))) (start + len - blockBegin (blockOf (start + len - 1)))
+          → says ≡ spanMeasured marks counts start len
+      last-says e says l = l ∙ (rw (sym looked ∙ yes, sym told ∙ e) at (span-several marks counts start len some h))
+
 -- ---- How the question ends
 
 -- 5's test: the start alone passes the end, or the length does
 module _ (n start len : ℕ) where
   pub past-start : n < start → true ≡ spanPast n start len
   past-start h = rw (lt-ltb n (start + len) (omega arith)) refl
+
+  pub past-length : start ≤ n → ltb (n - start) len ≡ spanPast n start len
+  past-length h =
+      elim (lt-or-ge (n - start) len) [
+        | inl k ↦ rw (lt-ltb (n - start) len k, lt-ltb n (start + len) (omega arith)) refl
+        | inr k ↦ rw (le-ltb (n - start) len k, le-ltb n (start + len) (omega arith)) refl
+      ]
 
 module _ (marks counts : List ℕ) (start len : ℕ) where
   pub asked-blocks : (length counts ≡ blocks (length marks) → ⊥) → TurnedAway Blocks ≡ asked marks counts start len

@@ -1,8 +1,10 @@
 -- `recording::commit::commit_picked` meets its contract: refused by the range test, nothing named, no room, or saved,
 -- written and sealed. Assumes nothing.
-use mathlib.Core.Path.{sym, _∙_}
+use mathlib.Core.Path.{sym, ap, _∙_}
+use lib.ListN.{length}
 use Rattle.recording.proofs.commit.Laws.{carried-out, carried-on, picked-few, entered-none, entered-room}
-use Rattle.recording.proofs.commit.Laws.{entered-done}
+use Rattle.recording.proofs.commit.Laws.{picked-recountable, entered-done}
+use Rattle.recording.proofs.Put.{length-put}
 use Prim.Native.Nat.{_≤_}
 use native.Mathlib.Omega.{arith}
 use native.Mathlib.Nat.{le-trans}
@@ -13,7 +15,7 @@ use Rattle.recording.proofs.commit.commit_picked.Tie as tie
 
 -- where the call begins, once the named samples are counted
 abbrev start : tie.After-count-picked → tie.Start
-start c = c .before .before .before .before .before .before .before .before
+start c = c .before .before .before .before .before .before .before .before .before
 
 -- the recording before the call
 abbrev recording : tie.After-count-picked → State
@@ -71,10 +73,17 @@ save-picked-requires c κs = search needs
 write-picked-requires : tie.Need-write-picked-requires
 write-picked-requires c κs = search needs
 
+recount-requires : tie.Need-recount-requires
+recount-requires c κs =
+    let written = c .before .before .before .before .before .before .before .write-picked .ensures in
+    let saving = c .before .before .before .before .before .before .before .before .before .before .before .before in
+    let count = counting saving in
+    picked-recountable (recording count) _ _ _ _ (start count .pre .0) (count .count-picked .ensures) (saving .before .before .before .before .if2 .left)
+    (ap length (written .1) ∙ length-put _ _) (saving .save-picked .ensures)
+
 seal-requires : tie.Need-seal-requires
 seal-requires c κs =
-    let saving = c .before .before .before .before .before .before .before .before .before .before .before in
-    let most = few (counting saving) in
+    let most = few (counting (c .before .before .before .before .before .before .before .before .before .before .before .before .before .before .before .before .before)) in
     (omega arith, omega arith)
 
 same-length : tie.Need-same-length
@@ -86,18 +95,21 @@ same-length-2 c = search needs
 same-length-3 : tie.Need-same-length-3
 same-length-3 c = search needs
 
+same-length-4 : tie.Need-same-length-4
+same-length-4 c = search needs
+
 returns-4 : tie.Need-returns-4
 returns-4 c =
     let entry = c .before .before .seal .ensures in
-    let writing = c .before .before .before .before .before .before .before .before .before in
-    let written = writing .write-picked .ensures in
-    let saving = writing .before .before .before .before .before in
+    let recounting = c .before .before .before .before .before .before .before in
+    let written = recounting .before .before .before .before .before .before .before .before .write-picked .ensures in
+    let saving = recounting .before .before .before .before .before .before .before .before .before .before .before .before .before in
     let room = saving .before .before .before .before in
     let some = room .before .before in
     let count = counting saving .count-picked .ensures in
     let told = counting saving .before in
-    entered-done (recording (counting saving)) _ _ (λ (none : _). some .if1 .left (count ∙ none)) _ _ _ _ _ _ count (room .if2 .left)
-    (written .0) (written .1) (saving .save-picked .ensures) (entry .0) (entry .1)
+    entered-done (recording (counting saving)) _ _ (λ (none : _). some .if1 .left (count ∙ none)) _ _ _ _ _ _ _ count (room .if2 .left)
+    (written .0) (written .1) (saving .save-picked .ensures) (recounting .recount .ensures) (entry .0) (entry .1)
     ∙ carried-on _ _ _ _ _ (told .before .before .check-picked .ensures) (told .enum-told .given .1)
 
 pub commit-picked-spec : {M : Type 1} → statement M
@@ -116,8 +128,10 @@ commit-picked-spec =
     returns-3
     save-picked-requires
     write-picked-requires
+    recount-requires
     seal-requires
     same-length
     same-length-2
     same-length-3
+    same-length-4
     returns-4)

@@ -1,6 +1,8 @@
 -- `recording::open::open` meets its contract: each way out is a line of the rule, and a run of 0 over all marks is what it leaves of
 -- them. Assumes nothing.
-use Rattle.recording.proofs.open.Laws.{opened-refused, opened-done}
+use Rattle.recording.proofs.open.Laws.{opened-refused, opened-counted, opened-done}
+use mathlib.Core.List.{[]}
+use Rattle.recording.specs.Recording.{state}
 use borrow.Author.Needs.{needs}
 use Rattle.recording.proofs.open.open.Statement.{statement}
 use Rattle.recording.proofs.open.open.Tie as tie
@@ -23,8 +25,11 @@ returns c = opened-refused _ _ (c .before .before .check-counts .ensures) _ (c .
 set-marks-requires : tie.Need-set-marks-requires
 set-marks-requires c κs = search needs
 
-empty-journal-requires : tie.Need-empty-journal-requires
-empty-journal-requires c κs = search needs
+begin-afresh-requires : tie.Need-begin-afresh-requires
+begin-afresh-requires c κs =
+    let marks = c .before .before .before .before .before .before in
+    let told = marks .before .before in
+    opened-counted (state _ _ _ [] 0) _ (told .before .before .check-counts .ensures) _ (told .enum-told .given .1) _ (marks .set-marks .ensures)
 
 same-length-2 : tie.Need-same-length-2
 same-length-2 c = search needs
@@ -32,12 +37,18 @@ same-length-2 c = search needs
 same-length-3 : tie.Need-same-length-3
 same-length-3 c = search needs
 
+same-length-4 : tie.Need-same-length-4
+same-length-4 c = search needs
+
+same-length-5 : tie.Need-same-length-5
+same-length-5 c = search needs
+
 returns-2 : tie.Need-returns-2
 returns-2 c =
-    let marks = c .before .before .before .before .before .before .before in
+    let afresh = c .before .before .before .before in
+    let marks = afresh .before .before .before .before .before .before .before in
     let told = marks .before .before in
-    opened-done _ _ (told .before .before .check-counts .ensures) _ _ _ _ (told .enum-told .given .1) (marks .set-marks .ensures)
-    (c .before .before .empty-journal .ensures)
+    opened-done _ _ (told .before .before .check-counts .ensures) _ _ _ _ _ (told .enum-told .given .1) (marks .set-marks .ensures) (afresh .begin-afresh .ensures)
 
 pub open-spec : {M : Type 1} → statement M
 open-spec =
@@ -47,9 +58,11 @@ open-spec =
     enum-told
     enum-told-2
     same-length
+    same-length-2
     returns
     set-marks-requires
-    empty-journal-requires
-    same-length-2
+    begin-afresh-requires
     same-length-3
+    same-length-4
+    same-length-5
     returns-2)

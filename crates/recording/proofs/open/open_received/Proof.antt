@@ -1,5 +1,7 @@
 -- `recording::open::open_received` meets its contract: each way out is a line of the rule. Assumes nothing.
-use Rattle.recording.proofs.open.Laws.{received-refused, received-done}
+use Rattle.recording.proofs.open.Laws.{received-refused, received-counted, received-done}
+use mathlib.Core.List.{[]}
+use Rattle.recording.specs.Recording.{state}
 use borrow.Author.Needs.{needs}
 use Rattle.recording.proofs.open.open_received.Statement.{statement}
 use Rattle.recording.proofs.open.open_received.Tie as tie
@@ -22,8 +24,11 @@ returns c = received-refused _ _ (c .before .before .check-counts .ensures) _ (c
 keep-received-requires : tie.Need-keep-received-requires
 keep-received-requires c κs = search needs
 
-empty-journal-requires : tie.Need-empty-journal-requires
-empty-journal-requires c κs = search needs
+begin-afresh-requires : tie.Need-begin-afresh-requires
+begin-afresh-requires c κs =
+    let marks = c .before .before .before .before .before .before in
+    let told = marks .before .before in
+    received-counted (state _ _ _ [] 0) _ (told .before .before .check-counts .ensures) _ (told .enum-told .given .1) _ (marks .keep-received .ensures)
 
 same-length-2 : tie.Need-same-length-2
 same-length-2 c = search needs
@@ -31,12 +36,18 @@ same-length-2 c = search needs
 same-length-3 : tie.Need-same-length-3
 same-length-3 c = search needs
 
+same-length-4 : tie.Need-same-length-4
+same-length-4 c = search needs
+
+same-length-5 : tie.Need-same-length-5
+same-length-5 c = search needs
+
 returns-2 : tie.Need-returns-2
 returns-2 c =
-    let marks = c .before .before .before .before .before .before .before in
+    let afresh = c .before .before .before .before in
+    let marks = afresh .before .before .before .before .before .before .before in
     let told = marks .before .before in
-    received-done _ _ (told .before .before .check-counts .ensures) _ _ _ _ (told .enum-told .given .1) (marks .keep-received .ensures)
-    (c .before .before .empty-journal .ensures)
+    received-done _ _ (told .before .before .check-counts .ensures) _ _ _ _ _ (told .enum-told .given .1) (marks .keep-received .ensures) (afresh .begin-afresh .ensures)
 
 pub open-received-spec : {M : Type 1} → statement M
 open-received-spec =
@@ -46,9 +57,11 @@ open-received-spec =
     enum-told
     enum-told-2
     same-length
+    same-length-2
     returns
     keep-received-requires
-    empty-journal-requires
-    same-length-2
+    begin-afresh-requires
     same-length-3
+    same-length-4
+    same-length-5
     returns-2)
