@@ -14,7 +14,7 @@ use Rattle.declip.proofs.declip.Tie as tie
 
 -- where the call begins, once its start has answered, the recording there, and the one behind its end
 abbrev start : tie.After-begin → tie.Start
-start c = c .before .before .before .before .before .before .before .before .before .before .before
+start c = c .before .before .before .before .before .before .before .before .before .before .before .before .before
 
 abbrev recording : tie.After-begin → State
 recording c = let a = start c .args in state (a .samples .now) (a .marks .now) (a .counts .now) (a .journal .now) (a .used .now)
@@ -52,6 +52,9 @@ same-length-3 c = search needs
 same-length-4 : tie.Need-same-length-4
 same-length-4 c = search needs
 
+same-length-5 : tie.Need-same-length-5
+same-length-5 c = search needs
+
 returns : tie.Need-returns
 returns c =
     let at = c .before .before .before .before in
@@ -71,15 +74,12 @@ bridge-runs-requires c κs =
 
 finish-requires : tie.Need-finish-requires
 finish-requires c κs =
-    let drawn = c .before .before .before .before .before .before in
+    let drawn = c .before .before .before .before .before .before .before in
     let told = drawn .before .before .before .before in
     let laid = told .before .before .before in
     let at = laid .before in
     start-finishes _ (start at .args .work .now) (recording at) _ (at .begin .ensures .0) _ _ _
     (told .enum-told .given .1) (laid .work .given) (drawn .work2 .given)
-
-same-length-5 : tie.Need-same-length-5
-same-length-5 c = search needs
 
 same-length-6 : tie.Need-same-length-6
 same-length-6 c = search needs
@@ -90,10 +90,16 @@ same-length-7 c = search needs
 same-length-8 : tie.Need-same-length-8
 same-length-8 c = search needs
 
+same-length-9 : tie.Need-same-length-9
+same-length-9 c = search needs
+
+same-length-10 : tie.Need-same-length-10
+same-length-10 c = search needs
+
 returns-2 : tie.Need-returns-2
 returns-2 c =
-    let end = c .before .before .before .before .before .before .before .before in
-    let drawn = end .before .before .before .before .before .before .before in
+    let end = c .before .before .before .before .before .before .before .before .before .before in
+    let drawn = end .before .before .before .before .before .before .before .before in
     let told = drawn .before .before .before .before in
     let laid = told .before .before .before in
     let at = laid .before in
@@ -114,11 +120,13 @@ declip-spec =
     same-length-2
     same-length-3
     same-length-4
+    same-length-5
     returns
     bridge-runs-requires
     finish-requires
-    same-length-5
     same-length-6
     same-length-7
     same-length-8
+    same-length-9
+    same-length-10
     returns-2)

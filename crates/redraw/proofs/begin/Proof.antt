@@ -15,7 +15,7 @@ use Rattle.redraw.proofs.begin.Tie as tie
 
 -- where the call begins, once the sizes are tested, and the recording there
 abbrev start : tie.After-check-sizes → tie.Start
-start c = c .before .before .before .before .before
+start c = c .before .before .before .before .before .before
 
 abbrev recording : tie.After-check-sizes → State
 recording c = let a = start c .args in state (a .samples .now) (a .marks .now) (a .counts .now) (a .journal .now) (a .used)

@@ -8,7 +8,7 @@ use Rattle.inpaint.proofs.auto.check_scan.Tie as tie
 -- the recording that is tested
 abbrev recording : tie.After-enum-told → State
 recording c =
-    let a = c .before .before .before .before .before .before .args in
+    let a = c .before .before .before .before .before .before .before .args in
     state (a .samples .now) (a .marks .now) (a .counts .now) (a .journal .now) (a .used)
 
 check-sizes-requires : tie.Need-check-sizes-requires

@@ -7,7 +7,7 @@ use Rattle.inpaint.proofs.auto.inpaint_auto.Tie as tie
 
 -- where the call begins, once refusals 1, 14 and 2 to 4 are tested, and the recording there
 abbrev start : tie.After-check-scan → tie.Start
-start c = c .before .before .before .before .before .before .before .before .before
+start c = c .before .before .before .before .before .before .before .before .before .before .before
 
 abbrev recording : tie.After-check-scan → State
 recording c = let a = start c .args in state (a .samples .now) (a .marks .now) (a .counts .now) (a .journal .now) (a .used .now)
@@ -33,6 +33,9 @@ same-length-2 c = search needs
 same-length-3 : tie.Need-same-length-3
 same-length-3 c = search needs
 
+same-length-4 : tie.Need-same-length-4
+same-length-4 c = search needs
+
 returns : tie.Need-returns
 returns c =
     let told = c .before in
@@ -51,9 +54,6 @@ longest-run-requires c κs =
 repair-runs-requires : tie.Need-repair-runs-requires
 repair-runs-requires c κs = search needs
 
-same-length-4 : tie.Need-same-length-4
-same-length-4 c = search needs
-
 same-length-5 : tie.Need-same-length-5
 same-length-5 c = search needs
 
@@ -63,13 +63,19 @@ same-length-6 c = search needs
 same-length-7 : tie.Need-same-length-7
 same-length-7 c = search needs
 
+same-length-8 : tie.Need-same-length-8
+same-length-8 c = search needs
+
+same-length-9 : tie.Need-same-length-9
+same-length-9 c = search needs
+
 returns-2 : tie.Need-returns-2
 returns-2 c =
-    let scanned = c .before .before .before .before .before .before .before .before in
-    let told = scanned .before .before .before .before .before .before .before in
+    let scanned = c .before .before .before .before .before .before .before .before .before .before in
+    let told = scanned .before .before .before .before .before .before .before .before in
     let test = told .before .before in
     automatic-scanned _ _ _ (recording test) _ (test .check-scan .ensures) _ (told .enum-told .given .1) _ _
-    (scanned .before .before .before .before .before .before .longest-run .ensures) (scanned .repair-runs .ensures)
+    (scanned .before .before .before .before .before .before .before .longest-run .ensures) (scanned .repair-runs .ensures)
 
 pub inpaint-auto-spec : {M : Type 1} → statement M
 inpaint-auto-spec =
@@ -82,11 +88,13 @@ inpaint-auto-spec =
     same-length
     same-length-2
     same-length-3
+    same-length-4
     returns
     longest-run-requires
     repair-runs-requires
-    same-length-4
     same-length-5
     same-length-6
     same-length-7
+    same-length-8
+    same-length-9
     returns-2)

@@ -21,6 +21,7 @@ Inv-loop samples₀ marks₀ counts₀ journal₀ used₀ most work₀ n qualifi
     × (repaired ≤ qualified)
     × (length samples ≡ length samples₀)
     × (length marks ≡ length marks₀)
+    × (length counts ≡ length counts₀)
     × (length journal ≡ length journal₀)
     × (length work ≡ length work₀)
     × (scanFrom most at (n - qualified) (scan qualified repaired refused (state samples marks counts journal used) work)
@@ -33,7 +34,7 @@ abbrev μ-loop : tie.MeasureT-loop
 
 -- where the scan begins
 abbrev start : tie.At-loop Inv-loop μ-loop → tie.Start Inv-loop μ-loop
-start c = c .before .before .before .before .before
+start c = c .before .before .before .before .before .before
 
 -- the recording as a turn finds it
 abbrev turned : tie.At-loop Inv-loop μ-loop → State
@@ -51,10 +52,10 @@ few c = omega (arith, start c .good .0 .1, c .loop .inv .3)
 
 -- the turn in which a gap is repaired, once that is done
 abbrev taken : tie.After-inpaint-gap Inv-loop μ-loop → tie.After-found Inv-loop μ-loop
-taken c = c .before .before .before .before .before .before .before
+taken c = c .before .before .before .before .before .before .before .before
 
 loop-holds : tie.Need-loop-holds Inv-loop μ-loop
-loop-holds c = (omega arith, omega arith, omega arith, refl, refl, refl, refl, simp sub-zero)
+loop-holds c = (omega arith, omega arith, omega arith, refl, refl, refl, refl, refl, simp sub-zero)
 
 next-run-requires : tie.Need-next-run-requires Inv-loop μ-loop
 next-run-requires c κs = search needs
@@ -73,7 +74,7 @@ number-of-requires c κs = search needs
 
 add-qualified : tie.Need-add-qualified Inv-loop μ-loop
 add-qualified c =
-    let turn = taken (c .before .before .before .before .before .before .before .before .before) in
+    let turn = taken (c .before .before .before .before .before .before .before .before .before .before .before) in
     let at = turn .before .before .before .before .before in
     omega (arith, run-found turn, at .loop .inv .1, few at)
 
@@ -82,7 +83,7 @@ accepted-requires c κs = search needs
 
 add-repaired : tie.Need-add-repaired Inv-loop μ-loop
 add-repaired c =
-    let turn = taken (c .before .before .before .before .before .before .before .before .before .before) in
+    let turn = taken (c .before .before .before .before .before .before .before .before .before .before .before .before) in
     let at = turn .before .before .before .before .before in
     let once = at-most-one (c .before .number-of .result) _ (c .accepted .ensures) in
     omega (arith, run-found turn, at .loop .inv .1, at .loop .inv .2, few at, once)
@@ -92,19 +93,20 @@ first-of-requires c κs = search needs
 
 add-at : tie.Need-add-at Inv-loop μ-loop
 add-at c =
-    let turn = taken (c .before .before .before .before .before .before .before .before .before .before .before) in
+    let turn = taken (c .before .before .before .before .before .before .before .before .before .before .before .before .before) in
     omega (arith, run-found turn, few (turn .before .before .before .before .before))
 
 loop-less : tie.Need-loop-less Inv-loop μ-loop
 loop-less c =
-    let gap = c .before .before .before .before .before .before .before .before .before .before .before in
+    let gap = c .before .before .before .before .before .before .before .before .before .before .before .before .before in
     omega (arith, run-found (taken gap))
 
 loop-again : tie.Need-loop-again Inv-loop μ-loop
 loop-again c =
     let work = c .before .before .before .before in
     let journal = work .before .before in
-    let marks = journal .before .before in
+    let counts = journal .before .before in
+    let marks = counts .before .before in
     let samples = marks .before .before in
     let gap = samples .before in
     let turn = taken gap in
@@ -115,13 +117,14 @@ loop-again c =
       omega (arith, at .loop .inv .2, once),
       samples .samples .given ∙ at .loop .inv .3,
       marks .marks .given ∙ at .loop .inv .4,
-      journal .journal .given ∙ at .loop .inv .5,
-      work .work .given ∙ at .loop .inv .6,
+      counts .counts .given ∙ at .loop .inv .5,
+      journal .journal .given ∙ at .loop .inv .6,
+      work .work .given ∙ at .loop .inv .7,
       scan-turn _ _ _ _ _ _ _ _ (turned at) _ _ _ _ _ _ _ _
           (omega (arith, run-found turn, at .loop .inv .1, at .loop .inv .3))
           (sym (turn .before .before .next-run .ensures) ∙ turn .found .given .1) (gap .inpaint-gap .ensures .0)
           (gap .inpaint-gap .ensures .1) (c .before .before .number-of .ensures) (c .before .accepted .ensures)
-          (c .first-of .ensures) (at .loop .inv .7),
+          (c .first-of .ensures) (at .loop .inv .8),
     )
 
 same-length : tie.Need-same-length Inv-loop μ-loop
@@ -136,28 +139,34 @@ same-length-3 c = c .before .loop .inv .5
 same-length-4 : tie.Need-same-length-4 Inv-loop μ-loop
 same-length-4 c = c .before .loop .inv .6
 
+same-length-5 : tie.Need-same-length-5 Inv-loop μ-loop
+same-length-5 c = c .before .loop .inv .7
+
 returns : tie.Need-returns Inv-loop μ-loop
 returns c =
     let at = c .before .loop in
     let past : length (at .samples) ≤ at .at = omega (arith, c .loop-test .left, at .inv .3) in
-    sym (scan-stops _ _ _ _ (sym (search-ends _ _ _ _ past refl))) ∙ at .inv .7
-
-same-length-5 : tie.Need-same-length-5 Inv-loop μ-loop
-same-length-5 c = c .before .before .before .before .before .loop .inv .3
+    sym (scan-stops _ _ _ _ (sym (search-ends _ _ _ _ past refl))) ∙ at .inv .8
 
 same-length-6 : tie.Need-same-length-6 Inv-loop μ-loop
-same-length-6 c = c .before .before .before .before .before .loop .inv .4
+same-length-6 c = c .before .before .before .before .before .loop .inv .3
 
 same-length-7 : tie.Need-same-length-7 Inv-loop μ-loop
-same-length-7 c = c .before .before .before .before .before .loop .inv .5
+same-length-7 c = c .before .before .before .before .before .loop .inv .4
 
 same-length-8 : tie.Need-same-length-8 Inv-loop μ-loop
-same-length-8 c = c .before .before .before .before .before .loop .inv .6
+same-length-8 c = c .before .before .before .before .before .loop .inv .5
+
+same-length-9 : tie.Need-same-length-9 Inv-loop μ-loop
+same-length-9 c = c .before .before .before .before .before .loop .inv .6
+
+same-length-10 : tie.Need-same-length-10 Inv-loop μ-loop
+same-length-10 c = c .before .before .before .before .before .loop .inv .7
 
 returns-2 : tie.Need-returns-2 Inv-loop μ-loop
 returns-2 c =
     let told = c .before .before in
-    sym (scan-stops _ _ _ _ (sym (told .next-run .ensures) ∙ c .enum-told .given .1)) ∙ told .before .before .before .loop .inv .7
+    sym (scan-stops _ _ _ _ (sym (told .next-run .ensures) ∙ c .enum-told .given .1)) ∙ told .before .before .before .loop .inv .8
 
 pub repair-runs-spec : {M : Type 1} → statement M
 repair-runs-spec =
@@ -182,9 +191,11 @@ repair-runs-spec =
     same-length-2
     same-length-3
     same-length-4
-    returns
     same-length-5
+    returns
     same-length-6
     same-length-7
     same-length-8
+    same-length-9
+    same-length-10
     returns-2)

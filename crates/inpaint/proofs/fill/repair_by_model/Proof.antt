@@ -15,7 +15,7 @@ use Rattle.inpaint.proofs.fill.repair_by_model.Tie as tie
 
 -- where the call begins, once the window's begin is known
 abbrev start : tie.After-window-from → tie.Start
-start c = c .before .before .before .before .before .before .before .before .before .before .before .before .before
+start c = c .before .before .before .before .before .before .before .before .before .before .before .before .before .before
 
 -- where the window was lent, and where it was widened
 abbrev widening : tie.After-window-from → tie.After-widen-words
@@ -33,11 +33,11 @@ placing c = c .before .before .before
 
 -- where the doubles were found in range, before the entry was made
 abbrev tested : tie.After-enter-span → tie.After-enum-told
-tested c = c .before .before .before .before .before
+tested c = c .before .before .before .before .before .before
 
 -- where the entry was made, and where they were tested
 abbrev entering : tie.After-enum-told3 → tie.After-enter-span
-entering c = c .before .before .before .before .before .before
+entering c = c .before .before .before .before .before .before .before .before
 
 abbrev testing : tie.After-enum-told3 → tie.After-check-results
 testing c = tested (entering c) .before .before
@@ -81,7 +81,7 @@ window-of-requires c κs = search needs
 
 widen-words-requires : tie.Need-widen-words-requires
 widen-words-requires c κs =
-    let s = c .before .before .before .before .before .before .before in
+    let s = c .before .before .before .before .before .before .before .before in
     let a = s .args in
     widen-room (a .samples .now) _ (a .start) (a .len) (a .work .now) (s .pre .1) (s .pre .2) (s .pre .3) (s .pre .4)
     (c .before .window-of .ensures)
@@ -162,23 +162,26 @@ same-length-3 : tie.Need-same-length-3
 same-length-3 c = refl
 
 same-length-4 : tie.Need-same-length-4
-same-length-4 c = c .before .before .before .before .before .before .enter-span .kept .1 .0
+same-length-4 c = c .before .before .before .before .before .before .before .before .enter-span .kept .1 .0
 
 same-length-5 : tie.Need-same-length-5
-same-length-5 c = c .before .before .before .before .before .before .enter-span .kept .1 .1 .0
+same-length-5 c = c .before .before .before .before .before .before .before .before .enter-span .kept .1 .1 .0
 
 same-length-6 : tie.Need-same-length-6
-same-length-6 c = gave (placing (tested (c .before .before .before .before .before .before) .before .before)) .count
+same-length-6 c = c .before .before .before .before .before .before .before .before .enter-span .kept .1 .1 .1 .0
+
+same-length-7 : tie.Need-same-length-7
+same-length-7 c = gave (placing (tested (c .before .before .before .before .before .before .before .before) .before .before)) .count
 
 returns-2 : tie.Need-returns-2
 returns-2 c =
-    let entering = c .before .before .before .before .before .before in
+    let entering = c .before .before .before .before .before .before .before .before in
     let told = tested entering in
     let call = told .before .before in
     let a = start (filling call .before) .args in
     let count = length-model (a .samples .now) (a .start) (a .len) (inside call) 1 in
     let m = gave (placing call) in (
-      span-refused (recording call) _ _ _ _ count _ _ _ _ _ _ (ranging call) (told .enum-told .given .1)
+      span-refused (recording call) _ _ _ _ count _ _ _ _ _ _ _ (ranging call) (told .enum-told .given .1)
           _ (c .enum-told4 .given .1) (entering .enter-span .ensures _ count),
       m .count,
       m .kept,
@@ -219,29 +222,32 @@ model-fill-requires c κs =
     let call = testing (c .before .before .before) in
     fill-count _ _ _ _ _ _ (gave (placing call)) (inside call)
 
-same-length-7 : tie.Need-same-length-7
-same-length-7 c = search needs
-
 same-length-8 : tie.Need-same-length-8
-same-length-8 c = entering (c .before .before .before .before .before .before) .enter-span .kept .1 .0
+same-length-8 c = search needs
 
 same-length-9 : tie.Need-same-length-9
-same-length-9 c = entering (c .before .before .before .before .before .before) .enter-span .kept .1 .1 .0
+same-length-9 c = entering (c .before .before .before .before .before .before) .enter-span .kept .1 .0
 
 same-length-10 : tie.Need-same-length-10
-same-length-10 c = gave (placing (testing (c .before .before .before .before .before .before))) .count
+same-length-10 c = entering (c .before .before .before .before .before .before) .enter-span .kept .1 .1 .0
+
+same-length-11 : tie.Need-same-length-11
+same-length-11 c = entering (c .before .before .before .before .before .before) .enter-span .kept .1 .1 .1 .0
+
+same-length-12 : tie.Need-same-length-12
+same-length-12 c = gave (placing (testing (c .before .before .before .before .before .before))) .count
 
 returns-3 : tie.Need-returns-3
 returns-3 c =
     let done = c .before .before .before .before .before .before in
-    let entering = done .before .before .before .before .before .before in
+    let entering = done .before .before .before .before .before .before .before .before in
     let told = tested entering in
     let call = told .before .before in
     let a = start (filling call .before) .args in
     let count = length-model (a .samples .now) (a .start) (a .len) (inside call) 1 in
     let m = gave (placing call) in
     let back = model-back _ _ _ _ _ _ m (inside call) _ (c .before .before .model-fill .ensures) in (
-      span-written (recording call) _ _ _ _ count _ _ _ _ _ _ (ranging call) (told .enum-told .given .1)
+      span-written (recording call) _ _ _ _ count _ _ _ _ _ _ _ (ranging call) (told .enum-told .given .1)
           _ _ (done .enum-told3 .given .1) back (entering .enter-span .ensures _ count),
       m .count,
       m .kept,
@@ -276,6 +282,7 @@ repair-by-model-spec =
     same-length-4
     same-length-5
     same-length-6
+    same-length-7
     returns-2
     add-model-fill
     mul-model-fill
@@ -288,8 +295,9 @@ repair-by-model-spec =
     part-model-fill-start-2
     part-model-fill-end-2
     model-fill-requires
-    same-length-7
     same-length-8
     same-length-9
     same-length-10
+    same-length-11
+    same-length-12
     returns-3)

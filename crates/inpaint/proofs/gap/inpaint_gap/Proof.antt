@@ -22,7 +22,7 @@ use Rattle.inpaint.proofs.gap.inpaint_gap.Tie as tie
 
 -- where the call begins, where the sizes were tested, and where the workspace was found enough, seen from later places
 abbrev start : tie.After-check-sizes → tie.Start
-start c = c .before .before .before .before .before .before .before .before .before
+start c = c .before .before .before .before .before .before .before .before .before .before .before
 
 abbrev sizing : tie.After-gap-wrong → tie.After-check-sizes
 sizing c = c .before .before .before
@@ -81,6 +81,9 @@ same-length-2 c = search needs
 same-length-3 : tie.Need-same-length-3
 same-length-3 c = search needs
 
+same-length-4 : tie.Need-same-length-4
+same-length-4 c = search needs
+
 returns : tie.Need-returns
 returns c =
     let at = c .before .before in
@@ -94,14 +97,17 @@ returns c =
 gap-wrong-requires : tie.Need-gap-wrong-requires
 gap-wrong-requires c κs = search needs
 
-same-length-4 : tie.Need-same-length-4
-same-length-4 c = search needs
-
 same-length-5 : tie.Need-same-length-5
 same-length-5 c = search needs
 
 same-length-6 : tie.Need-same-length-6
 same-length-6 c = search needs
+
+same-length-7 : tie.Need-same-length-7
+same-length-7 c = search needs
+
+same-length-8 : tie.Need-same-length-8
+same-length-8 c = search needs
 
 returns-2 : tie.Need-returns-2
 returns-2 c =
@@ -112,14 +118,17 @@ returns-2 c =
 needed-for-requires : tie.Need-needed-for-requires
 needed-for-requires c κs = (fits (c .before) .few, right c .inside)
 
-same-length-7 : tie.Need-same-length-7
-same-length-7 c = search needs
-
-same-length-8 : tie.Need-same-length-8
-same-length-8 c = search needs
-
 same-length-9 : tie.Need-same-length-9
 same-length-9 c = search needs
+
+same-length-10 : tie.Need-same-length-10
+same-length-10 c = search needs
+
+same-length-11 : tie.Need-same-length-11
+same-length-11 c = search needs
+
+same-length-12 : tie.Need-same-length-12
+same-length-12 c = search needs
 
 returns-3 : tie.Need-returns-3
 returns-3 c =
@@ -138,14 +147,17 @@ enum-told-3 c = search needs
 enum-told-4 : tie.Need-enum-told-4
 enum-told-4 c = search needs
 
-same-length-10 : tie.Need-same-length-10
-same-length-10 c = search needs
+same-length-13 : tie.Need-same-length-13
+same-length-13 c = search needs
 
-same-length-11 : tie.Need-same-length-11
-same-length-11 c = search needs
+same-length-14 : tie.Need-same-length-14
+same-length-14 c = search needs
 
-same-length-12 : tie.Need-same-length-12
-same-length-12 c = search needs
+same-length-15 : tie.Need-same-length-15
+same-length-15 c = search needs
+
+same-length-16 : tie.Need-same-length-16
+same-length-16 c = search needs
 
 returns-4 : tie.Need-returns-4
 returns-4 c =
@@ -162,50 +174,11 @@ returns-4 c =
 
 repair-by-line-requires : tie.Need-repair-by-line-requires
 repair-by-line-requires c κs =
-    let at = roomy (c .before .before .before .before .before) .before .before in
+    let at = roomy (c .before .before .before .before .before .before) .before .before in
     (fits (at .before), right at .inside)
 
 clear-doubles-requires : tie.Need-clear-doubles-requires
 clear-doubles-requires c κs = search needs
-
-same-length-13 : tie.Need-same-length-13
-same-length-13 c = search needs
-
-same-length-14 : tie.Need-same-length-14
-same-length-14 c = search needs
-
-same-length-15 : tie.Need-same-length-15
-same-length-15 c = search needs
-
-same-length-16 : tie.Need-same-length-16
-same-length-16 c = search needs
-
-returns-5 : tie.Need-returns-5
-returns-5 c =
-    let call = c .before .before .before .before .before .before .before .before .before .before in
-    let told = call .before .before .before .before .before .before in
-    let room = roomy told in
-    let at = room .before .before in
-    let s = sizing (at .before) in
-    let plan = plan-line _ _ _ _ _ (not-wrong at) (enough room) _ _ (told .before .before .check-known .ensures)
-    (told .enum-told3 .given .1) (call .before .before .before .before .before .if3 .taken) in
-    let w = start s .args .work .now in
-    let clear = c .before .before .clear-doubles .ensures in
-    let count = room .before .needed-for .ensures in
-    let done = cleared-too nought _ (doubles s) w w _ clear count (enough room) refl refl in (
-      ends (at .before) _ plan _ (call .repair-by-line .ensures),
-      commit-clears nought (recording s) _ _ _ _ (call .repair-by-line .ensures) (doubles s) _ _ done,
-    )
-
-repair-by-model-requires : tie.Need-repair-by-model-requires
-repair-by-model-requires c κs =
-    let room = roomy (c .before .before .before .before .before .before) in
-    let at = room .before .before in
-    let short = c .before .before .before .before .before .if3 .left in
-    (fits (at .before), right at .inside, right at .some, short, enough room)
-
-clear-doubles-requires-2 : tie.Need-clear-doubles-requires-2
-clear-doubles-requires-2 c κs = search needs
 
 same-length-17 : tie.Need-same-length-17
 same-length-17 c = search needs
@@ -219,16 +192,61 @@ same-length-19 c = search needs
 same-length-20 : tie.Need-same-length-20
 same-length-20 c = search needs
 
-returns-6 : tie.Need-returns-6
-returns-6 c =
+same-length-21 : tie.Need-same-length-21
+same-length-21 c = search needs
+
+returns-5 : tie.Need-returns-5
+returns-5 c =
     let call = c .before .before .before .before .before .before .before .before .before .before .before .before in
     let told = call .before .before .before .before .before .before .before in
     let room = roomy told in
     let at = room .before .before in
     let s = sizing (at .before) in
+    let plan = plan-line _ _ _ _ _ (not-wrong at) (enough room) _ _ (told .before .before .check-known .ensures)
+    (told .enum-told3 .given .1) (call .before .before .before .before .before .before .if3 .taken) in
+    let w = start s .args .work .now in
+    let clear = c .before .before .clear-doubles .ensures in
+    let count = room .before .needed-for .ensures in
+    let done = cleared-too nought _ (doubles s) w w _ clear count (enough room) refl refl in (
+      ends (at .before) _ plan _ (call .repair-by-line .ensures),
+      commit-clears nought (recording s) _ _ _ _ (call .repair-by-line .ensures) (doubles s) _ _ done,
+    )
+
+repair-by-model-requires : tie.Need-repair-by-model-requires
+repair-by-model-requires c κs =
+    let room = roomy (c .before .before .before .before .before .before .before) in
+    let at = room .before .before in
+    let short = c .before .before .before .before .before .before .if3 .left in
+    (fits (at .before), right at .inside, right at .some, short, enough room)
+
+clear-doubles-requires-2 : tie.Need-clear-doubles-requires-2
+clear-doubles-requires-2 c κs = search needs
+
+same-length-22 : tie.Need-same-length-22
+same-length-22 c = search needs
+
+same-length-23 : tie.Need-same-length-23
+same-length-23 c = search needs
+
+same-length-24 : tie.Need-same-length-24
+same-length-24 c = search needs
+
+same-length-25 : tie.Need-same-length-25
+same-length-25 c = search needs
+
+same-length-26 : tie.Need-same-length-26
+same-length-26 c = search needs
+
+returns-6 : tie.Need-returns-6
+returns-6 c =
+    let call = c .before .before .before .before .before .before .before .before .before .before .before .before .before .before in
+    let told = call .before .before .before .before .before .before .before .before in
+    let room = roomy told in
+    let at = room .before .before in
+    let s = sizing (at .before) in
     let w = start s .args .work .now in
     let plan = plan-model _ _ _ _ _ (not-wrong at) (enough room) _ _ (told .before .before .check-known .ensures)
-    (told .enum-told3 .given .1) (call .before .before .before .before .before .before .if3 .left) in
+    (told .enum-told3 .given .1) (call .before .before .before .before .before .before .before .if3 .left) in
     let left = call .repair-by-model .ensures in
     let clear = c .before .before .clear-doubles2 .ensures in
     let count = room .before .needed-for .ensures in
@@ -247,35 +265,41 @@ inpaint-gap-spec =
     same-length
     same-length-2
     same-length-3
+    same-length-4
     returns
     gap-wrong-requires
-    same-length-4
     same-length-5
     same-length-6
-    returns-2
-    needed-for-requires
     same-length-7
     same-length-8
+    returns-2
+    needed-for-requires
     same-length-9
+    same-length-10
+    same-length-11
+    same-length-12
     returns-3
     check-known-requires
     enum-told-3
     enum-told-4
-    same-length-10
-    same-length-11
-    same-length-12
-    returns-4
-    repair-by-line-requires
-    clear-doubles-requires
     same-length-13
     same-length-14
     same-length-15
     same-length-16
-    returns-5
-    repair-by-model-requires
-    clear-doubles-requires-2
+    returns-4
+    repair-by-line-requires
+    clear-doubles-requires
     same-length-17
     same-length-18
     same-length-19
     same-length-20
+    same-length-21
+    returns-5
+    repair-by-model-requires
+    clear-doubles-requires-2
+    same-length-22
+    same-length-23
+    same-length-24
+    same-length-25
+    same-length-26
     returns-6)

@@ -12,11 +12,11 @@ use Rattle.inpaint.proofs.line.repair_by_line.Tie as tie
 
 -- where the call begins, once the line is tested
 abbrev start : tie.After-check-line → tie.Start
-start c = c .before .before .before .before .before .before .before .before
+start c = c .before .before .before .before .before .before .before .before .before
 
 -- where the line was found in range, before the entry was made
 abbrev tested : tie.After-enter-span → tie.After-enum-told
-tested c = c .before .before .before .before .before
+tested c = c .before .before .before .before .before .before
 
 -- the recording before the call
 abbrev recording : tie.After-check-line → State
@@ -78,14 +78,17 @@ same-length-3 c = search needs
 same-length-4 : tie.Need-same-length-4
 same-length-4 c = search needs
 
+same-length-5 : tie.Need-same-length-5
+same-length-5 c = search needs
+
 returns-2 : tie.Need-returns-2
 returns-2 c =
-    let entering = c .before .before .before .before .before .before in
+    let entering = c .before .before .before .before .before .before .before .before in
     let told = tested entering in
     let at = told .before .before in
     let a = start at .args in
     let count = length-line (a .samples .now) (a .start) (a .len) in
-    span-refused (recording at) _ _ _ _ count _ _ _ _ _ _ (ranging at) (told .enum-told .given .1)
+    span-refused (recording at) _ _ _ _ count _ _ _ _ _ _ _ (ranging at) (told .enum-told .given .1)
     _ (c .enum-told4 .given .1) (entering .enter-span .ensures _ count)
 
 mul-line-fill : tie.Need-mul-line-fill
@@ -103,26 +106,29 @@ part-line-fill-end c = search needs
 line-fill-requires : tie.Need-line-fill-requires
 line-fill-requires c κs = search needs
 
-same-length-5 : tie.Need-same-length-5
-same-length-5 c = search needs
-
 same-length-6 : tie.Need-same-length-6
 same-length-6 c = search needs
 
 same-length-7 : tie.Need-same-length-7
 same-length-7 c = search needs
 
+same-length-8 : tie.Need-same-length-8
+same-length-8 c = search needs
+
+same-length-9 : tie.Need-same-length-9
+same-length-9 c = search needs
+
 returns-3 : tie.Need-returns-3
 returns-3 c =
     let done = c .before .before .before .before in
-    let entering = done .before .before .before .before .before .before in
+    let entering = done .before .before .before .before .before .before .before .before in
     let told = tested entering in
     let at = told .before .before in
     let a = start at .args in
     let count = length-line (a .samples .now) (a .start) (a .len) in
     let written = c .before .before .line-fill .ensures in
     let back = line-back (a .samples .now) _ _ _ _ (left-end at) (right-end at) _ (start at .pre .1) written in
-    span-written (recording at) _ _ _ _ count _ _ _ _ _ _ (ranging at) (told .enum-told .given .1)
+    span-written (recording at) _ _ _ _ count _ _ _ _ _ _ _ (ranging at) (told .enum-told .given .1)
     _ _ (done .enum-told3 .given .1) back (entering .enter-span .ensures _ count)
 
 pub repair-by-line-spec : {M : Type 1} → statement M
@@ -143,13 +149,15 @@ repair-by-line-spec =
     same-length-2
     same-length-3
     same-length-4
+    same-length-5
     returns-2
     mul-line-fill
     sub-line-fill
     part-line-fill-start
     part-line-fill-end
     line-fill-requires
-    same-length-5
     same-length-6
     same-length-7
+    same-length-8
+    same-length-9
     returns-3)
