@@ -16,6 +16,7 @@ use Rattle.recording.specs.Answers.{number, value, reasonNumber}
 use Rattle.recording.specs.Recording.{State, Ended, Placed, Plan, refuse, change, fitting, carried, performed, undone}
 use Rattle.recording.specs.Recording.{keptMark, openedWith, opened, openedReceived}
 use Rattle.recording.specs.Marks as marks
+use Rattle.recording.specs.Counts as blocks
 use Rattle.recording.specs.History as single
 use Rattle.recording.specs.Consequences.{Among, AllName, closings, returned}
 use Rattle.recording.specs.declared.Reason.{Reason}
@@ -24,6 +25,7 @@ use Rattle.recording.specs.declared.Answer.{Answer}
 use Rattle.recording.specs.declared.Answer.the-variants.{Done, Refused}
 use Rattle.recording.proofs.Journal.{all-zero}
 use Rattle.recording.proofs.History as history
+use Rattle.recording.proofs.Asking as asking
 use Rattle.recording.proofs.Single.{did-keeps, above-zero, accepted-as-ruled}
 use Rattle.inpaint.specs.Gap.{gapPlan, gapRepair}
 use Rattle.inpaint.specs.Auto.{limit, scannable, automatic, allowed}
@@ -49,7 +51,7 @@ use Rattle.cathar.specs.Demands.{GivenExactlyWhen, OpeningGivenExactlyWh
 use Rattle.cathar.specs.Demands.{RefusedOpeningChangesNothing, RulesAreLawful, after, AfterAny, Kind, kind, repairs, undoes, scans}
 use Rattle.cathar.specs.Demands.{scanned, counted, rules, CallIsItsRules, Demand2, allRules, Demand3, SurvivorsStand}
 use Rattle.cathar.specs.Demands.{UndoingAll, MeasuredIsRaw, MeasuredWasReceived, RawIsMeasuredOrNotReceived, NotReceivedIsRaw}
-use Rattle.cathar.specs.Demands.{Opened, EntriesAreSurvivors}
+use Rattle.cathar.specs.Demands.{Opened, EntriesAreSurvivors, CountsAreWorkedOut, AnswerIsEachMark, YesIsRaw}
 use Rattle.cathar.proofs.Refusals.{first-among, among-more, six-to-nine, opened-keeps, whole-number, gap-number, undo-number}
 use Rattle.cathar.proofs.Refusals.{scan-number, opening-number}
 
@@ -213,8 +215,8 @@ lines-only : (c : Call) (s : State) → (turnedAway c s ≡ 0) ⊎ Among (turned
 unfolding turnedAway first applies anyOut
 lines-only (gap start len passes work) s = first-among (applies (asked (gap start len passes work) s) s) (canGive (gap start len passes work))
 lines-only (scan rate millis work) s =
-    among-more _ (1 ∷ 2 ∷ 3 ∷ 4 ∷ []) (6 ∷ 7 ∷ 8 ∷ 9 ∷ [])
-    (first-among (applies (asked (scan rate millis work) s) s) (1 ∷ 2 ∷ 3 ∷ 4 ∷ []))
+    among-more _ (1 ∷ 14 ∷ 2 ∷ 3 ∷ 4 ∷ []) (6 ∷ 7 ∷ 8 ∷ 9 ∷ [])
+    (first-among (applies (asked (scan rate millis work) s) s) (1 ∷ 14 ∷ 2 ∷ 3 ∷ 4 ∷ []))
 lines-only (declip threshold work) s = first-among (applies (asked (declip threshold work) s) s) (canGive (declip threshold work))
 lines-only (decrackle sensitivity work) s = first-among (applies (asked (decrackle sensitivity work) s) s) (canGive (decrackle sensitivity work))
 lines-only (dequantize bits strength work) s = first-among (applies (asked (dequantize bits strength work) s) s) (canGive (dequantize bits strength work))
@@ -249,7 +251,7 @@ scan-only rate millis work s = go (scannable rate millis s) refl (lines-only (sc
         rw counted
         (elim (runs-only (runAnswers rate millis work s) (own-answers rate millis work s zero-done)) [
           | inl none ↦ inl none
-          | inr some ↦ inr (inr (inr (inr (inr (six-to-nine _ (some .0) (some .1))))))
+          | inr some ↦ inr (inr (inr (inr (inr (inr (six-to-nine _ (some .0) (some .1)))))))
         ])
     go (Refused why) e lines =
         let told : refused ≡ turnedAway (scan rate millis work) s =
@@ -474,8 +476,8 @@ answer-is-each-mark raw cs o start len h =
     rw (counts-are-worked-out raw cs o) (asking.answer-is-each-mark (after cs raw .marks) start len h)
 
 pub yes-is-raw : YesIsRaw
-yes-is-raw raw cs o start len yes i low high =
-    let mark = asking.yes-exactly-when (after cs raw .marks) start len .0 (rw (counts-are-worked-out raw cs o) at yes) i low high in
+yes-is-raw raw cs o start len affirmed i low high =
+    let mark = asking.yes-exactly-when (after cs raw .marks) start len .0 (rw (counts-are-worked-out raw cs o) at affirmed) i low high in
     (measured-is-raw raw cs o i mark, measured-was-received raw cs o i mark)
 
 pub entries-are-survivors : EntriesAreSurvivors

@@ -3,11 +3,12 @@
 use Prim.Native.Nat.{ℕ}
 use mathlib.Core.Path.{_≡_, refl}
 use mathlib.Core.List.{List, [], _∷_}
-use Rattle.recording.specs.Answers.{number, value}
+use Rattle.recording.specs.Answers.{number, value, verdictNumber, verdictYes}
 use Rattle.recording.specs.Recording.{State, Ended, ended, workAfter}
 use Rattle.recording.specs.declared.Answer.{Answer}
+use Rattle.recording.specs.declared.Verdict.{Verdict}
 use Rattle.frames.specs.Frames.{Delivered, delivered}
-use Rattle.cathar.specs.Calls.{Work, none, outcome, told, framesTold, toldOf}
+use Rattle.cathar.specs.Calls.{Work, none, outcome, told, framesTold, toldOf, spanTold, spanToldOf}
 
 -- an opening
 pub tells : (call : Ended) (a : Answer) (s : State) (result : ℕ) → ended a s ≡ call → result ≡ number a
@@ -30,3 +31,8 @@ pub reads : (call : Delivered) (a : Answer) (missing dropped : ℕ) (samples mar
     → delivered a missing dropped samples marks ≡ call → result ≡ number a → n ≡ value a
     → framesTold result (n ∷ missing ∷ dropped ∷ []) samples marks ≡ toldOf call
 reads call a missing dropped samples marks result n e r v = rw (r, v, ← e) refl
+
+-- of the span question, number and yes
+pub spans : (v verdict : Verdict) (result given : ℕ) → v ≡ verdict → result ≡ verdictNumber v → given ≡ verdictYes v
+    → spanTold result given ≡ spanToldOf verdict
+spans v verdict result given e r y = rw (r, y, e) refl

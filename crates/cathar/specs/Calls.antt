@@ -101,7 +101,7 @@ pub record SpanTold : Type 0 where
   pub yes : ℕ
 
 abbrev pub spanTold : ℕ → ℕ → SpanTold
-spanTold k yes = record { number = k; yes = yes }
+spanTold k affirmed = record { number = k; yes = affirmed }
 
 abbrev pub spanToldOf : Verdict → SpanTold
 spanToldOf v = spanTold (verdictNumber v) (verdictYes v)

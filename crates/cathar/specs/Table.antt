@@ -12,6 +12,7 @@ use Rattle.leaves.specs.Root.{root}
 use Rattle.recording.specs.Answers.{number, value}
 use Rattle.recording.specs.Recording.{State, Ended, undone}
 use Rattle.recording.specs.Marks.{measured}
+use Rattle.recording.specs.Counts.{counted}
 use Rattle.recording.specs.History.{fresh}
 use Rattle.inpaint.specs.Gap.{gapRepair}
 use Rattle.declip.specs.Declip.{declipRepair}
@@ -138,5 +139,5 @@ table =
 
 -- the statement: in every row the rules give what it should be
 pub table-holds : map (λ (r : Row). r .given) table ≡ map (λ (r : Row). r .should) table
-unfolding table
+unfolding table counted
 table-holds = refl

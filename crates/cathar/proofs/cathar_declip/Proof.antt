@@ -29,10 +29,13 @@ same-length-3 c = search needs
 same-length-4 : tie.Need-same-length-4
 same-length-4 c = search needs
 
+same-length-5 : tie.Need-same-length-5
+same-length-5 c = search needs
+
 returns : tie.Need-returns
 returns c =
-    let call = c .before .before .before .before .before .before .before .before .before .before in
-    let args = call .before .before .before .before .before .before .before .before .before .before .args in
+    let call = c .before .before .before .before .before .before .before .before .before .before .before .before in
+    let args = call .before .before .before .before .before .before .before .before .before .before .before .before .args in
     let n = needed (length (args .samples .now)) in
     works words _ _ _ _ _ 0 n (args .work .now) _ (call .declip .ensures) (c .number-of .ensures) (c .before .value-of .ensures)
 
@@ -47,4 +50,5 @@ cathar-declip-spec =
     same-length-2
     same-length-3
     same-length-4
+    same-length-5
     returns)

@@ -22,12 +22,22 @@ same-length-3 c = search needs
 same-length-4 : tie.Need-same-length-4
 same-length-4 c = search needs
 
+same-length-5 : tie.Need-same-length-5
+same-length-5 c = search needs
+
 returns : tie.Need-returns
 returns c =
     ap (λ (end : Scan). outcome (end .refused) (end .qualified ∷ end .repaired ∷ []) (end .after) (doubles (end .work)))
-    (c .before .before .before .before .before .before .before .before .inpaint-auto .ensures)
+    (c .before .before .before .before .before .before .before .before .before .before .inpaint-auto .ensures)
 
 pub cathar-inpaint-auto-spec : {M : Type 1} → statement M
 cathar-inpaint-auto-spec =
     tie.close
-    (tie.spec inpaint-auto-requires same-length same-length-2 same-length-3 same-length-4 returns)
+    (tie.spec
+    inpaint-auto-requires
+    same-length
+    same-length-2
+    same-length-3
+    same-length-4
+    same-length-5
+    returns)

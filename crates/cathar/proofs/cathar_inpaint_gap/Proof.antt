@@ -30,10 +30,13 @@ same-length-3 c = search needs
 same-length-4 : tie.Need-same-length-4
 same-length-4 c = search needs
 
+same-length-5 : tie.Need-same-length-5
+same-length-5 c = search needs
+
 returns : tie.Need-returns
 returns c =
-    let call = c .before .before .before .before .before .before .before .before .before .before in
-    let args = call .before .before .before .before .before .before .before .before .before .before .args in
+    let call = c .before .before .before .before .before .before .before .before .before .before .before .before in
+    let args = call .before .before .before .before .before .before .before .before .before .before .before .before .args in
     let n = needed (length (args .samples .now)) (args .start) (args .len) in
     works doubles _ _ _ _ _ nought n (args .work .now) _ (call .inpaint-gap .ensures) (c .number-of .ensures) (c .before .value-of .ensures)
 
@@ -48,4 +51,5 @@ cathar-inpaint-gap-spec =
     same-length-2
     same-length-3
     same-length-4
+    same-length-5
     returns)

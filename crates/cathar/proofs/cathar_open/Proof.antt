@@ -16,9 +16,18 @@ same-length c = search needs
 same-length-2 : tie.Need-same-length-2
 same-length-2 c = search needs
 
+same-length-3 : tie.Need-same-length-3
+same-length-3 c = search needs
+
 returns : tie.Need-returns
-returns c = tells _ _ _ _ (c .before .before .before .before .before .«open» .ensures) (c .number-of .ensures)
+returns c = tells _ _ _ _ (c .before .before .before .before .before .before .before .«open» .ensures) (c .number-of .ensures)
 
 pub cathar-open-spec : {M : Type 1} → statement M
 cathar-open-spec =
-    tie.close (tie.spec open-requires number-of-requires same-length same-length-2 returns)
+    tie.close (tie.spec
+    open-requires
+    number-of-requires
+    same-length
+    same-length-2
+    same-length-3
+    returns)

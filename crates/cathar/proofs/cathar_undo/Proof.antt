@@ -22,9 +22,12 @@ same-length-2 c = search needs
 same-length-3 : tie.Need-same-length-3
 same-length-3 c = search needs
 
+same-length-4 : tie.Need-same-length-4
+same-length-4 c = search needs
+
 returns : tie.Need-returns
 returns c =
-    let end = c .before .before .before .before .before .before .before .before .undo .ensures in
+    let end = c .before .before .before .before .before .before .before .before .before .before .undo .ensures in
     gives _ _ _ _ _ end (c .number-of .ensures) (c .before .value-of .ensures)
 
 pub cathar-undo-spec : {M : Type 1} → statement M
@@ -37,4 +40,5 @@ cathar-undo-spec =
     same-length
     same-length-2
     same-length-3
+    same-length-4
     returns)
