@@ -1,15 +1,18 @@
--- The scan and what it begins with, from what the code's steps ensure: the code's literals are the rule's, and a recording is scanned as
--- its opening leaves it. Assumes nothing.
-use mathlib.Core.Path.{_≡_, ap, _∙_}
-use mathlib.Core.List.{List}
-use lib.ListN.{replicate}
+-- The scan and what it begins with, from what the code's steps ensure: the code's literals are the rule's, a recording is scanned as its
+-- opening leaves it, and what is lent to be opened is what the rule says. Assumes nothing.
+use Prim.Native.Nat.{ℕ, zero, suc, _+_, _/_, _≤_}
+use native.Mathlib.Omega.{arith}
+use mathlib.Core.Path.{_≡_, refl, ap, _∙_}
+use mathlib.Core.List.{List, _∷_}
+use lib.ListN.{length, take, replicate}
 use lib.Ieee.{Float, binary32, binary64, ofBits}
 use Rattle.leaves.specs.Arithmetic.{nought}
 use Rattle.leaves.proofs.Literals.{one-word, nought-double}
-use Rattle.recording.specs.Recording.{State, Ended, ended}
+use Rattle.recording.specs.Recording.{State, state, Ended, ended}
+use Rattle.recording.specs.Counts.{blocks}
 use Rattle.recording.specs.declared.Answer.{Answer}
 use Rattle.inpaint.specs.Auto.{Scan, automatic}
-use Rattle.monitor.specs.Scanning.{rate, workspace, scanning}
+use Rattle.monitor.specs.Scanning.{mostInput, rate, journalWords, mostBlocks, unopened, workspace, scanning}
 
 -- a scan with the code's limit
 pub scanned-so : (s : State) (work : List Float) (scanned : Scan)
@@ -25,3 +28,18 @@ opened-then opening a s work scanned e h = h ∙ ap (λ (c : Ended). scanning wo
 -- a workspace of the code's 0.0 is one of +0
 pub empty-work : replicate workspace (ofBits binary64 0) ≡ replicate workspace nought
 empty-work = ap (replicate workspace) nought-double
+
+-- the counts that a program lends: as many of its 16 as there are blocks, which are all 0
+pub few-blocks : (n k : ℕ) → k ≡ blocks n → n ≤ mostInput → k ≤ mostBlocks
+few-blocks n k e few = omega arith
+
+zeros-of : (n k : ℕ) → k ≤ n → take k (replicate n 0) ≡ replicate {A = ℕ} k 0
+zeros-of n zero h = refl
+zeros-of zero (suc k) h = absurd (omega arith)
+zeros-of (suc n) (suc k) h = ap (λ (l : List ℕ). 0 ∷ l) (zeros-of n k (omega arith))
+
+pub lends : (words marks : List ℕ) (k : ℕ) → k ≡ blocks (length words) → length words ≤ mostInput
+    → state words marks (take k (replicate mostBlocks 0)) (replicate journalWords 0) 0 ≡ unopened words marks
+lends words marks k e few =
+    ap (λ (counts : List ℕ). state words marks counts (replicate journalWords 0) 0)
+    (zeros-of mostBlocks k (few-blocks (length words) k e few) ∙ ap (λ (n : ℕ). replicate n 0) e)

@@ -19,12 +19,22 @@ same-length-3 c = search needs
 same-length-4 : tie.Need-same-length-4
 same-length-4 c = search needs
 
+same-length-5 : tie.Need-same-length-5
+same-length-5 c = search needs
+
 returns : tie.Need-returns
 returns c =
-    let scanned = c .before .before .before .before .before .before .before .before in
+    let scanned = c .before .before .before .before .before .before .before .before .before .before in
     scanned-so _ _ _ (scanned .inpaint-auto .ensures)
 
 pub scan-recording-spec : {M : Type 1} → statement M
 scan-recording-spec =
     tie.close
-    (tie.spec inpaint-auto-requires same-length same-length-2 same-length-3 same-length-4 returns)
+    (tie.spec
+    inpaint-auto-requires
+    same-length
+    same-length-2
+    same-length-3
+    same-length-4
+    same-length-5
+    returns)
