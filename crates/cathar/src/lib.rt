@@ -11,6 +11,7 @@ ghost use Rattle.cathar.specs.Calls.{asMeasured, asReceived, opening, fr
 ghost use Rattle.frames.specs.Frames.{framesRead};
 ghost use Rattle.recording.specs.Lent.{left, lent, leftReading};
 ghost use Rattle.recording.specs.Question.{asked};
+use dequant::passes::dequantize;
 use recording::numbers::number_of;
 use recording::numbers::value_of;
 use recording::numbers::verdict_number;
@@ -199,16 +200,7 @@ pub extern "C" fn cathar_dequantize(
     ensures { λ r. ⌜ outcome r (now (value .exit) ∷ []) (left samples marks counts journal used) (words (now (work .exit)))
         ≡ ran (dequantize bits strength (now (work .entry))) (lent samples marks counts journal used) ⌝ }
 {
-    let answer = dequant::passes::dequantize(
-        samples,
-        marks,
-        counts,
-        journal,
-        used,
-        bits,
-        strength,
-        work,
-    );
+    let answer = dequantize(samples, marks, counts, journal, used, bits, strength, work);
     *value = value_of(answer);
     number_of(answer)
 }
