@@ -266,8 +266,9 @@ picked-recountable s work m marks middle fits count h long em =
   where
     ascends : Ascending (length (s .samples)) 0 (pickedBy work (length (s .samples)))
     ascends =
+        let n = length (s .samples) in
         unfold pickedBy in
-        picked-ascends (length (s .samples)) 0 0 (flags (take (length (s .samples)) (drop (length (s .samples)) work))) (take (length (s .samples)) work) (omega arith) (omega (arith, length-take (length (s .samples)) work))
+        picked-ascends n 0 0 (flags (take n (drop n work))) (take n work) (omega arith) (omega (arith, length-take n work))
 
 -- ---- How a commit ends
 

@@ -83,7 +83,8 @@ recount-requires c κs =
 
 seal-requires : tie.Need-seal-requires
 seal-requires c κs =
-    let most = few (counting (c .before .before .before .before .before .before .before .before .before .before .before .before .before .before .before .before .before)) in
+    let saving = c .before .before .before .before .before .before .before .before .before .before .before .before .before .before .before .before .before in
+    let most = few (counting saving) in
     (omega arith, omega arith)
 
 same-length : tie.Need-same-length

@@ -48,7 +48,8 @@ returns-2 c =
     let afresh = c .before .before .before .before in
     let marks = afresh .before .before .before .before .before .before .before in
     let told = marks .before .before in
-    opened-done _ _ (told .before .before .check-counts .ensures) _ _ _ _ _ (told .enum-told .given .1) (marks .set-marks .ensures) (afresh .begin-afresh .ensures)
+    opened-done _ _ (told .before .before .check-counts .ensures) _ _ _ _ _ (told .enum-told .given .1)
+    (marks .set-marks .ensures) (afresh .begin-afresh .ensures)
 
 pub open-spec : {M : Type 1} → statement M
 open-spec =

@@ -47,7 +47,8 @@ returns-2 c =
     let afresh = c .before .before .before .before in
     let marks = afresh .before .before .before .before .before .before .before in
     let told = marks .before .before in
-    received-done _ _ (told .before .before .check-counts .ensures) _ _ _ _ _ (told .enum-told .given .1) (marks .keep-received .ensures) (afresh .begin-afresh .ensures)
+    received-done _ _ (told .before .before .check-counts .ensures) _ _ _ _ _ (told .enum-told .given .1)
+    (marks .keep-received .ensures) (afresh .begin-afresh .ensures)
 
 pub open-received-spec : {M : Type 1} → statement M
 open-received-spec =
