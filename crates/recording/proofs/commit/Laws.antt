@@ -255,6 +255,11 @@ span-recountable s mark start len marks middle fits within h set em =
     (sym (length-span start words ∙ size)) h long (rw named at em)
 
 -- of a workspace
+picked-by-ascends : (work : List ℕ) (n : ℕ) → Ascending n 0 (pickedBy work n)
+unfolding pickedBy
+picked-by-ascends work n =
+    picked-ascends n 0 0 (flags (take n (drop n work))) (take n work) (omega arith) (omega (arith, length-take n work))
+
 pub picked-recountable : (s : State) (work : List ℕ) (m : ℕ) (marks middle : List ℕ) → Fits s
     → m ≡ length (pickedBy work (length (s .samples)))
     → entrySize m ≤ length (s .journal) - s .used
@@ -262,13 +267,7 @@ pub picked-recountable : (s : State) (work : List ℕ) (m : ℕ) (marks middle :
     → middle ≡ sets (s .journal) (s .used) (threeWords (saved (s .samples) (s .marks) (places (pickedBy work (length (s .samples))))))
     → Recountable marks (s .counts) middle (s .used) m
 picked-recountable s work m marks middle fits count h long em =
-    named-recountable s (pickedBy work (length (s .samples))) m marks middle fits ascends count h long em
-  where
-    ascends : Ascending (length (s .samples)) 0 (pickedBy work (length (s .samples)))
-    ascends =
-        let n = length (s .samples) in
-        unfold pickedBy in
-        picked-ascends n 0 0 (flags (take n (drop n work))) (take n work) (omega arith) (omega (arith, length-take n work))
+    named-recountable s (pickedBy work (length (s .samples))) m marks middle fits (picked-by-ascends work (length (s .samples))) count h long em
 
 -- ---- How a commit ends
 
