@@ -11,7 +11,7 @@ use Rattle.leaves.specs.Choice.{if_then_else_}
 use Rattle.recording.specs.Recording.{State, Placed, change}
 use Rattle.recording.specs.Marks.{measured, notReceived}
 use Rattle.recording.specs.Counts as blocks
-use Rattle.recording.specs.Question.{marksSay, asked}
+use Rattle.recording.specs.Question.{marksSay, spanVerdict}
 use Rattle.recording.specs.History as single
 use Rattle.recording.specs.Consequences.{Among, MadeOf, AllName, closings, returned}
 use Rattle.recording.specs.declared.Answer.the-variants.{Done, Refused}
@@ -189,7 +189,7 @@ CountsAreWorkedOut = AfterAny (λ raw cs. after cs raw .counts ≡ blocks.counte
 
 -- what the question answers of a recording as it is after these calls, "only our calls wrote" its marks and counts
 abbrev pub measuredThroughout : State → ℕ → ℕ → Verdict
-measuredThroughout s start len = asked (s .marks) (s .counts) start len
+measuredThroughout s start len = spanVerdict (s .marks) (s .counts) start len
 
 -- "its answer must equal looking at each mark": of a span within the recording
 abbrev pub AnswerIsEachMark : Type 0

@@ -10,7 +10,7 @@ ghost use Rattle.cathar.specs.Calls.{none, doubles, words, outcome, ran}
 ghost use Rattle.cathar.specs.Calls.{asMeasured, asReceived, opening, framesTold, toldOf, spanTold, spanToldOf};
 ghost use Rattle.frames.specs.Frames.{framesRead};
 ghost use Rattle.recording.specs.Lent.{left, lent, leftReading};
-ghost use Rattle.recording.specs.Question.{asked};
+ghost use Rattle.recording.specs.Question.{spanVerdict};
 use dequant::passes::dequantize;
 use recording::numbers::number_of;
 use recording::numbers::value_of;
@@ -269,7 +269,7 @@ pub extern "C" fn cathar_measured(
     len: usize,
     yes: &mut u32,
 ) -> u32
-    ensures { λ r. ⌜ spanTold r (now (yes .exit)) ≡ spanToldOf (asked (now (marks .entry)) (now (counts .entry)) start len) ⌝ }
+    ensures { λ r. ⌜ spanTold r (now (yes .exit)) ≡ spanToldOf (spanVerdict (now (marks .entry)) (now (counts .entry)) start len) ⌝ }
 {
     let verdict = recording::question::measured(marks, counts, start, len);
     *yes = verdict_yes(verdict);

@@ -17,7 +17,7 @@ use Rattle.recording.specs.Answers.{verdictYes}
 use Rattle.recording.specs.Marks.{measured}
 use Rattle.recording.specs.Counts.{blockSize, blockOf, blockBegin, blockLength, countedMark, unmeasured, countOf}
 use Rattle.recording.specs.Counts.{counted, miscounted}
-use Rattle.recording.specs.Question.{allAre, marksSay, countsSay, spanMeasured, spanPast, asked}
+use Rattle.recording.specs.Question.{allAre, marksSay, countsSay, spanMeasured, spanPast, spanVerdict}
 use Rattle.recording.specs.Consequences.{EachMeasured, AnswerIsEachMark, YesExactlyWhen}
 use Rattle.recording.specs.Consequences.{OtherMarksHaveNoSay, OtherCountsHaveNoSay}
 use Rattle.recording.specs.declared.Verdict.{Verdict}
@@ -129,13 +129,13 @@ span-each marks start (suc more) h =
     ]
 
 pub answer-is-each-mark : AnswerIsEachMark
-unfolding asked
+unfolding spanVerdict
 answer-is-each-mark marks start len h =
     rw (eq-eqb _ _ (length-counted marks), le-ltb (length marks) (start + len) h, span-each marks start len h) refl
 
 -- a span that passes the end has no answer
-past-no-answer : (marks counts : List ℕ) (start len : ℕ) → asked marks counts start len ≡ Yes → start + len ≤ length marks
-unfolding asked
+past-no-answer : (marks counts : List ℕ) (start len : ℕ) → spanVerdict marks counts start len ≡ Yes → start + len ≤ length marks
+unfolding spanVerdict
 past-no-answer marks counts start len =
     picks-by (λ (v : Verdict). v ≡ Yes → start + len ≤ length marks) (miscounted (length marks) counts) _ _
     (λ wrong e. absurd (omega (arith, ap verdictYes e)))
@@ -145,14 +145,14 @@ past-no-answer marks counts start len =
 pub yes-exactly-when : YesExactlyWhen
 yes-exactly-when marks start len = (yes-each (truth (marksSay marks start len)), each-yes)
   where
-    yes-each : EitherWay (marksSay marks start len) → asked marks (counted marks) start len ≡ Yes → EachMeasured marks start len
+    yes-each : EitherWay (marksSay marks start len) → spanVerdict marks (counted marks) start len ≡ Yes → EachMeasured marks start len
     yes-each (inl t) e i = all-each measured marks start len t i
     yes-each (inr f) e i =
         let within = past-no-answer marks (counted marks) start len e in
         let no : No ≡ Yes = sym (rw f at (answer-is-each-mark marks start len within)) ∙ e in
         absurd (omega (arith, ap verdictYes no))
 
-    each-yes : start + len ≤ length marks → EachMeasured marks start len → asked marks (counted marks) start len ≡ Yes
+    each-yes : start + len ≤ length marks → EachMeasured marks start len → spanVerdict marks (counted marks) start len ≡ Yes
     each-yes within all = rw (each-all measured marks start len all) at (answer-is-each-mark marks start len within)
 
 -- ---- Who has no say
@@ -176,7 +176,7 @@ same-marks marks others counts start (suc more) same =
     ]
 
 pub other-marks-have-no-say : OtherMarksHaveNoSay
-unfolding asked
+unfolding spanVerdict
 other-marks-have-no-say marks others counts start len long same = rw (long, same-marks marks others counts start len same) refl
 
 same-counts : (marks counts others : List ℕ) (start len : ℕ)
@@ -195,5 +195,5 @@ same-counts marks counts others start (suc more) same =
     ]
 
 pub other-counts-have-no-say : OtherCountsHaveNoSay
-unfolding asked
+unfolding spanVerdict
 other-counts-have-no-say marks counts others start len long same = rw (long, same-counts marks counts others start len same) refl

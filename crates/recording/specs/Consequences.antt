@@ -12,7 +12,7 @@ use Rattle.recording.specs.Recording.{lastCount, lastMark, lastBegin}
 use Rattle.leaves.specs.Choice.{if_then_else_}
 use Rattle.recording.specs.Marks.{measured, made}
 use Rattle.recording.specs.Counts.{blockOf, countOf, counted, recounted}
-use Rattle.recording.specs.Question.{marksSay, asked}
+use Rattle.recording.specs.Question.{marksSay, spanVerdict}
 use Rattle.recording.specs.History.{Repair, Call, repair, undo, did, run, survivors, LawfulRepair, AfterAny}
 use Rattle.recording.specs.declared.Reason.{Reason}
 use Rattle.recording.specs.declared.Answer.the-variants.{Done, Refused}
@@ -61,28 +61,28 @@ EachMeasured marks start len = (i : ℕ) → start ≤ i → i < start + len →
 abbrev pub AnswerIsEachMark : Type 0
 AnswerIsEachMark =
     (marks : List ℕ) (start len : ℕ) → start + len ≤ length marks
-    → asked marks (counted marks) start len ≡ (if marksSay marks start len then Yes else No)
+    → spanVerdict marks (counted marks) start len ≡ (if marksSay marks start len then Yes else No)
 
 -- so it is yes exactly when every mark of the span is 0
 abbrev pub YesExactlyWhen : Type 0
 YesExactlyWhen =
     (marks : List ℕ) (start len : ℕ)
-    → (asked marks (counted marks) start len ≡ Yes → EachMeasured marks start len)
-    × (start + len ≤ length marks → EachMeasured marks start len → asked marks (counted marks) start len ≡ Yes)
+    → (spanVerdict marks (counted marks) start len ≡ Yes → EachMeasured marks start len)
+    × (start + len ≤ length marks → EachMeasured marks start len → spanVerdict marks (counted marks) start len ≡ Yes)
 
 -- "looks at marks only in the blocks its ends fall in": two lists of marks that agree there give the same answer, whatever the counts are
 abbrev pub OtherMarksHaveNoSay : Type 0
 OtherMarksHaveNoSay =
     (marks others counts : List ℕ) (start len : ℕ) → length others ≡ length marks
     → ((i : ℕ) → (blockOf i ≡ blockOf start) ⊎ (blockOf i ≡ blockOf (start + len - 1)) → getD others i 0 ≡ getD marks i 0)
-    → asked others counts start len ≡ asked marks counts start len
+    → spanVerdict others counts start len ≡ spanVerdict marks counts start len
 
 -- and of the counts only those of the blocks between have a say
 abbrev pub OtherCountsHaveNoSay : Type 0
 OtherCountsHaveNoSay =
     (marks counts others : List ℕ) (start len : ℕ) → length others ≡ length counts
     → ((block : ℕ) → blockOf start < block → block < blockOf (start + len - 1) → getD others block 0 ≡ getD counts block 0)
-    → asked marks others start len ≡ asked marks counts start len
+    → spanVerdict marks others start len ≡ spanVerdict marks counts start len
 
 -- ---- Of every freshly opened recording with every sequence of calls
 

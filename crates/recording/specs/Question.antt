@@ -44,9 +44,9 @@ abbrev pub spanPast : ℕ → ℕ → ℕ → Bool
 spanPast n start len = ltb n (start + len)
 
 -- the answer: refusals 14 and 5, and then yes or no
-unfoldable pub asked : List ℕ → List ℕ → ℕ → ℕ → Verdict
+unfoldable pub spanVerdict : List ℕ → List ℕ → ℕ → ℕ → Verdict
 unfolding spanMeasured
-asked marks counts start len =
+spanVerdict marks counts start len =
     if miscounted (length marks) counts then TurnedAway Blocks else
     if spanPast (length marks) start len then TurnedAway Gap else
     if spanMeasured marks counts start len then Yes else

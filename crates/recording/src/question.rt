@@ -3,7 +3,7 @@ ghost use mathlib.Core.Path.{_≡_};
 ghost use Prim.Native.Nat.{_+_, _≤_};
 ghost use lib.ListN.{length};
 ghost use Rattle.recording.specs.Counts.{blocks};
-ghost use Rattle.recording.specs.Question.{marksSay, countsSay, spanMeasured, spanPast, asked};
+ghost use Rattle.recording.specs.Question.{marksSay, countsSay, spanMeasured, spanPast, spanVerdict};
 use super::Reason;
 use super::Verdict;
 use super::counts::BLOCK;
@@ -78,7 +78,7 @@ fn span_measured(marks: &[u8], counts: &[u16], start: usize, len: usize) -> bool
 // Whether every sample of a span is measured, from marks and counts; refusals 14 and 5, in this order. Of
 // the marks only those in the blocks that the span's ends fall in are looked at.
 pub fn measured(marks: &[u8], counts: &[u16], start: usize, len: usize) -> Verdict
-    ensures { λ r. ⌜ r ≡ asked (now (marks .entry)) (now (counts .entry)) start len ⌝ }
+    ensures { λ r. ⌜ r ≡ spanVerdict (now (marks .entry)) (now (counts .entry)) start len ⌝ }
 {
     if counts.len() != block_count(marks.len()) {
         return Verdict::TurnedAway(Reason::Blocks);

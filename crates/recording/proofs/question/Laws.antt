@@ -11,7 +11,7 @@ use mathlib.Core.Logic.{inl, inr}
 use Rattle.leaves.proofs.Numbers.{lt-or-ge}
 use borrow.Author.Tests.{eq-eqb, ne-eqb, lt-ltb, le-ltb}
 use Rattle.recording.specs.Counts.{blockOf, blockBegin, blocks}
-use Rattle.recording.specs.Question.{allAre, marksSay, countsSay, spanMeasured, spanPast, asked}
+use Rattle.recording.specs.Question.{allAre, marksSay, countsSay, spanMeasured, spanPast, spanVerdict}
 use Rattle.recording.specs.declared.Reason.the-variants.{Gap, Blocks}
 use Rattle.recording.specs.declared.Verdict.the-variants.{Yes, No, TurnedAway}
 
@@ -125,20 +125,20 @@ module _ (n start len : ℕ) where
       ]
 
 module _ (marks counts : List ℕ) (start len : ℕ) where
-  pub asked-blocks : (length counts ≡ blocks (length marks) → ⊥) → TurnedAway Blocks ≡ asked marks counts start len
-  unfolding asked
-  asked-blocks h = rw (ne-eqb _ _ h) refl
+  pub verdict-blocks : (length counts ≡ blocks (length marks) → ⊥) → TurnedAway Blocks ≡ spanVerdict marks counts start len
+  unfolding spanVerdict
+  verdict-blocks h = rw (ne-eqb _ _ h) refl
 
   module _ (one : length counts ≡ blocks (length marks)) (past : Bool) (tested : past ≡ spanPast (length marks) start len) where
-    pub asked-gap : past ≡ true → TurnedAway Gap ≡ asked marks counts start len
-    unfolding asked
-    asked-gap h = rw (eq-eqb _ _ one, ← tested, h) refl
+    pub verdict-gap : past ≡ true → TurnedAway Gap ≡ spanVerdict marks counts start len
+    unfolding spanVerdict
+    verdict-gap h = rw (eq-eqb _ _ one, ← tested, h) refl
 
     module _ (inside : past ≡ false) (says : Bool) (looked : says ≡ spanMeasured marks counts start len) where
-      pub asked-yes : says ≡ true → Yes ≡ asked marks counts start len
-      unfolding asked
-      asked-yes h = rw (eq-eqb _ _ one, ← tested, inside, ← looked, h) refl
+      pub verdict-yes : says ≡ true → Yes ≡ spanVerdict marks counts start len
+      unfolding spanVerdict
+      verdict-yes h = rw (eq-eqb _ _ one, ← tested, inside, ← looked, h) refl
 
-      pub asked-no : says ≡ false → No ≡ asked marks counts start len
-      unfolding asked
-      asked-no h = rw (eq-eqb _ _ one, ← tested, inside, ← looked, h) refl
+      pub verdict-no : says ≡ false → No ≡ spanVerdict marks counts start len
+      unfolding spanVerdict
+      verdict-no h = rw (eq-eqb _ _ one, ← tested, inside, ← looked, h) refl
