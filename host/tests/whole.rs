@@ -62,6 +62,10 @@ fn repair_usual(count: &mut Calls, draw: &mut Draw, settings: Settings) {
     for n in 0..21 {
         repair_shapes(count, draw, settings, FEW, n..n + 1);
     }
+    count.begin("each shape, beside the end of a block");
+    for n in [255, 256, 257, 258, 259, 511, 512, 513, 514, 515, 768, 769, 770] {
+        repair_shapes(count, draw, settings, FEW, n..n + 1);
+    }
     count.begin("each shape, 6 to 400 samples");
     repair_shapes(count, draw, settings, SHAPED, 6..401);
     count.begin("each shape, 1,000 to 4,000 samples");
@@ -86,9 +90,13 @@ fn repair_refused(count: &mut Calls, draw: &mut Draw, case: &Case) {
     for faults in Faults::each() {
         if let Some((model, how, work)) = faults.made(draw, case) {
             let answer = repair(count, &mut Both::new(model), how, work);
-            assert_eq!(answer.number(), faults.answer(), "the lowest of those that apply to {how:?}");
+            assert_eq!(answer.number(), faults.answer(), "the first of those that apply to {how:?}");
         }
     }
+    count.begin("each number of counts");
+    limits::counts(draw, case, &mut |model, how, work| {
+        repair(count, &mut Both::new(model), how, work);
+    });
     count.begin("beside the most samples");
     limits::large(draw, case, &mut |model, how, work| {
         repair(count, &mut Both::new(model), how, work);
@@ -194,7 +202,7 @@ fn cosparse() {
 fn repaired(samples: &[f32], how: Repair, m: usize) -> (Vec<f32>, Vec<usize>) {
     let n = samples.len();
     let words = samples.iter().map(|x| x.to_bits()).collect();
-    let model = Recording { samples: words, marks: vec![0; n], journal: vec![0; entry_words(m)], used: 0 };
+    let model = Recording::new(words, vec![0; n], vec![0; entry_words(m)], 0);
     let mut both = Both::new(model);
     assert_eq!(both.repair(how, vec![u32::MAX; needed(n)]), (Answer::Accepted(m), vec![]));
     let named: Vec<usize> = (0..n).filter(|place| both.model.marks[*place] == how.mark()).collect();
