@@ -103,15 +103,15 @@ fn each_repair() {
 fn questions() {
     let lengths = successors(Some(SHORTEST_SPAN), |len| Some(4 * len)).take_while(|len| *len <= MOST_SAMPLES);
     let line = |len| (format!("{len:>12} samples"), Task::Questions { len }, MOST_SAMPLES);
-    let what = format!("{QUESTIONS} questions, each over four times");
-    table_beside("each mark", &what, true, lengths.map(line).collect());
+    table_beside("each mark", &format!("{QUESTIONS} questions of a span"), true, lengths.map(line).collect());
 }
 
 fn main() {
     let processor = env::var("CATHAR_PROCESSOR").unwrap_or_default();
     println!("processor: {}", if processor.is_empty() { "not known" } else { &processor });
     println!("emulated: {}", if env::var_os("CATHAR_EMULATED").is_some() { "yes, x86-64 on Arm" } else { "no" });
-    println!("times: the processor's, the least of {ROUNDS} runs or more; growth: over the line before, which is half the size");
+    println!("times: the processor's, the least of {ROUNDS} runs or more");
+    println!("growth: over the line before, which is half the size, and for the question a quarter");
     each_repair();
     let gap = |len| Task::Gap { len, passes: 1 };
     let long = |len| (format!("{len:>12} long"), gap(len), SAMPLES);

@@ -60,7 +60,7 @@ fn agrees(marks: &[u8], counts: &[u16], Span { start, len }: Span, block: usize)
     }
 }
 
-/// "Its answer must equal looking at each mark", where only the calls wrote marks and counts.
+/// "Its answer must equal looking at each mark", where only the calls wrote marks and counts. For a span within them.
 pub fn by_each_mark(marks: &[u8], span: Span) -> bool {
-    marks.iter().skip(span.start).take(span.len).all(|mark| *mark == 0)
+    marks[span.start..span.start + span.len].iter().all(|mark| *mark == 0)
 }

@@ -64,13 +64,20 @@ fn marks(draw: &mut Draw, n: usize) -> Vec<u8> {
     (0..n).map(|_| if draw.below(spread) == 0 { draw.word() as u8 } else { 0 }).collect()
 }
 
-/// Counts of which all are 0, one in a few is not, or all are any; or those of the marks.
+/// Counts of which all are 0, one in a few is not, or all are any; or those of the marks. At times each that is not 0 is
+/// 32,768, so that two of them are 0 in 16 binary digits.
 fn counts(draw: &mut Draw, marks: &[u8]) -> Vec<u16> {
     let spread = [u64::MAX, 6, 2, 1, 0][draw.below(5) as usize];
-    let any = room::counts(draw, blocks(marks.len()));
-    match spread {
-        0 => counted(marks),
-        _ => any.into_iter().map(|count| if draw.below(spread) == 0 { count } else { 0 }).collect(),
+    let (half, any) = (draw.below(3) == 0, room::counts(draw, blocks(marks.len())));
+    let mut count = |any: u16| match draw.below(spread) {
+        0 if half => 0x8000,
+        0 => any,
+        _ => 0,
+    };
+    if spread == 0 {
+        counted(marks)
+    } else {
+        any.into_iter().map(&mut count).collect()
     }
 }
 
