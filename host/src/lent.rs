@@ -250,11 +250,14 @@ impl Lent {
         cathar::measured(marks, counts, span.start, span.len, yes)
     }
 
-    /// The parts that are not as they were lent, or whose guards do not stand, after a question that is told this.
+    /// The parts that the question is lent that are not what the recording and what it is told are, or whose guards do not
+    /// stand.
     pub fn wrong_after_question(&self, recording: &Recording, told: Told) -> Vec<&'static str> {
-        let mut wrong = self.wrong_recording(recording);
-        wrong.extend(not_right([("yes or no", self.yes.holds(patterns(&[u32::from(told.yes)])))]));
-        wrong
+        not_right([
+            ("marks", self.marks.holds(patterns(&recording.marks))),
+            ("counts", self.counts.holds(patterns(&recording.counts))),
+            ("yes or no", self.yes.holds(patterns(&[u32::from(told.yes)]))),
+        ])
     }
 
     /// The parts that are not what the recording and the value are, or whose guards do not stand.
