@@ -1,6 +1,6 @@
 //! Stand-ins for the counts, in each call on a recording, and for refusal 14. What goes wrong is mostly the same in
 //! every call, and is tried in each.
-use super::recording::{open_and, refused_and, where_also};
+use super::recording::{copy_first, copy_last, open_and, refused_and, where_also};
 use super::sequences::{named, taken_back};
 use super::How::{Alike, Library, Model};
 use super::{Finds, Standin, Table};
@@ -31,18 +31,20 @@ macro_rules! of_recounts {
             library!(
                 concat!($call, "_counts_first_block"),
                 "only the block of the first sample is recounted",
-                |l, c| recounting(l, c, |made| made.only(made.blocks[0])),
+                |lent, call| recounting(lent, call, |made| made.only(made.blocks[0])),
             ),
-            library!(concat!($call, "_counts_last_block"), "only the block of the last sample is recounted", |l, c| {
-                recounting(l, c, |made| made.only(made.blocks[made.blocks.len() - 1]))
-            }),
+            library!(
+                concat!($call, "_counts_last_block"),
+                "only the block of the last sample is recounted",
+                |lent, call| { recounting(lent, call, |made| made.only(made.blocks[made.blocks.len() - 1])) }
+            ),
             library!(concat!($call, "_counts_all_blocks"), "all blocks are recounted", |lent, call| {
                 recounting(lent, call, |made| counted(&made.after.marks))
             }),
             library!(
                 concat!($call, "_counts_block_behind"),
                 "the block behind the last sample's is recounted too",
-                |l, c| recounting(l, c, Made::with_block_behind),
+                |lent, call| recounting(lent, call, Made::with_block_behind),
             ),
             library!(concat!($call, "_counts_marks_before"), "the marks before the call are counted", |lent, call| {
                 recounting(lent, call, |made| made.by(|block| not_measured(block_of(&made.before.marks, block))))
@@ -53,7 +55,7 @@ macro_rules! of_recounts {
             library!(
                 concat!($call, "_moves_counts_by_marks"),
                 "the counts move as the marks do, and no block is counted",
-                |l, c| recounting(l, c, Made::moved_by_marks),
+                |lent, call| recounting(lent, call, Made::moved_by_marks),
             ),
             library!(concat!($call, "_counts_made_only"), "only the marks 1 to 5 are counted", |lent, call| {
                 recounting(lent, call, |made| made.by_marks(is_made))
@@ -70,12 +72,13 @@ macro_rules! of_recounts {
             library!(
                 concat!($call, "_counts_short_as_whole"),
                 "the last short block is taken for a whole one",
-                |l, c| recounting(l, c, Made::short_as_whole),
+                |lent, call| recounting(lent, call, Made::short_as_whole),
             ),
             library!(
                 concat!($call, "_counts_all_but_last_mark"),
                 "of a whole block the last mark is not counted",
-                |l, c| recounting(l, c, |made| made.by(|block| made.right(block) - made.last_of_whole(block))),
+                |lent, call| recounting(lent, call, |made| made
+                    .by(|block| made.right(block) - made.last_of_whole(block))),
             ),
             library!(concat!($call, "_counts_blocks_of_255"), "a block has 255 samples", |lent, call| {
                 recounting(lent, call, |made| made.by_blocks_of(255))
@@ -97,15 +100,18 @@ macro_rules! of_openings {
                 open_and(lent, call, |lent, before| lent.counts.lend().copy_from_slice(&before.counts))
             }),
             library!(concat!($call, "_keeps_first_count"), "the opening leaves the first count", |lent, call| {
-                open_and(lent, call, |lent, before| super::recording::copy_first(lent.counts.lend(), &before.counts))
+                open_and(lent, call, |lent, before| copy_first(lent.counts.lend(), &before.counts))
             }),
             library!(concat!($call, "_keeps_last_count"), "the opening leaves the last count", |lent, call| {
-                open_and(lent, call, |lent, before| super::recording::copy_last(lent.counts.lend(), &before.counts))
+                open_and(lent, call, |lent, before| copy_last(lent.counts.lend(), &before.counts))
             }),
             library!(
                 concat!($call, "_counts_marks_before"),
                 "the opening counts the marks as they were before",
-                |l, c| open_and(l, c, |lent, before| lent.counts.lend().copy_from_slice(&counted(&before.marks))),
+                |lent, call| open_and(lent, call, |lent, before| lent
+                    .counts
+                    .lend()
+                    .copy_from_slice(&counted(&before.marks))),
             ),
             library!(concat!($call, "_counts_nan"), "the opening counts the samples that are NaN", |lent, call| {
                 open_and(lent, call, |lent, before| lent.counts.lend().copy_from_slice(&nan_counted(&before.samples)))
@@ -113,7 +119,7 @@ macro_rules! of_openings {
             library!(
                 concat!($call, "_counts_short_as_whole"),
                 "the last short block is taken for a whole one",
-                |l, c| open_and(l, c, |lent, _| counts_short_as_whole(lent)),
+                |lent, call| open_and(lent, call, |lent, _| counts_short_as_whole(lent)),
             ),
             library!(concat!($call, "_writes_count_past_end"), "one count too many is written", |lent, call| {
                 open_and(lent, call, |lent, before| lent.counts.whole[GUARDS + before.counts.len()] = 0)
@@ -159,22 +165,22 @@ macro_rules! of_refusals {
             library!(
                 concat!($call, "_misses_14_for_more"),
                 "14 is not given where there are too many counts",
-                |l, c| taking(l, c, |has, n| has >= blocks(n)),
+                |lent, call| taking(lent, call, |has, n| has >= blocks(n)),
             ),
             library!(
                 concat!($call, "_misses_14_for_fewer"),
                 "14 is not given where there are too few counts",
-                |l, c| taking(l, c, |has, n| has <= blocks(n)),
+                |lent, call| taking(lent, call, |has, n| has <= blocks(n)),
             ),
             library!(
                 concat!($call, "_14_rounded_down"),
                 "as many counts are asked for as there are whole blocks",
-                |l, c| taking(l, c, |has, n| has == n / BLOCK),
+                |lent, call| taking(lent, call, |has, n| has == n / BLOCK),
             ),
             library!(
                 concat!($call, "_14_one_more"),
                 "a count is asked for behind the last whole block, also of none",
-                |l, c| taking(l, c, |has, n| has == n / BLOCK + 1),
+                |lent, call| taking(lent, call, |has, n| has == n / BLOCK + 1),
             ),
             library!(
                 concat!($call, "_misses_14_of_none"),

@@ -5,9 +5,10 @@ use super::counts::{
 };
 use super::How::{Alike, Asked, BothAsked};
 use super::{Finds, Standin, Table};
-use crate::lent::{Lent, YES_BEFORE};
+use crate::lent::{Lent, GUARDS, YES_BEFORE};
 use crate::question::{by_each_mark, refused, told, Span, Told};
 use crate::recording::{blocks, counted, is_made, BLOCK, MOST_SAMPLES, NOT_RECEIVED};
+use std::ops::Range;
 
 pub(super) const TABLES: &[Table] = &[
     Table { file: "question", test: "on_reached_states", finds: Finds::Always, standins: ON_REACHED },
@@ -34,51 +35,67 @@ macro_rules! both {
 /// What is wrong also where the counts are those of the marks.
 const ON_REACHED: &[Standin] = &[
     asked!("question_misses_first", "the first sample of the span has no say", |lent, span| {
-        saying(lent, span, |m, c, s| rule(m, c, Span { start: s.start + 1, len: s.len.saturating_sub(1) }))
+        saying(lent, span, |marks, counts, span| {
+            rule(marks, counts, Span { start: span.start + 1, len: span.len.saturating_sub(1) })
+        })
     }),
     asked!("question_misses_last", "the last sample of the span has no say", |lent, span| {
-        saying(lent, span, |m, c, s| rule(m, c, Span { len: s.len.saturating_sub(1), ..s }))
+        saying(lent, span, |marks, counts, span| rule(marks, counts, Span { len: span.len.saturating_sub(1), ..span }))
     }),
     asked!("question_one_before", "the sample before the span has a say too", |lent, span| {
-        saying(lent, span, |m, c, s| rule(m, c, s) && (s.start == 0 || s.len == 0 || m[s.start - 1] == 0))
+        saying(lent, span, |marks, counts, span| {
+            rule(marks, counts, span) && (span.start == 0 || span.len == 0 || marks[span.start - 1] == 0)
+        })
     }),
     asked!("question_one_behind", "the sample behind the span has a say too", |lent, span| {
-        saying(lent, span, |m, c, s| rule(m, c, s) && (s.len == 0 || m.get(s.start + s.len).map_or(true, |m| *m == 0)))
+        saying(lent, span, |marks, counts, span| {
+            rule(marks, counts, span)
+                && (span.len == 0 || marks.get(span.start + span.len).map_or(true, |mark| *mark == 0))
+        })
     }),
     asked!("question_whole_first_block", "all marks of the first block have a say", |lent, span| {
-        saying(lent, span, |m, c, s| rule(m, c, s) && (s.len == 0 || is_measured(m, first(s) * BLOCK, s.start)))
+        saying(lent, span, |marks, counts, span| {
+            rule(marks, counts, span) && (span.len == 0 || is_measured(marks, first(span) * BLOCK, span.start))
+        })
     }),
     asked!("question_whole_last_block", "all marks of the last block have a say", |lent, span| {
-        saying(lent, span, |m, c, s| {
-            rule(m, c, s) && (s.len == 0 || is_measured(m, s.start + s.len, (last(s) + 1) * BLOCK))
+        saying(lent, span, |marks, counts, span| {
+            rule(marks, counts, span)
+                && (span.len == 0 || is_measured(marks, span.start + span.len, (last(span) + 1) * BLOCK))
         })
     }),
     asked!("question_misses_block_between", "the last block between has no say", |lent, span| {
-        saying(lent, span, |m, c, s| by_parts(m, c, s, |first, last| first + 1..last.saturating_sub(1)))
+        saying(lent, span, |marks, counts, span| {
+            by_parts(marks, counts, span, |first, last| first + 1..last.saturating_sub(1))
+        })
     }),
     asked!("question_misses_first_between", "the first block between has no say", |lent, span| {
-        saying(lent, span, |m, c, s| by_parts(m, c, s, |first, last| first + 2..last))
+        saying(lent, span, |marks, counts, span| by_parts(marks, counts, span, |first, last| first + 2..last))
     }),
     asked!("question_misses_all_between", "the blocks between have no say", |lent, span| {
-        saying(lent, span, |m, c, s| by_parts(m, c, s, |_, _| 0..0))
+        saying(lent, span, |marks, counts, span| by_parts(marks, counts, span, |_, _| 0..0))
     }),
     asked!("question_counts_last_block_too", "the last block's count has a say too", |lent, span| {
-        saying(lent, span, |m, c, s| by_parts(m, c, s, |first, last| first + 1..last + 1))
+        saying(lent, span, |marks, counts, span| by_parts(marks, counts, span, |first, last| first + 1..last + 1))
     }),
     asked!("question_counts_first_block_too", "the first block's count has a say too", |lent, span| {
-        saying(lent, span, |m, c, s| by_parts(m, c, s, |first, last| first..last))
+        saying(lent, span, |marks, counts, span| by_parts(marks, counts, span, |first, last| first..last))
     }),
     asked!("question_counts_alone", "counts alone have a say", |lent, span| saying(lent, span, by_counts)),
     asked!("question_length_0_no", "a span of length 0 gets no", |lent, span| {
-        saying(lent, span, |m, c, s| s.len > 0 && rule(m, c, s))
+        saying(lent, span, |marks, counts, span| span.len > 0 && rule(marks, counts, span))
     }),
     asked!("question_length_0_by_mark", "a span of length 0 is asked for the mark at its start", |lent, span| {
-        saying(lent, span, |m, c, s| rule(m, c, s) && (s.len > 0 || m.get(s.start).map_or(true, |mark| *mark == 0)))
+        saying(lent, span, |marks, counts, span| {
+            rule(marks, counts, span) && (span.len > 0 || marks.get(span.start).map_or(true, |mark| *mark == 0))
+        })
     }),
     asked!("question_length_0_at_end_5", "a span of length 0 at the very end gives 5", |lent, span| {
         refusing(lent, span, |n, span| span.start == n && span.len == 0)
     }),
-    asked!("question_length_0_5", "a span of length 0 gives 5", |lent, span| refusing(lent, span, |_, s| s.len == 0)),
+    asked!("question_length_0_5", "a span of length 0 gives 5", |lent, span| {
+        refusing(lent, span, |_, span| span.len == 0)
+    }),
     asked!("question_5_at_end", "a span that ends with the recording gives 5", |lent, span| {
         refusing(lent, span, |n, span| span.end() == Some(n) && span.len > 0)
     }),
@@ -109,20 +126,20 @@ const ON_REACHED: &[Standin] = &[
     }),
     asked!("question_in_8_bytes", "the answer is written as 8 bytes", |lent, span| {
         let number = lent.question(span);
-        lent.yes.whole[crate::lent::GUARDS + 1] = 0;
+        lent.yes.whole[GUARDS + 1] = 0;
         number
     }),
     asked!("question_6_is_measured", "mark 6 does not stand in the way", |lent, span| {
-        saying(lent, span, |m, _, s| of(m, s).iter().all(|mark| [0, NOT_RECEIVED].contains(mark)))
+        saying(lent, span, |marks, _, span| of(marks, span).iter().all(|mark| [0, NOT_RECEIVED].contains(mark)))
     }),
     asked!("question_made_is_measured", "marks 1 to 5 do not stand in the way", |lent, span| {
-        saying(lent, span, |m, _, s| !of(m, s).iter().any(|mark| *mark != 0 && !is_made(*mark)))
+        saying(lent, span, |marks, _, span| !of(marks, span).iter().any(|mark| *mark != 0 && !is_made(*mark)))
     }),
     asked!("question_blocks_of_255", "a block has 255 samples", |lent, span| {
-        saying(lent, span, |m, c, s| by_blocks_of(m, c, s, 255))
+        saying(lent, span, |marks, counts, span| by_blocks_of(marks, counts, span, 255))
     }),
     asked!("question_blocks_of_257", "a block has 257 samples", |lent, span| {
-        saying(lent, span, |m, c, s| by_blocks_of(m, c, s, 257))
+        saying(lent, span, |marks, counts, span| by_blocks_of(marks, counts, span, 257))
     }),
     asked!("question_writes_mark", "the question sets the first mark of the span to 0", |lent, span| {
         let number = lent.question(span);
@@ -133,25 +150,40 @@ const ON_REACHED: &[Standin] = &[
 
 /// On both sides, so that only the marks tell.
 const OF_BOTH: &[Standin] = &[
-    both!("question_both_counts_alone", "counts alone have a say", |m, c, s| told(m, c, s, by_counts)),
-    both!("question_both_misses_last", "the last sample of the span has no say", |m, c, s| {
-        told(m, c, s, |m, c, s| rule(m, c, Span { len: s.len.saturating_sub(1), ..s }))
+    both!("question_both_counts_alone", "counts alone have a say", |marks, counts, span| told(
+        marks, counts, span, by_counts
+    )),
+    both!("question_both_misses_last", "the last sample of the span has no say", |marks, counts, span| {
+        told(marks, counts, span, |marks, counts, span| {
+            rule(marks, counts, Span { len: span.len.saturating_sub(1), ..span })
+        })
     }),
-    both!("question_both_misses_between", "the blocks between have no say", |m, c, s| {
-        told(m, c, s, |m, c, s| by_parts(m, c, s, |_, _| 0..0))
+    both!("question_both_misses_between", "the blocks between have no say", |marks, counts, span| {
+        told(marks, counts, span, |marks, counts, span| by_parts(marks, counts, span, |_, _| 0..0))
     }),
-    both!("question_both_counts_last_too", "the last block's count has a say too", |m, c, s| {
-        told(m, c, s, |m, c, s| by_parts(m, c, s, |first, last| first + 1..last + 1))
+    both!("question_both_counts_last_too", "the last block's count has a say too", |marks, counts, span| {
+        told(marks, counts, span, |marks, counts, span| {
+            by_parts(marks, counts, span, |first, last| first + 1..last + 1)
+        })
     }),
-    both!("question_both_length_0_no", "a span of length 0 gets no", |m, c, s| {
-        told(m, c, s, |m, c, s| s.len > 0 && rule(m, c, s))
+    both!("question_both_length_0_no", "a span of length 0 gets no", |marks, counts, span| {
+        told(marks, counts, span, |marks, counts, span| span.len > 0 && rule(marks, counts, span))
     }),
-    both!("question_both_always_no", "every span gets no", |m, c, s| told(m, c, s, |_, _, _| false)),
+    both!("question_both_always_no", "every span gets no", |marks, counts, span| told(
+        marks,
+        counts,
+        span,
+        |_, _, _| false
+    )),
     both!("question_both_always_5", "every span gives 5", |_, _, _| Told { number: 5, yes: false }),
-    both!("question_both_5_not_one_past", "a span that ends one past the recording gets no, and not 5", |m, c, s| {
-        let number = refused(m, c, s).filter(|_| s.end() != Some(m.len() + 1)).unwrap_or(0);
-        Told { number, yes: refused(m, c, s).is_none() && rule(m, c, s) }
-    }),
+    both!(
+        "question_both_5_not_one_past",
+        "a span that ends one past the recording gets no, and not 5",
+        |marks, counts, span| {
+            let number = refused(marks, counts, span).filter(|_| span.end() != Some(marks.len() + 1)).unwrap_or(0);
+            Told { number, yes: refused(marks, counts, span).is_none() && rule(marks, counts, span) }
+        }
+    ),
 ];
 
 /// The calls before the question, alike on both sides: the answers follow the counts and not the marks.
@@ -174,24 +206,24 @@ const OF_CALLS: &[Standin] = &[
 /// What shows only where the counts are not those of the marks.
 const ON_ANY: &[Standin] = &[
     asked!("question_marks_alone", "marks alone have a say", |lent, span| {
-        saying(lent, span, |m, _, s| by_each_mark(m, s))
+        saying(lent, span, |marks, _, span| by_each_mark(marks, span))
     }),
     asked!("question_marks_between_too", "marks have a say between too", |lent, span| {
-        saying(lent, span, |m, c, s| rule(m, c, s) && by_each_mark(m, s))
+        saying(lent, span, |marks, counts, span| rule(marks, counts, span) && by_each_mark(marks, span))
     }),
     asked!("question_marks_between_suffice", "between, either a count of 0 or marks of 0 will do", |lent, span| {
-        saying(lent, span, |m, c, s| rule(m, c, s) || by_each_mark(m, s))
+        saying(lent, span, |marks, counts, span| rule(marks, counts, span) || by_each_mark(marks, span))
     }),
     asked!(
         "question_whole_first_by_count",
         "a first block that is wholly in the span is told by its count",
-        |l, span| {
-            saying(l, span, |m, c, s| {
-                let by_count = s.start % BLOCK == 0 && s.len >= BLOCK;
+        |lent, span| {
+            saying(lent, span, |marks, counts, span| {
+                let by_count = span.start % BLOCK == 0 && span.len >= BLOCK;
                 if by_count {
-                    by_ends(m, c, s, [true, false])
+                    by_ends(marks, counts, span, [true, false])
                 } else {
-                    rule(m, c, s)
+                    rule(marks, counts, span)
                 }
             })
         },
@@ -199,13 +231,13 @@ const ON_ANY: &[Standin] = &[
     asked!(
         "question_whole_last_by_count",
         "a last block that is wholly in the span is told by its count",
-        |l, span| {
-            saying(l, span, |m, c, s| {
-                let by_count = (s.start + s.len) % BLOCK == 0 && s.len >= BLOCK;
+        |lent, span| {
+            saying(lent, span, |marks, counts, span| {
+                let by_count = (span.start + span.len) % BLOCK == 0 && span.len >= BLOCK;
                 if by_count {
-                    by_ends(m, c, s, [false, true])
+                    by_ends(marks, counts, span, [false, true])
                 } else {
-                    rule(m, c, s)
+                    rule(marks, counts, span)
                 }
             })
         }
@@ -213,40 +245,41 @@ const ON_ANY: &[Standin] = &[
     asked!(
         "question_short_last_by_count",
         "a short last block that is wholly in the span is told by its count",
-        |l, s| {
-            saying(l, s, |m, c, s| {
-                let by_count = s.len > 0 && s.start + s.len == m.len() && s.start <= last(s) * BLOCK;
+        |lent, span| {
+            saying(lent, span, |marks, counts, span| {
+                let by_count = span.len > 0 && span.start + span.len == marks.len() && span.start <= last(span) * BLOCK;
                 if by_count {
-                    by_ends(m, c, s, [false, true])
+                    by_ends(marks, counts, span, [false, true])
                 } else {
-                    rule(m, c, s)
+                    rule(marks, counts, span)
                 }
             })
         },
     ),
     asked!("question_count_below_256", "between, only a count of 256 or more stands in the way", |lent, span| {
-        saying(lent, span, |m, c, s| {
-            let full: Vec<u16> = c.iter().map(|count| count / 256).collect();
-            rule(m, &full, s)
+        saying(lent, span, |marks, counts, span| {
+            let full: Vec<u16> = counts.iter().map(|count| count / 256).collect();
+            rule(marks, &full, span)
         })
     }),
     asked!("question_count_as_byte", "of a count the last 8 binary digits are read", |lent, span| {
-        saying(lent, span, |m, c, s| {
-            let bytes: Vec<u16> = c.iter().map(|count| count & 0xff).collect();
-            rule(m, &bytes, s)
+        saying(lent, span, |marks, counts, span| {
+            let bytes: Vec<u16> = counts.iter().map(|count| count & 0xff).collect();
+            rule(marks, &bytes, span)
         })
     }),
     asked!("question_count_signed", "a count above 32,767 is below 0, and does not stand in the way", |lent, span| {
-        saying(lent, span, |m, c, s| {
-            let signed: Vec<u16> = c.iter().map(|count| (*count as i16).max(0) as u16).collect();
-            rule(m, &signed, s)
+        saying(lent, span, |marks, counts, span| {
+            let signed: Vec<u16> = counts.iter().map(|count| (*count as i16).max(0) as u16).collect();
+            rule(marks, &signed, span)
         })
     }),
     asked!("question_sum_of_counts", "the counts between are summed in 16 binary digits", |lent, span| {
-        saying(lent, span, |m, c, s| {
-            let between = if s.len > 0 { first(s) + 1..last(s) } else { 0..0 };
-            let sum = c.iter().take(between.end).skip(between.start).fold(0u16, |sum, count| sum.wrapping_add(*count));
-            by_parts(m, c, s, |_, _| 0..0) && sum == 0
+        saying(lent, span, |marks, counts, span| {
+            let between = if span.len > 0 { first(span) + 1..last(span) } else { 0..0 };
+            let sum =
+                counts.iter().take(between.end).skip(between.start).fold(0u16, |sum, count| sum.wrapping_add(*count));
+            by_parts(marks, counts, span, |_, _| 0..0) && sum == 0
         })
     }),
     asked!("question_recounts", "the question sets the counts right", |lent, span| {
@@ -326,7 +359,7 @@ fn is_measured(marks: &[u8], from: usize, to: usize) -> bool {
 }
 
 /// The answer for a span within the marks, where these blocks have to have the count 0.
-fn by_parts(marks: &[u8], counts: &[u16], span: Span, between: fn(usize, usize) -> std::ops::Range<usize>) -> bool {
+fn by_parts(marks: &[u8], counts: &[u16], span: Span, between: fn(usize, usize) -> Range<usize>) -> bool {
     if span.len == 0 {
         return true;
     }
