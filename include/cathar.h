@@ -55,7 +55,7 @@ float cathar_round(float x);
  *   used      one number: how many of the journal's words are taken, from its start on
  * An area and its length, in elements, follow each other. Each area has at least the length given for it. No
  * pointer is null, not even that of an area of length 0; each is aligned for its type; and no two areas
- * overlap, used and value among them, nor a workspace, qualified or repaired.
+ * overlap, used, value and yes among them, nor a workspace, qualified or repaired.
  *
  * A sample is in range if it is finite and its magnitude is at most CATHAR_LOUDEST. */
 #define CATHAR_MOST_SAMPLES 1048576     /* the most samples of a recording */
@@ -106,7 +106,7 @@ static inline size_t cathar_counts(size_t n)
  * the needed part cleared, and the others leave all of it. A scan, cathar_inpaint_auto, is several repairs, and answers
  * for the first of them that is refused: by 6 to 9 it tells of that run alone, and others may have been repaired. */
 #define CATHAR_ACCEPTED 0
-#define CATHAR_REFUSED_COUNTS 1         /* marks and samples differ in number */
+#define CATHAR_REFUSED_COUNTS 1         /* marks and samples differ in number; for the number of counts, see 14 */
 #define CATHAR_REFUSED_TOO_MANY 2       /* more than CATHAR_MOST_SAMPLES samples */
 #define CATHAR_REFUSED_USED 3           /* used exceeds the journal's length */
 #define CATHAR_REFUSED_SETTING 4        /* a setting is not allowed */

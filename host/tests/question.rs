@@ -20,7 +20,7 @@ use question::spans;
 use question::states::{self, Reached};
 
 /// How many recordings are opened, and after how many calls on each the questions are asked.
-const RECORDINGS: u64 = 900;
+const RECORDINGS: u64 = 750;
 const CALLS: u64 = 8;
 
 /// How many marks with counts there are that no call wrote.
