@@ -49,14 +49,17 @@ float cathar_round(float x);
  *   samples   n words, each the pattern of a float as it stands in memory: that of 1.0f is 0x3f800000, and
  *             memcpy of the 4 bytes makes either of the other. Places count from 0.
  *   marks     marks_n bytes, one for each sample: what it says of the sample is below
+ *   counts    counts_n numbers of 16 bits, one for each block of CATHAR_BLOCK samples, of which the last may be short:
+ *             how many of its marks are not 0. cathar_counts(n), below, says how many to lend
  *   journal   journal_n words
  *   used      one number: how many of the journal's words are taken, from its start on
  * An area and its length, in elements, follow each other. Each area has at least the length given for it. No
  * pointer is null, not even that of an area of length 0; each is aligned for its type; and no two areas
- * overlap, used and value among them, nor a workspace, qualified or repaired.
+ * overlap, used, value and yes among them, nor a workspace, qualified or repaired.
  *
  * A sample is in range if it is finite and its magnitude is at most CATHAR_LOUDEST. */
 #define CATHAR_MOST_SAMPLES 1048576     /* the most samples of a recording */
+#define CATHAR_BLOCK 256                /* how many samples share a count */
 #define CATHAR_LOUDEST 65536            /* the largest magnitude that is in range */
 #define CATHAR_MOST_BY_MODEL 2048       /* the longest gap that the model fills; a longer one becomes a line */
 #define CATHAR_MOST_RATE 16777216       /* the highest rate that a scan takes */
@@ -85,18 +88,29 @@ float cathar_round(float x);
 #define CATHAR_MARK_DEQUANTIZE 5        /* in either form */
 #define CATHAR_MARK_NOT_RECEIVED 6      /* the frame that it was in did not arrive; no repair sets this mark */
 
-/* The answers. Each call on a recording, and the reading of frames, answers CATHAR_ACCEPTED, and else the number of the
- * refusal. Where several apply, it is the lowest.
+/* The counts are for cathar_measured alone, and are the library's between calls: who writes marks or counts gets
+ * answers from it that say nothing. Both openings set all of them. An accepted repair that names a sample, and an
+ * accepted undo, count the blocks of their samples anew from the marks and write no other count, also where those that
+ * they are lent are wrong. This gives how many to lend for n samples: one for each CATHAR_BLOCK of them or part of
+ * these, and none for none. With any other number a call is refused by 14. */
+static inline size_t cathar_counts(size_t n)
+{
+    return n / CATHAR_BLOCK + (n % CATHAR_BLOCK != 0);
+}
+
+/* The answers. Each call on a recording, the question cathar_measured and the reading of frames answer CATHAR_ACCEPTED,
+ * and else the number of the refusal. Where several apply, it is the first in the list of the call's refusals: they are
+ * tested in the order of their numbers, but 14 directly after 1.
  *
- * A call that is refused leaves samples, marks, journal and used as they were. Of its workspace 8 and 9 leave the
- * needed part cleared, and the others leave all of it. A scan, cathar_inpaint_auto, is several repairs, and answers
+ * A call that is refused leaves samples, marks, counts, journal and used as they were. Of its workspace 8 and 9 leave
+ * the needed part cleared, and the others leave all of it. A scan, cathar_inpaint_auto, is several repairs, and answers
  * for the first of them that is refused: by 6 to 9 it tells of that run alone, and others may have been repaired. */
 #define CATHAR_ACCEPTED 0
-#define CATHAR_REFUSED_COUNTS 1         /* marks and samples differ in number */
+#define CATHAR_REFUSED_COUNTS 1         /* marks and samples differ in number; for the number of counts, see 14 */
 #define CATHAR_REFUSED_TOO_MANY 2       /* more than CATHAR_MOST_SAMPLES samples */
 #define CATHAR_REFUSED_USED 3           /* used exceeds the journal's length */
 #define CATHAR_REFUSED_SETTING 4        /* a setting is not allowed */
-#define CATHAR_REFUSED_GAP 5            /* gap length 0, start at or past the end, or gap past the end */
+#define CATHAR_REFUSED_GAP 5            /* gap length 0, start at or past the end, or gap past the end; span past it */
 #define CATHAR_REFUSED_WORKSPACE 6      /* workspace shorter than needed */
 #define CATHAR_REFUSED_READ 7           /* a sample that the repair reads is not in range */
 #define CATHAR_REFUSED_RESULT 8         /* a result at a named sample is not in range */
@@ -104,6 +118,7 @@ float cathar_round(float x);
 #define CATHAR_REFUSED_NOTHING 10       /* undo: used is 0 */
 #define CATHAR_REFUSED_MALFORMED 11     /* undo: the last entry is malformed */
 #define CATHAR_REFUSED_FRAMES 12        /* frames: the input is not whole frames, or samples or marks lack room */
+#define CATHAR_REFUSED_BLOCKS 14        /* the number of counts is not that of the blocks */
 
 /* Reads what the bus sent, frames_n bytes, into the samples and marks of a recording, which cathar_open_received
  * then opens. A frame is CATHAR_FRAME_BYTES bytes: its number, of 16 bits, and then CATHAR_FRAME_WORDS words of 32
@@ -141,8 +156,8 @@ static inline size_t cathar_journal_words(size_t n, size_t repairs)
     return repairs * (3 * n + 2);
 }
 
-/* Opens a recording: sets all marks, all journal words and used to 0. What they held has no say. The samples
- * stay as they are, and may be any words.
+/* Opens a recording: sets all marks, all counts, all journal words and used to 0. What they held has no say. The
+ * samples stay as they are, and may be any words.
  *
  * WARNING: open raw samples, and open them once. This function takes the samples as they stand for measured. Called
  * again on a recording that was repaired, it marks every made sample as measured, and its journal no longer knows
@@ -150,26 +165,27 @@ static inline size_t cathar_journal_words(size_t n, size_t repairs)
  * the journal undoes repairs, or keeps the old marks elsewhere before opening and joins them to the new ones.
  * Nor are samples for it that cathar_read_frames gave: it marks those that never arrived as measured.
  *
- * Refusals: 1, 2. */
+ * Refusals: 1, 14, 2. */
 uint32_t cathar_open(const uint32_t *samples, size_t n, uint8_t *marks, size_t marks_n,
-                     uint32_t *journal, size_t journal_n, size_t *used);
+                     uint16_t *counts, size_t counts_n, uint32_t *journal, size_t journal_n, size_t *used);
 
 /* Opens a recording of samples and marks that cathar_read_frames gave: it keeps mark 6, CATHAR_MARK_NOT_RECEIVED,
- * where it stands, sets every other mark to 0, and else does as cathar_open. So the marks of the recording as it was
- * opened, to which undoing all repairs leads back, are 0 or 6, whatever the caller lends.
+ * where it stands, sets every other mark to 0 and the counts to those of these marks, and else does as cathar_open. So
+ * the marks of the recording as it was opened, to which undoing all repairs leads back, are 0 or 6, whatever the caller
+ * lends.
  *
  * WARNING: open these once, too. Called again on a recording that was repaired, this function marks every made sample
  * as measured, also where nothing had been received.
  *
- * Refusals: 1, 2. */
+ * Refusals: 1, 14, 2. */
 uint32_t cathar_open_received(const uint32_t *samples, size_t n, uint8_t *marks, size_t marks_n,
-                              uint32_t *journal, size_t journal_n, size_t *used);
+                              uint16_t *counts, size_t counts_n, uint32_t *journal, size_t journal_n, size_t *used);
 
-/* Takes back the last entry: each sample that it names gets its old word and its old mark again, used
- * falls by 3m+2, and the freed journal words become 0. All else stays, journal words past used too. The
- * next call takes back the entry before it, and so on to the recording as it was opened.
+/* Takes back the last entry: each sample that it names gets its old word and its old mark again, their blocks are
+ * counted anew, used falls by 3m+2, and the freed journal words become 0. All else stays, journal words past used too.
+ * The next call takes back the entry before it, and so on to the recording as it was opened.
  * value receives m where it was accepted, and 0 where it was refused; what it held has no say.
- * Refusals: 1, 2, 3, 10, 11. Refusal 11 is given where
+ * Refusals: 1, 14, 2, 3, 10, 11. Refusal 11 is given where
  *   used is 1,
  *   m is 0 or more than n,
  *   3m+2 exceeds used,
@@ -178,7 +194,21 @@ uint32_t cathar_open_received(const uint32_t *samples, size_t n, uint8_t *marks,
  *   an old mark exceeds 255, or
  *   the set mark is not 1 to 5. */
 uint32_t cathar_undo(uint32_t *samples, size_t n, uint8_t *marks, size_t marks_n,
-                     uint32_t *journal, size_t journal_n, size_t *used, size_t *value);
+                     uint16_t *counts, size_t counts_n, uint32_t *journal, size_t journal_n, size_t *used,
+                     size_t *value);
+
+/* Asks whether the len samples from start on are all measured: yes receives 1 where each of them has mark 0, and else
+ * 0. That is so where nothing but the calls on a recording wrote its marks and counts since it was opened; and then 1
+ * also says that each of these samples was received and has the word that it was opened with. A span of length 0 gets
+ * 1, also at the very end, where start is n.
+ * It does not go through the span. It looks at the span's marks in the block of its first sample and in that of its
+ * last, and where there are blocks between, at their counts, each of which has to be 0: there the counts decide,
+ * whatever the marks are.
+ * n is the number of marks, and any number of them is allowed. It writes nothing but yes, whose contents have no say.
+ * Refusals: 14, 5, tested in this order; yes receives 0 then. Refusal 5 is given where start plus len exceeds n, also
+ * where that sum is no size_t. */
+uint32_t cathar_measured(const uint8_t *marks, size_t n, const uint16_t *counts, size_t counts_n,
+                         size_t start, size_t len, uint32_t *yes);
 
 /* Repairs the gap of len samples from start on: it names just these. What stood there has no say in what
  * comes to stand there. A gap longer than CATHAR_MOST_BY_MODEL becomes a straight line between its neighbours, a
@@ -193,9 +223,9 @@ uint32_t cathar_undo(uint32_t *samples, size_t n, uint8_t *marks, size_t marks_n
  * they stay. All others stay.
  * value receives len where it was accepted, for refusals 7 and 8 the lowest place whose sample or result is
  * not in range, and 0 for the others; what it held has no say.
- * Refusals: 1, 2, 3, 5, 6, 7, 8, 9. */
+ * Refusals: 1, 14, 2, 3, 5, 6, 7, 8, 9. */
 uint32_t cathar_inpaint_gap(uint32_t *samples, size_t n, uint8_t *marks, size_t marks_n,
-                            uint32_t *journal, size_t journal_n, size_t *used,
+                            uint16_t *counts, size_t counts_n, uint32_t *journal, size_t journal_n, size_t *used,
                             size_t start, size_t len, uint32_t passes,
                             double *work, size_t work_n, size_t *value);
 
@@ -237,14 +267,14 @@ static inline size_t cathar_longest_gap_work(size_t n, size_t longest)
  * for which it is too short has refusal 6. cathar_longest_gap_work(n, limit) doubles are enough for every run: at
  * most 4,788 where the limit is 48 samples.
  * qualified receives the number of runs that qualify, and repaired that of those repaired; both receive 0
- * where refusal 1 to 4 was given. What they held has no say. The answer is 0, or the number of the first
- * refusal: 1 to 4 for the whole scan, which then changes nothing, work among it, or 6 to 9 for a run, beside
+ * where refusal 1, 14, 2, 3 or 4 was given. What they held has no say. The answer is 0, or the number of the first
+ * refusal: 1, 14, 2, 3 or 4 for the whole scan, which then changes nothing, work among it, or 6 to 9 for a run, beside
  * which others may have been repaired.
- * Refusals: 1, 2, 3, 4, 6, 7, 8, 9. Refusal 4 is given where
+ * Refusals: 1, 14, 2, 3, 4, 6, 7, 8, 9. Refusal 4 is given where
  *   rate exceeds CATHAR_MOST_RATE, or
  *   max_gap_ms is an infinity or a NaN. */
 uint32_t cathar_inpaint_auto(uint32_t *samples, size_t n, uint8_t *marks, size_t marks_n,
-                             uint32_t *journal, size_t journal_n, size_t *used,
+                             uint16_t *counts, size_t counts_n, uint32_t *journal, size_t journal_n, size_t *used,
                              uint32_t rate, float max_gap_ms,
                              double *work, size_t work_n, size_t *qualified, size_t *repaired);
 
@@ -257,7 +287,7 @@ uint32_t cathar_inpaint_auto(uint32_t *samples, size_t n, uint8_t *marks, size_t
  * others stay.
  * value receives the number m of named samples where it was accepted, which may be 0, for refusals 7 and 8 the
  * lowest place whose sample or result is not in range, and 0 for the others; what it held has no say.
- * Refusals of each: 1, 2, 3, 4, 6, 7, 8, 9. */
+ * Refusals of each: 1, 14, 2, 3, 4, 6, 7, 8, 9. */
 
 /* How many words that workspace needs for n samples. */
 static inline size_t cathar_whole_work(size_t n)
@@ -272,7 +302,7 @@ static inline size_t cathar_whole_work(size_t n)
  * left.
  * Refusal 4 is given where threshold is a NaN, an infinity, or not above 0. */
 uint32_t cathar_declip(uint32_t *samples, size_t n, uint8_t *marks, size_t marks_n,
-                       uint32_t *journal, size_t journal_n, size_t *used,
+                       uint16_t *counts, size_t counts_n, uint32_t *journal, size_t journal_n, size_t *used,
                        float threshold, uint32_t *work, size_t work_n, size_t *value);
 
 /* Rewrites samples that stand out from the middle of their two neighbours by more than (12 - sensitivity) times
@@ -280,7 +310,7 @@ uint32_t cathar_declip(uint32_t *samples, size_t n, uint8_t *marks, size_t marks
  * Named are those that stand out; no end ever is, and in a recording of fewer than 8 samples none is.
  * Refusal 4 is given where sensitivity is a NaN. */
 uint32_t cathar_decrackle(uint32_t *samples, size_t n, uint8_t *marks, size_t marks_n,
-                          uint32_t *journal, size_t journal_n, size_t *used,
+                          uint16_t *counts, size_t counts_n, uint32_t *journal, size_t journal_n, size_t *used,
                           float sensitivity, uint32_t *work, size_t work_n, size_t *value);
 
 /* Moves samples that were recorded with so many bits, in steps of 2/2^bits, toward what their neighbours predict:
@@ -289,7 +319,7 @@ uint32_t cathar_decrackle(uint32_t *samples, size_t n, uint8_t *marks, size_t ma
  * 1 to n-2, and else none.
  * Refusal 4 is given where strength is a NaN. */
 uint32_t cathar_dequantize(uint32_t *samples, size_t n, uint8_t *marks, size_t marks_n,
-                           uint32_t *journal, size_t journal_n, size_t *used,
+                           uint16_t *counts, size_t counts_n, uint32_t *journal, size_t journal_n, size_t *used,
                            uint32_t bits, float strength, uint32_t *work, size_t work_n, size_t *value);
 
 /* The same from two neighbours on either side, in as many iterations as are asked for and CATHAR_MOST_ITERATIONS
@@ -297,6 +327,7 @@ uint32_t cathar_dequantize(uint32_t *samples, size_t n, uint8_t *marks, size_t m
  * Where strength and iterations are above 0 and n is at least 5 it names places 2 to n-3, and else none.
  * Refusal 4 is given where strength is a NaN. */
 uint32_t cathar_dequantize_cosparse(uint32_t *samples, size_t n, uint8_t *marks, size_t marks_n,
+                                    uint16_t *counts, size_t counts_n,
                                     uint32_t *journal, size_t journal_n, size_t *used,
                                     uint32_t bits, float strength, uint32_t iterations,
                                     uint32_t *work, size_t work_n, size_t *value);

@@ -1,6 +1,6 @@
 //! The time of the original Rust and of the library on the same inputs, in turn in one process, and whether they
 //! give the same samples: each repair in one recording, then how the times grow as the length of a gap doubles, or
-//! the number of samples. `host/bench` runs it.
+//! the number of samples; and the question whether a span was measured, beside looking at each mark. `host/bench` runs it.
 mod speed {
     pub mod clock;
     pub mod inputs;
@@ -10,7 +10,7 @@ mod speed {
 use cathar_host::recording::MOST_SAMPLES;
 use cathar_host::whole::Repair;
 use speed::inputs::{BITS, CLIP, DROPOUT, DROPOUT_STRETCH};
-use speed::tasks::{Task, Times};
+use speed::tasks::{Task, Times, QUESTIONS};
 use std::env;
 use std::iter::successors;
 use std::time::Duration;
@@ -22,6 +22,9 @@ const FEWEST: usize = 4_096;
 /// The shortest gap that is timed, and the longest that is filled by a model.
 const SHORTEST: usize = 32;
 const LONGEST: usize = 2_048;
+
+/// The shortest span of which the question is asked. From one to the next it is four times as long.
+const SHORTEST_SPAN: usize = 256;
 
 /// How many passes the original makes by default.
 const PASSES: u32 = 3;
@@ -43,8 +46,13 @@ type Line = (String, Task, usize);
 
 /// Prints the times of these lines, and where it `grows` also how each grew since the line before.
 fn table(what: &str, grows: bool, lines: Vec<Line>) {
+    table_beside("original", what, grows, lines);
+}
+
+/// Likewise, where the library's times stand beside those of something else.
+fn table_beside(other: &str, what: &str, grows: bool, lines: Vec<Line>) {
     let last = if grows { "      growth of each" } else { "" };
-    println!("\n{what:<36}{:>14}{:>14}{:>8}{last}", "original", "library", "ratio");
+    println!("\n{what:<36}{other:>14}{:>14}{:>8}{last}", "library", "ratio");
     let mut times: Vec<Times> = lines.iter().map(|(_, task, n)| task.times(*n)).collect();
     for _ in 1..ROUNDS {
         for ((_, task, n), times) in lines.iter().zip(&mut times) {
@@ -91,11 +99,19 @@ fn each_repair() {
     table(&format!("in {SAMPLES} samples"), false, lines);
 }
 
+/// The question, of spans that begin with a recording of the most samples, all of which are measured.
+fn questions() {
+    let lengths = successors(Some(SHORTEST_SPAN), |len| Some(4 * len)).take_while(|len| *len <= MOST_SAMPLES);
+    let line = |len| (format!("{len:>12} samples"), Task::Questions { len }, MOST_SAMPLES);
+    table_beside("each mark", &format!("{QUESTIONS} questions of a span"), true, lengths.map(line).collect());
+}
+
 fn main() {
     let processor = env::var("CATHAR_PROCESSOR").unwrap_or_default();
     println!("processor: {}", if processor.is_empty() { "not known" } else { &processor });
     println!("emulated: {}", if env::var_os("CATHAR_EMULATED").is_some() { "yes, x86-64 on Arm" } else { "no" });
-    println!("times: the processor's, the least of {ROUNDS} runs or more; growth: over the line before, which is half the size");
+    println!("times: the processor's, the least of {ROUNDS} runs or more");
+    println!("growth: over the line before, which is half the size, and for the question a quarter");
     each_repair();
     let gap = |len| Task::Gap { len, passes: 1 };
     let long = |len| (format!("{len:>12} long"), gap(len), SAMPLES);
@@ -106,4 +122,5 @@ fn main() {
         by_samples(name, Task::Whole(repair));
     }
     by_samples("undo of dequantize", Task::Undo);
+    questions();
 }

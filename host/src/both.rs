@@ -5,6 +5,7 @@ use crate::frames::{Read, Rooms};
 use crate::inpaint::{self, Gap, Scan};
 use crate::lent::frames::Frames;
 use crate::lent::{Lent, VALUE_BEFORE};
+use crate::question::{Span, Told};
 use crate::recording::{Answer, Recording};
 use crate::settings::OfScan;
 use crate::whole::{self, Repair};
@@ -80,6 +81,13 @@ impl Both {
         let number = self.lent.make(call);
         let wrong = with_answer(self.lent.wrong(&self.model, answer.value()), number, answer.number());
         (answer, with_work(wrong, self.lent.holds_words(&work)))
+    }
+
+    /// Both sides are asked of a span.
+    pub fn ask(&mut self, span: Span) -> (Told, Wrong) {
+        let told = wrong::model_asked(&self.model.marks, &self.model.counts, span);
+        let number = self.lent.ask(span);
+        (told, with_answer(self.lent.wrong_after_question(&self.model, told), number, told.number))
     }
 
     /// The model makes the call, or what stands in for it does.

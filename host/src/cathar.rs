@@ -22,6 +22,8 @@ mod exports {
             n: usize,
             marks: *mut u8,
             marks_n: usize,
+            counts: *mut u16,
+            counts_n: usize,
             journal: *mut u32,
             journal_n: usize,
             used: *mut usize,
@@ -31,6 +33,8 @@ mod exports {
             n: usize,
             marks: *mut u8,
             marks_n: usize,
+            counts: *mut u16,
+            counts_n: usize,
             journal: *mut u32,
             journal_n: usize,
             used: *mut usize,
@@ -40,16 +44,29 @@ mod exports {
             n: usize,
             marks: *mut u8,
             marks_n: usize,
+            counts: *mut u16,
+            counts_n: usize,
             journal: *mut u32,
             journal_n: usize,
             used: *mut usize,
             value: *mut usize,
+        ) -> u32;
+        pub fn cathar_measured(
+            marks: *const u8,
+            n: usize,
+            counts: *const u16,
+            counts_n: usize,
+            start: usize,
+            len: usize,
+            yes: *mut u32,
         ) -> u32;
         pub fn cathar_inpaint_gap(
             samples: *mut u32,
             n: usize,
             marks: *mut u8,
             marks_n: usize,
+            counts: *mut u16,
+            counts_n: usize,
             journal: *mut u32,
             journal_n: usize,
             used: *mut usize,
@@ -65,6 +82,8 @@ mod exports {
             n: usize,
             marks: *mut u8,
             marks_n: usize,
+            counts: *mut u16,
+            counts_n: usize,
             journal: *mut u32,
             journal_n: usize,
             used: *mut usize,
@@ -80,6 +99,8 @@ mod exports {
             n: usize,
             marks: *mut u8,
             marks_n: usize,
+            counts: *mut u16,
+            counts_n: usize,
             journal: *mut u32,
             journal_n: usize,
             used: *mut usize,
@@ -93,6 +114,8 @@ mod exports {
             n: usize,
             marks: *mut u8,
             marks_n: usize,
+            counts: *mut u16,
+            counts_n: usize,
             journal: *mut u32,
             journal_n: usize,
             used: *mut usize,
@@ -106,6 +129,8 @@ mod exports {
             n: usize,
             marks: *mut u8,
             marks_n: usize,
+            counts: *mut u16,
+            counts_n: usize,
             journal: *mut u32,
             journal_n: usize,
             used: *mut usize,
@@ -120,6 +145,8 @@ mod exports {
             n: usize,
             marks: *mut u8,
             marks_n: usize,
+            counts: *mut u16,
+            counts_n: usize,
             journal: *mut u32,
             journal_n: usize,
             used: *mut usize,
@@ -179,7 +206,7 @@ pub fn read_frames(
 }
 
 /// Opens a recording. Answers 0, or the number of the refusal.
-pub fn open(samples: &[u32], marks: &mut [u8], journal: &mut [u32], used: &mut usize) -> u32 {
+pub fn open(samples: &[u32], marks: &mut [u8], counts: &mut [u16], journal: &mut [u32], used: &mut usize) -> u32 {
     // As above.
     unsafe {
         exports::cathar_open(
@@ -187,6 +214,8 @@ pub fn open(samples: &[u32], marks: &mut [u8], journal: &mut [u32], used: &mut u
             samples.len(),
             marks.as_mut_ptr(),
             marks.len(),
+            counts.as_mut_ptr(),
+            counts.len(),
             journal.as_mut_ptr(),
             journal.len(),
             used,
@@ -195,7 +224,13 @@ pub fn open(samples: &[u32], marks: &mut [u8], journal: &mut [u32], used: &mut u
 }
 
 /// Opens a recording that keeps which of its samples were not received. Answers as `open` does.
-pub fn open_received(samples: &[u32], marks: &mut [u8], journal: &mut [u32], used: &mut usize) -> u32 {
+pub fn open_received(
+    samples: &[u32],
+    marks: &mut [u8],
+    counts: &mut [u16],
+    journal: &mut [u32],
+    used: &mut usize,
+) -> u32 {
     // As above.
     unsafe {
         exports::cathar_open_received(
@@ -203,6 +238,8 @@ pub fn open_received(samples: &[u32], marks: &mut [u8], journal: &mut [u32], use
             samples.len(),
             marks.as_mut_ptr(),
             marks.len(),
+            counts.as_mut_ptr(),
+            counts.len(),
             journal.as_mut_ptr(),
             journal.len(),
             used,
@@ -212,7 +249,14 @@ pub fn open_received(samples: &[u32], marks: &mut [u8], journal: &mut [u32], use
 
 /// Takes back the last entry. Answers 0, with how many samples it named in `value`, or the number of the
 /// refusal, with 0 there.
-pub fn undo(samples: &mut [u32], marks: &mut [u8], journal: &mut [u32], used: &mut usize, value: &mut usize) -> u32 {
+pub fn undo(
+    samples: &mut [u32],
+    marks: &mut [u8],
+    counts: &mut [u16],
+    journal: &mut [u32],
+    used: &mut usize,
+    value: &mut usize,
+) -> u32 {
     // As above.
     unsafe {
         exports::cathar_undo(
@@ -220,12 +264,21 @@ pub fn undo(samples: &mut [u32], marks: &mut [u8], journal: &mut [u32], used: &m
             samples.len(),
             marks.as_mut_ptr(),
             marks.len(),
+            counts.as_mut_ptr(),
+            counts.len(),
             journal.as_mut_ptr(),
             journal.len(),
             used,
             value,
         )
     }
+}
+
+/// Asks whether all samples of a span are measured. Answers 0, with 1 in `yes` where they are and 0 where not, or the
+/// number of the refusal, with 0 there.
+pub fn measured(marks: &[u8], counts: &[u16], start: usize, len: usize, yes: &mut u32) -> u32 {
+    // As above.
+    unsafe { exports::cathar_measured(marks.as_ptr(), marks.len(), counts.as_ptr(), counts.len(), start, len, yes) }
 }
 
 /// Repairs the gap of `len` samples from `start` on. Answers 0, with `len` in `value`, or the number of the
@@ -235,6 +288,7 @@ pub fn undo(samples: &mut [u32], marks: &mut [u8], journal: &mut [u32], used: &m
 pub fn inpaint_gap(
     samples: &mut [u32],
     marks: &mut [u8],
+    counts: &mut [u16],
     journal: &mut [u32],
     used: &mut usize,
     start: usize,
@@ -250,6 +304,8 @@ pub fn inpaint_gap(
             samples.len(),
             marks.as_mut_ptr(),
             marks.len(),
+            counts.as_mut_ptr(),
+            counts.len(),
             journal.as_mut_ptr(),
             journal.len(),
             used,
@@ -270,6 +326,7 @@ pub fn inpaint_gap(
 pub fn inpaint_auto(
     samples: &mut [u32],
     marks: &mut [u8],
+    counts: &mut [u16],
     journal: &mut [u32],
     used: &mut usize,
     rate: u32,
@@ -285,6 +342,8 @@ pub fn inpaint_auto(
             samples.len(),
             marks.as_mut_ptr(),
             marks.len(),
+            counts.as_mut_ptr(),
+            counts.len(),
             journal.as_mut_ptr(),
             journal.len(),
             used,
@@ -300,9 +359,12 @@ pub fn inpaint_auto(
 
 /// Bridges clipped runs by a cubic. Answers 0, with how many samples it named in `value`, or the number of the
 /// refusal, with the place there for 7 and 8 and 0 for the others.
+// The arguments are those of the C function.
+#[allow(clippy::too_many_arguments)]
 pub fn declip(
     samples: &mut [u32],
     marks: &mut [u8],
+    counts: &mut [u16],
     journal: &mut [u32],
     used: &mut usize,
     threshold: f32,
@@ -316,6 +378,8 @@ pub fn declip(
             samples.len(),
             marks.as_mut_ptr(),
             marks.len(),
+            counts.as_mut_ptr(),
+            counts.len(),
             journal.as_mut_ptr(),
             journal.len(),
             used,
@@ -329,9 +393,12 @@ pub fn declip(
 
 /// Rewrites samples that stand out from their neighbours by more than a running floor. Answers as `declip`
 /// does.
+// The arguments are those of the C function.
+#[allow(clippy::too_many_arguments)]
 pub fn decrackle(
     samples: &mut [u32],
     marks: &mut [u8],
+    counts: &mut [u16],
     journal: &mut [u32],
     used: &mut usize,
     sensitivity: f32,
@@ -345,6 +412,8 @@ pub fn decrackle(
             samples.len(),
             marks.as_mut_ptr(),
             marks.len(),
+            counts.as_mut_ptr(),
+            counts.len(),
             journal.as_mut_ptr(),
             journal.len(),
             used,
@@ -363,6 +432,7 @@ pub fn decrackle(
 pub fn dequantize(
     samples: &mut [u32],
     marks: &mut [u8],
+    counts: &mut [u16],
     journal: &mut [u32],
     used: &mut usize,
     bits: u32,
@@ -377,6 +447,8 @@ pub fn dequantize(
             samples.len(),
             marks.as_mut_ptr(),
             marks.len(),
+            counts.as_mut_ptr(),
+            counts.len(),
             journal.as_mut_ptr(),
             journal.len(),
             used,
@@ -395,6 +467,7 @@ pub fn dequantize(
 pub fn dequantize_cosparse(
     samples: &mut [u32],
     marks: &mut [u8],
+    counts: &mut [u16],
     journal: &mut [u32],
     used: &mut usize,
     bits: u32,
@@ -410,6 +483,8 @@ pub fn dequantize_cosparse(
             samples.len(),
             marks.as_mut_ptr(),
             marks.len(),
+            counts.as_mut_ptr(),
+            counts.len(),
             journal.as_mut_ptr(),
             journal.len(),
             used,

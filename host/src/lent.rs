@@ -4,6 +4,7 @@ pub mod frames;
 
 use crate::call::Call;
 use crate::cathar;
+use crate::question::{Span, Told};
 use crate::recording::Recording;
 use crate::whole::Repair;
 use crate::wrong;
@@ -14,12 +15,21 @@ pub(crate) const GUARDS: usize = 3;
 /// What stands in each number that a call hands back, before the call: no answer's value.
 pub const VALUE_BEFORE: usize = 0x0123_4567_89ab_cdef;
 
+/// What stands where the question's yes or no comes, before it is asked: neither.
+pub const YES_BEFORE: u32 = 0x89ab_cdef;
+
 /// What a part is made of. Two are the same if their patterns are, NaN among them.
 pub trait Word: Copy {
     fn pattern(self) -> u64;
 }
 
 impl Word for u8 {
+    fn pattern(self) -> u64 {
+        self.into()
+    }
+}
+
+impl Word for u16 {
     fn pattern(self) -> u64 {
         self.into()
     }
@@ -96,14 +106,21 @@ fn words(words: &[u32]) -> Part<u32> {
     Part::new(words, 0x8000_0000)
 }
 
-/// A recording; two numbers that a call hands back, of which most calls have one or none; and the two workspaces, of
-/// which a call has one or none.
+/// Counts. What stands around them is no block's.
+pub(crate) fn counts(counts: &[u16]) -> Part<u16> {
+    Part::new(counts, 0x5a5a)
+}
+
+/// A recording; two numbers that a call hands back, of which most calls have one or none; what the question hands back;
+/// and the two workspaces, of which a call has one or none.
 pub struct Lent {
     pub(crate) samples: Part<u32>,
     pub(crate) marks: Part<u8>,
+    pub(crate) counts: Part<u16>,
     pub(crate) journal: Part<u32>,
     pub(crate) used: Part<usize>,
     pub(crate) numbers: [Part<usize>; 2],
+    pub(crate) yes: Part<u32>,
     pub(crate) doubles: Part<f64>,
     pub(crate) words: Part<u32>,
 }
@@ -115,9 +132,11 @@ impl Lent {
         Lent {
             samples: Part::new(&recording.samples, 0x5a5a_5a5a),
             marks: Part::new(&recording.marks, 0x5a),
+            counts: counts(&recording.counts),
             journal: Part::new(&recording.journal, 1),
             used: Part::new(&[recording.used], 0x5a5a_5a5a_5a5a_5a5a),
             numbers: [number(), number()],
+            yes: Part::new(&[YES_BEFORE], 0xa5a5_a5a5),
             doubles: doubles(&[]),
             words: words(&[]),
         }
@@ -153,6 +172,7 @@ impl Lent {
         Recording {
             samples: self.samples.lent().to_vec(),
             marks: self.marks.lent().to_vec(),
+            counts: self.counts.lent().to_vec(),
             journal: self.journal.lent().to_vec(),
             used: self.used.lent()[0],
         }
@@ -162,6 +182,7 @@ impl Lent {
     pub(crate) fn put(&mut self, recording: &Recording) {
         self.samples.lend().copy_from_slice(&recording.samples);
         self.marks.lend().copy_from_slice(&recording.marks);
+        self.counts.lend().copy_from_slice(&recording.counts);
         self.journal.lend().copy_from_slice(&recording.journal);
         self.used.lend()[0] = recording.used;
     }
@@ -177,20 +198,20 @@ impl Lent {
 
     /// The library makes the call.
     pub(crate) fn call(&mut self, call: Call) -> u32 {
-        let (samples, marks, journal) = (self.samples.lend(), self.marks.lend(), self.journal.lend());
-        let used = &mut self.used.lend()[0];
+        let (samples, marks, counts) = (self.samples.lend(), self.marks.lend(), self.counts.lend());
+        let (journal, used) = (self.journal.lend(), &mut self.used.lend()[0]);
         let [first, second] = &mut self.numbers;
         let (value, other) = (&mut first.lend()[0], &mut second.lend()[0]);
         let doubles = self.doubles.lend();
         match call {
-            Call::Open => cathar::open(samples, marks, journal, used),
-            Call::OpenReceived => cathar::open_received(samples, marks, journal, used),
-            Call::Undo => cathar::undo(samples, marks, journal, used, value),
+            Call::Open => cathar::open(samples, marks, counts, journal, used),
+            Call::OpenReceived => cathar::open_received(samples, marks, counts, journal, used),
+            Call::Undo => cathar::undo(samples, marks, counts, journal, used, value),
             Call::Gap { gap, passes } => {
-                cathar::inpaint_gap(samples, marks, journal, used, gap.start, gap.len, passes, doubles, value)
+                cathar::inpaint_gap(samples, marks, counts, journal, used, gap.start, gap.len, passes, doubles, value)
             }
             Call::Scan { rate, max_gap_ms } => {
-                cathar::inpaint_auto(samples, marks, journal, used, rate, max_gap_ms, doubles, value, other)
+                cathar::inpaint_auto(samples, marks, counts, journal, used, rate, max_gap_ms, doubles, value, other)
             }
             Call::Whole(repair) => self.repair(repair),
         }
@@ -198,20 +219,45 @@ impl Lent {
 
     /// The library makes a repair over the whole recording.
     fn repair(&mut self, repair: Repair) -> u32 {
-        let (samples, marks, journal) = (self.samples.lend(), self.marks.lend(), self.journal.lend());
-        let (used, work, value) = (&mut self.used.lend()[0], self.words.lend(), &mut self.numbers[0].lend()[0]);
+        let (samples, marks, counts) = (self.samples.lend(), self.marks.lend(), self.counts.lend());
+        let (journal, used) = (self.journal.lend(), &mut self.used.lend()[0]);
+        let (work, value) = (self.words.lend(), &mut self.numbers[0].lend()[0]);
         match repair {
-            Repair::Declip { threshold } => cathar::declip(samples, marks, journal, used, threshold, work, value),
+            Repair::Declip { threshold } => {
+                cathar::declip(samples, marks, counts, journal, used, threshold, work, value)
+            }
             Repair::Decrackle { sensitivity } => {
-                cathar::decrackle(samples, marks, journal, used, sensitivity, work, value)
+                cathar::decrackle(samples, marks, counts, journal, used, sensitivity, work, value)
             }
             Repair::Dequantize { bits, strength } => {
-                cathar::dequantize(samples, marks, journal, used, bits, strength, work, value)
+                cathar::dequantize(samples, marks, counts, journal, used, bits, strength, work, value)
             }
-            Repair::Cosparse { bits, strength, iterations } => {
-                cathar::dequantize_cosparse(samples, marks, journal, used, bits, strength, iterations, work, value)
-            }
+            Repair::Cosparse { bits, strength, iterations } => cathar::dequantize_cosparse(
+                samples, marks, counts, journal, used, bits, strength, iterations, work, value,
+            ),
         }
+    }
+
+    /// The library is asked of a span, or what stands in for it is. What it handed back last is forgotten before.
+    pub fn ask(&mut self, span: Span) -> u32 {
+        self.yes.lend()[0] = YES_BEFORE;
+        wrong::asked(self, span)
+    }
+
+    /// The library is asked of a span.
+    pub(crate) fn question(&mut self, span: Span) -> u32 {
+        let (marks, counts, yes) = (self.marks.lent(), self.counts.lent(), &mut self.yes.lend()[0]);
+        cathar::measured(marks, counts, span.start, span.len, yes)
+    }
+
+    /// The parts that the question is lent that are not what the recording and what it is told are, or whose guards do not
+    /// stand.
+    pub fn wrong_after_question(&self, recording: &Recording, told: Told) -> Vec<&'static str> {
+        not_right([
+            ("marks", self.marks.holds(patterns(&recording.marks))),
+            ("counts", self.counts.holds(patterns(&recording.counts))),
+            ("yes or no", self.yes.holds(patterns(&[u32::from(told.yes)]))),
+        ])
     }
 
     /// The parts that are not what the recording and the value are, or whose guards do not stand.
@@ -239,6 +285,7 @@ impl Lent {
         not_right([
             ("samples", self.samples.holds(patterns(&recording.samples))),
             ("marks", self.marks.holds(patterns(&recording.marks))),
+            ("counts", self.counts.holds(patterns(&recording.counts))),
             ("journal", self.journal.holds(patterns(&recording.journal))),
             ("used", self.used.holds(patterns(&[recording.used]))),
         ])

@@ -1,6 +1,6 @@
 //! The functions of the static library, and what the tests hold them to: Rust's own operations for the
-//! float leaves, a model for the recording and one for the bus's frames, and for the samples that a repair writes the
-//! original Rust.
+//! float leaves, a model for the recording, one for the question whether a span was measured and one for the bus's
+//! frames, and for the samples that a repair writes the original Rust.
 pub mod both;
 pub mod call;
 pub mod cathar;
@@ -13,6 +13,7 @@ pub mod inpaint;
 pub mod lent;
 pub mod machine;
 pub mod original;
+pub mod question;
 pub mod recording;
 pub mod room;
 pub mod settings;

@@ -1,12 +1,16 @@
 //! A recording as document 01 has it: samples, marks, journal and used, and what opening, undo and the end
-//! of a repair make of them; and the second opening, of request P2 in document 02. It is written from the documents'
-//! text alone, and to be seen right rather than to be fast, so that the library can be held to it.
+//! of a repair make of them; and of document 02 the second opening, of request P2, and the counts, of request P5. It is
+//! written from the documents' text alone, and to be seen right rather than to be fast, so that the library can be held
+//! to it.
 
 /// The most samples of a recording that is not turned away.
 pub const MOST_SAMPLES: usize = 1_048_576;
 
 /// The mark of a sample that did not arrive. No repair sets it.
 pub const NOT_RECEIVED: u8 = 6;
+
+/// How many samples share a count: "a count for each block of 256 samples"; "the last block may be short".
+pub const BLOCK: usize = 256;
 
 /// What a call answers.
 #[derive(Clone, Copy, Debug, PartialEq, Eq)]
@@ -106,6 +110,8 @@ pub struct Recording {
     pub samples: Vec<u32>,
     /// One for each sample: 0 is measured, 1 to 5 say which repair made it, and 6 is not received.
     pub marks: Vec<u8>,
+    /// One for each block of samples: how many of its marks are not 0.
+    pub counts: Vec<u16>,
     /// The entries of the accepted repairs that named a sample, and then words that are free.
     pub journal: Vec<u32>,
     /// How many journal words the entries take.
@@ -128,13 +134,36 @@ pub fn is_made(mark: u8) -> bool {
     (1..=5).contains(&mark)
 }
 
-/// "The lowest number that applies is the answer." The numbers come in their order.
+/// How many blocks so many samples make.
+pub fn blocks(n: usize) -> usize {
+    (n / BLOCK) + usize::from(n % BLOCK > 0)
+}
+
+/// How many of these marks are not 0.
+pub fn not_measured(marks: &[u8]) -> u16 {
+    marks.iter().map(|mark| u16::from(*mark != 0)).sum()
+}
+
+/// The counts as they are worked out from the marks.
+pub fn counted(marks: &[u8]) -> Vec<u16> {
+    marks.chunks(BLOCK).map(not_measured).collect()
+}
+
+/// "The lowest number that applies is the answer", but that 14 comes directly "after 1". The numbers come in their
+/// order.
 pub(crate) fn first_of<const N: usize>(refusals: [(u32, bool); N]) -> Option<u32> {
     refusals.into_iter().find(|(_, applies)| *applies).map(|(number, _)| number)
 }
 
 impl Recording {
-    /// "Opening sets all marks and all journal words to 0 and used to 0. It gives refusals 1 and 2 only."
+    /// A recording of these parts, with as many counts as its samples have blocks, worked out from the marks.
+    pub fn new(samples: Vec<u32>, marks: Vec<u8>, journal: Vec<u32>, used: usize) -> Recording {
+        let mut counts = counted(&marks);
+        counts.resize(blocks(samples.len()), 0);
+        Recording { samples, marks, counts, journal, used }
+    }
+
+    /// "Opening sets all marks and all journal words to 0 and used to 0. It gives refusals 1 and 2 only", and 14.
     pub fn open(&mut self) -> Answer {
         self.open_with(|_| 0)
     }
@@ -145,21 +174,23 @@ impl Recording {
         self.open_with(|mark| if mark == NOT_RECEIVED { NOT_RECEIVED } else { 0 })
     }
 
-    /// What the two openings share: each mark becomes the raw mark that this makes of it.
+    /// What the two openings share: each mark becomes the raw mark that this makes of it, and "opening sets" the counts.
     fn open_with(&mut self, raw: impl Fn(u8) -> u8) -> Answer {
-        if let Some(number) = first_of([(1, self.marks_differ()), (2, self.too_many_samples())]) {
+        let refusals = [(1, self.marks_differ()), (14, self.counts_differ()), (2, self.too_many_samples())];
+        if let Some(number) = first_of(refusals) {
             return Answer::Refused(number);
         }
         for mark in &mut self.marks {
             *mark = raw(*mark);
         }
+        self.counts = counted(&self.marks);
         self.journal.fill(0);
         self.used = 0;
         Answer::Accepted(0)
     }
 
     /// "Undo takes back the last entry: words and marks return, used falls by 3m+2, and the freed journal
-    /// words become 0." It "can give 1, 2, 3, 10, 11".
+    /// words become 0." It "can give 1, 2, 3, 10, 11", and 14.
     pub fn undo(&mut self) -> Answer {
         if let Some(number) = self.refused_by_any_call() {
             return Answer::Refused(number);
@@ -175,6 +206,7 @@ impl Recording {
             self.samples[named.place as usize] = named.old_word;
             self.marks[named.place as usize] = named.old_mark as u8;
         }
+        self.recount(last.iter().map(|named| named.place as usize));
         let kept = self.used - entry_words(last.len());
         self.journal[kept..self.used].fill(0);
         self.used = kept;
@@ -182,7 +214,7 @@ impl Recording {
     }
 
     /// The end of a repair that sets this mark and names these samples, each with its place and its new
-    /// word, ascending. It gives refusals 8 and 9, and before them 1 to 3, which every repair gives.
+    /// word, ascending. It gives refusals 8 and 9, and before them 1, 14, 2 and 3, which every repair gives.
     pub fn commit(&mut self, mark: u8, named: &[(usize, u32)]) -> Answer {
         assert!(is_made(mark), "no repair sets the mark {mark}");
         assert!(named.windows(2).all(|two| two[0].0 < two[1].0), "the places do not ascend");
@@ -203,7 +235,23 @@ impl Recording {
             self.samples[*place] = *word;
             self.marks[*place] = mark;
         }
+        self.recount(named.iter().map(|(place, _)| *place));
         Answer::Accepted(named.len())
+    }
+
+    /// "An accepted repair or undo recounts the blocks of its samples and no others." The places are those of the samples.
+    fn recount(&mut self, places: impl Iterator<Item = usize>) {
+        let mut named: Vec<usize> = places.map(|place| place / BLOCK).collect();
+        named.dedup();
+        for block in named {
+            let marks = self.marks.chunks(BLOCK).nth(block).expect("each sample has a mark, and each mark a block");
+            self.counts[block] = not_measured(marks);
+        }
+    }
+
+    /// Whether a count is not that of its block's marks.
+    pub fn has_wrong_count(&self) -> bool {
+        self.counts != counted(&self.marks)
     }
 
     /// All that is wrong with the last entry; nothing, where there is none within the journal.
@@ -214,14 +262,24 @@ impl Recording {
         Clause::ALL.into_iter().filter(|clause| clause.applies(self)).collect()
     }
 
-    /// Refusals 1 to 3, which every repair gives, and undo.
+    /// Refusals 1, 14, 2 and 3, which every repair gives, and undo.
     pub fn refused_by_any_call(&self) -> Option<u32> {
-        first_of([(1, self.marks_differ()), (2, self.too_many_samples()), (3, self.used_exceeds_journal())])
+        first_of([
+            (1, self.marks_differ()),
+            (14, self.counts_differ()),
+            (2, self.too_many_samples()),
+            (3, self.used_exceeds_journal()),
+        ])
     }
 
     /// Refusal 1: "marks and samples differ in number".
     fn marks_differ(&self) -> bool {
         self.marks.len() != self.samples.len()
+    }
+
+    /// Refusal 14: "wrong number of counts".
+    fn counts_differ(&self) -> bool {
+        self.counts.len() != blocks(self.samples.len())
     }
 
     /// Refusal 2: "more than 1,048,576 samples".

@@ -1,7 +1,7 @@
-//! What a call is lent beside the samples: marks, a journal and a workspace, all of any words, and just long
+//! What a call is lent beside the samples: marks, counts, a journal and a workspace, all of any words, and just long
 //! enough or not.
 use crate::draw::Draw;
-use crate::recording::Recording;
+use crate::recording::{blocks, Recording, BLOCK};
 
 /// How much is lent, by what is needed.
 #[derive(Clone, Copy, Debug, PartialEq, Eq)]
@@ -36,12 +36,36 @@ impl Room {
     }
 }
 
-/// A recording of these samples, with any marks, and with a journal of any words, of which so many are free.
+/// A recording of these samples, with any marks, as many counts as it has blocks, and a journal of any words, of which
+/// so many are free. Half of the time the counts are those worked out from the marks, and else any.
 pub fn recording(draw: &mut Draw, samples: Vec<u32>, free: usize) -> Recording {
     let used = [0, 1, 5, 8][draw.below(4) as usize];
     let marks = samples.iter().map(|_| draw.word() as u8).collect();
     let journal = (0..used + free).map(|_| draw.word() as u32).collect();
-    Recording { samples, marks, journal, used }
+    let mut recording = Recording::new(samples, marks, journal, used);
+    if draw.below(2) == 0 {
+        recording.counts = counts(draw, blocks(recording.samples.len()));
+    }
+    recording
+}
+
+/// So many counts that have nothing to do with marks: any, and one in four 0.
+pub fn counts(draw: &mut Draw, count: usize) -> Vec<u16> {
+    (0..count).map(|_| draw.word()).map(|word| if word >> 62 == 0 { 0 } else { word as u16 }).collect()
+}
+
+/// Hands on this recording with the right number of counts and with others, one more and one less among them; and each
+/// with the right number of marks, and with one more.
+pub fn each_number_of_counts(of: &Recording, put: &mut dyn FnMut(Recording)) {
+    let (n, right) = (of.samples.len(), blocks(of.samples.len()));
+    for counts in [0, right.saturating_sub(1), right, right + 1, n / BLOCK, n / BLOCK + 1, 2 * right + 1] {
+        for marks in [n, n + 1] {
+            let mut other = of.clone();
+            other.counts.resize(counts, 7);
+            other.marks.resize(marks, 0);
+            put(other);
+        }
+    }
 }
 
 /// The patterns of a workspace of so many doubles: any, and one in four a NaN. Each is made from the one before

@@ -2,9 +2,11 @@
 //! answers in the place of the library, of the model, of both alike or of the second process, or in what a test keeps
 //! account of. With none of them a comparison finds no difference; with any one of them it has to find one.
 //! `CATHAR_WRONG` names the one that stands in, and `host/wrong` runs each and says which are found.
+mod counts;
 mod frames;
 mod gaps;
 mod leaves;
+mod question;
 mod received;
 mod recording;
 mod scans;
@@ -17,7 +19,8 @@ use crate::cathar;
 use crate::frames::{self as model_of_frames, Read, Rooms};
 use crate::lent::frames::Frames;
 use crate::lent::Lent;
-use crate::recording::Recording;
+use crate::question::{self as model_of_question, Span, Told};
+use crate::recording::{not_measured, Recording, BLOCK};
 use std::env;
 
 /// A wrong stand-in.
@@ -43,6 +46,11 @@ enum How {
     Reader(fn(&mut Frames) -> u32),
     /// In the place of both readers alike.
     Readers(fn(&[u8], &mut Rooms) -> Read),
+    /// In the place of the library's answer to the question: it is asked, at times by the library's own, and gives the
+    /// number.
+    Asked(fn(&mut Lent, Span) -> u32),
+    /// In the place of both answers alike.
+    BothAsked(fn(&[u8], &[u16], Span) -> Told),
     /// In the place of a leaf.
     Root(fn(f64) -> f64),
     Narrow(fn(f64) -> f32),
@@ -73,7 +81,7 @@ pub enum Finds {
 }
 
 /// All of them.
-pub const TABLES: [&[Table]; 9] = [
+pub const TABLES: [&[Table]; 11] = [
     leaves::TABLES,
     recording::TABLES,
     received::TABLES,
@@ -81,6 +89,8 @@ pub const TABLES: [&[Table]; 9] = [
     scans::TABLES,
     whole::TABLES,
     sequences::TABLES,
+    counts::TABLES,
+    question::TABLES,
     frames::TABLES,
     second::TABLES,
 ];
@@ -113,11 +123,22 @@ pub(crate) fn library(lent: &mut Lent, call: Call) -> u32 {
             let before = lent.recording();
             let number = lent.call(call);
             let mut after = lent.recording();
-            alters(call, &before, &mut after);
+            alter(alters, call, &before, &mut after);
             lent.put(&after);
             number
         }
         _ => lent.call(call),
+    }
+}
+
+/// Alters what a call left. Where that moves a mark, the count of its block follows, so that what is wrong is the mark
+/// alone.
+fn alter(alters: Alters, call: Call, before: &Recording, after: &mut Recording) {
+    let left = after.marks.clone();
+    alters(call, before, after);
+    let blocks = left.chunks(BLOCK).zip(after.marks.chunks(BLOCK));
+    for (count, (_, marks)) in after.counts.iter_mut().zip(blocks).filter(|(_, (left, marks))| left != marks) {
+        *count = not_measured(marks);
     }
 }
 
@@ -127,7 +148,7 @@ pub(crate) fn model<A>(model: &mut Recording, call: Call, make: impl FnOnce(&mut
         Some(How::Model(alters) | How::Alike(alters)) => {
             let before = model.clone();
             let answer = make(model);
-            alters(call, &before, model);
+            alter(alters, call, &before, model);
             answer
         }
         _ => make(model),
@@ -154,6 +175,27 @@ pub(crate) fn model_reader(input: &[u8], rooms: &mut Rooms) -> Read {
     match how() {
         Some(How::Readers(reads)) => reads(input, rooms),
         _ => model_of_frames::read_frames(input, rooms),
+    }
+}
+
+/// The library is asked of a span, or what stands in for it is.
+pub(crate) fn asked(lent: &mut Lent, span: Span) -> u32 {
+    match how() {
+        Some(How::Asked(asks)) => asks(lent, span),
+        Some(How::BothAsked(tells)) => {
+            let told = tells(lent.marks.lent(), lent.counts.lent(), span);
+            lent.yes.lend()[0] = told.yes.into();
+            told.number
+        }
+        _ => lent.question(span),
+    }
+}
+
+/// The model is asked of a span, or what stands in for it is.
+pub(crate) fn model_asked(marks: &[u8], counts: &[u16], span: Span) -> Told {
+    match how() {
+        Some(How::BothAsked(tells)) => tells(marks, counts, span),
+        _ => model_of_question::measured(marks, counts, span),
     }
 }
 

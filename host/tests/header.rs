@@ -4,7 +4,7 @@
 //! says is needed.
 use cathar_host::inpaint::Gap;
 use cathar_host::machine::{c_compiler, file, runner};
-use cathar_host::recording::{entry_words, MOST_SAMPLES};
+use cathar_host::recording::{blocks, entry_words, MOST_SAMPLES};
 use cathar_host::whole;
 use std::collections::{BTreeMap, BTreeSet};
 use std::fs;
@@ -13,7 +13,7 @@ use std::path::Path;
 use std::process::{Command, Stdio};
 
 /// How many functions there are.
-const EXPORTS: usize = 13;
+const EXPORTS: usize = 14;
 
 fn compiles(compiler: &str, standard: &str, language: &str) {
     let header = file("include/cathar.h");
@@ -43,14 +43,18 @@ fn in_c(type_: &str) -> &'static str {
         "u32" => "uint32_t",
         "usize" => "size_t",
         "&[u8]" => "const uint8_t *, size_t",
+        "&[u16]" => "const uint16_t *, size_t",
         "&[u32]" => "const uint32_t *, size_t",
         "&mut [u8]" => "uint8_t *, size_t",
+        "&mut [u16]" => "uint16_t *, size_t",
         "&mut [u32]" => "uint32_t *, size_t",
         "&mut [f64]" => "double *, size_t",
         "*const u8" => "const uint8_t *",
+        "*const u16" => "const uint16_t *",
         "*const u32" => "const uint32_t *",
         "*mut u8" => "uint8_t *",
-        "*mut u32" => "uint32_t *",
+        "*mut u16" => "uint16_t *",
+        "&mut u32" | "*mut u32" => "uint32_t *",
         "*mut f64" => "double *",
         "&mut usize" | "*mut usize" => "size_t *",
         _ => panic!("there is no C type for {type_}"),
@@ -156,6 +160,7 @@ fn in_sources() -> BTreeMap<String, u64> {
     found.insert(String::from("CATHAR_LOUDEST"), 65_536);
     for (name, of, source) in [
         ("MOST_SAMPLES", "MOST_SAMPLES", "crates/recording/src/open.rt"),
+        ("BLOCK", "BLOCK", "crates/recording/src/counts.rt"),
         ("MOST_BY_MODEL", "MAX_SOLVE", "crates/inpaint/src/window.rt"),
         ("MOST_RATE", "MOST_RATE", "crates/inpaint/src/auto.rt"),
         ("LEAST_BITS", "LEAST_BITS", "crates/dequant/src/lattice.rt"),
@@ -177,8 +182,8 @@ fn names_as_in_the_sources() {
 }
 
 /// What the header's functions on memory give for each of these lines of three numbers, n, start and length: what a gap
-/// needs, what is enough for any gap up to that length, what a repair over the whole recording needs, and the journal
-/// for so many repairs. They are compiled and run as a C program.
+/// needs, what is enough for any gap up to that length, what a repair over the whole recording needs, the journal for so
+/// many repairs, and how many counts. They are compiled and run as a C program.
 fn given(lines: &str) -> String {
     let folder = Path::new(env!("CARGO_TARGET_TMPDIR"));
     let (source, program) = (folder.join("needs.c"), folder.join("needs"));
@@ -204,8 +209,8 @@ int main(void)
 {
     size_t n, start, len;
     while (scanf(\"%zu %zu %zu\", &n, &start, &len) == 3)
-        printf(\"%zu %zu %zu %zu\\n\", cathar_gap_work(n, start, len), cathar_longest_gap_work(n, len),
-               cathar_whole_work(n), cathar_journal_words(n, len));
+        printf(\"%zu %zu %zu %zu %zu\\n\", cathar_gap_work(n, start, len), cathar_longest_gap_work(n, len),
+               cathar_whole_work(n), cathar_journal_words(n, len), cathar_counts(n));
     return 0;
 }
 ";
@@ -241,7 +246,8 @@ fn memory_as_needed() {
                 let within = len > 0 && start < n && len <= n - start;
                 let gap = if within { Gap { start, len }.needed(n) } else { 0 };
                 lines += &format!("{n} {start} {len}\n");
-                expected += &format!("{gap} {enough} {} {}\n", whole::needed(n), len * entry_words(n));
+                let (words, journal, counts) = (whole::needed(n), len * entry_words(n), blocks(n));
+                expected += &format!("{gap} {enough} {words} {journal} {counts}\n");
             }
         }
     }

@@ -12,6 +12,7 @@ mod inpaint {
 
 use cathar_host::both::Both;
 use cathar_host::count::Count;
+use cathar_host::damage;
 use cathar_host::draw::{self, Draw};
 use cathar_host::inpaint::{Gap, Scan, MOST_RATE};
 use cathar_host::original;
@@ -31,9 +32,10 @@ const SHAPED: u64 = 600;
 const LONG: usize = 510;
 const LINES: usize = 400;
 
-/// How many scans: of random short recordings over the alphabet, of each shape, and of longer ones.
+/// How many scans: of random short recordings over the alphabet, of each shape, of some blocks, and of longer ones.
 const RANDOM_SCANS: u64 = 3_000;
 const SHAPED_SCANS: u64 = 250;
+const BLOCK_SCANS: u64 = 300;
 const LONG_SCANS: u64 = 150;
 
 /// A gap within n samples, mostly short.
@@ -112,6 +114,12 @@ fn repairs() {
     let mut count = Count::new("cathar_inpaint_gap against model and original", &[gaps::CLASSES]);
     count.begin("outside, and several refusals apply");
     repair_refused(&mut count, &mut draw);
+    count.begin("each number of counts");
+    let work = room::work(&mut draw, 2_000);
+    limits::counts(&mut draw, &mut |model| {
+        let gap = Gap { start: model.samples.len() / 2, len: 2 };
+        repair(&mut count, &mut Both::new(model), gap, 1, work.clone());
+    });
     count.begin("a sample not in range beside the window");
     lengths::windows(&mut count, &mut draw);
     repair_random(&mut count, &mut draw);
@@ -228,6 +236,11 @@ fn scanned() {
     scan_settings(&mut count, &mut draw);
     count.begin("several refusals apply");
     scan_refused(&mut count, &mut draw);
+    count.begin("each number of counts");
+    let work = room::work(&mut draw, 2_000);
+    limits::counts(&mut draw, &mut |model| {
+        scan(&mut count, &mut Both::new(model), settings::USUAL, work.clone());
+    });
     count.begin("random ones of 6 to 60 samples");
     for _ in 0..RANDOM_SCANS {
         let samples = short::random(&mut draw);
@@ -235,6 +248,14 @@ fn scanned() {
     }
     count.begin("each shape with dropouts");
     scan_shapes(&mut count, &mut draw);
+    count.begin("of several blocks");
+    for call in 0..BLOCK_SCANS {
+        let shape = [Shape::Tone, Shape::Noise, Shape::Steps][call as usize % 3];
+        let n = 500 + draw.below(600) as usize;
+        let mut samples = shape.samples(&mut draw, n);
+        damage::drop_out(&mut draw, &mut samples, 12, &damage::DROPOUTS[..damage::ZEROS]);
+        scan_any(&mut count, &mut draw, &samples, settings::USUAL);
+    }
     count.begin("beside the most samples");
     let works: Vec<u64> = room::work(&mut draw, 5000);
     limits::large(&mut draw, &mut |model| {
@@ -252,7 +273,7 @@ fn scanned() {
 /// The library repairs one gap of an opened recording with enough room. What it leaves: samples and marks.
 fn repaired(samples: Vec<u32>, gap: Gap) -> (Vec<u32>, Vec<u8>) {
     let n = samples.len();
-    let model = Recording { samples, marks: vec![0; n], journal: vec![0; 3 * gap.len + 2], used: 0 };
+    let model = Recording::new(samples, vec![0; n], vec![0; 3 * gap.len + 2], 0);
     let mut both = Both::new(model);
     assert_eq!(both.inpaint_gap(gap, 3, vec![u64::MAX; gap.needed(n)]), (Answer::Accepted(gap.len), vec![]));
     (both.model.samples, both.model.marks)

@@ -43,7 +43,7 @@ fn output(input: &[u8]) -> String {
         None => return String::from("bad input\n"),
     };
     let n = samples.len();
-    format!("samples {n}\n") + &scanned(Recording { samples, marks: vec![0; n], journal: vec![0; JOURNAL], used: 0 })
+    format!("samples {n}\n") + &scanned(Recording::new(samples, vec![0; n], vec![0; JOURNAL], 0))
 }
 
 /// The output of `receive` for an input.
@@ -57,7 +57,7 @@ fn received(input: &[u8]) -> String {
         return format!("refused {}\n", read.number);
     }
     let (samples, marks) = (rooms.samples[..read.n].to_vec(), rooms.marks[..read.n].to_vec());
-    let mut recording = Recording { samples, marks, journal: vec![0; JOURNAL], used: 0 };
+    let mut recording = Recording::new(samples, marks, vec![0; JOURNAL], 0);
     assert_eq!(recording.open_received(), Answer::Accepted(0));
     let [n, missing, dropped] = read.figures();
     let frames = input.len() / FRAME_BYTES;

@@ -14,7 +14,8 @@ mod recording {
 use cathar_host::call::Call;
 use cathar_host::draw::{self, Draw};
 use cathar_host::lent::Lent;
-use cathar_host::recording::{entry_words, Answer, Recording, MOST_SAMPLES};
+use cathar_host::recording::{blocks, counted, entry_words, Answer, Recording, BLOCK, MOST_SAMPLES};
+use cathar_host::room;
 use recording::built::{build, marks, words, Built};
 use recording::count::{Count, Opening};
 use recording::damage::Damage;
@@ -60,7 +61,8 @@ fn undo_damaged(count: &mut Count, draw: &mut Draw, damage: Damage) {
         let built = build(draw);
         if !built.before.is_empty() {
             let last = undo_all(count, damage.done(draw, &built));
-            assert!(damage != Damage::OldWord || last == Answer::Refused(10), "any old word is allowed");
+            let is_allowed = [Damage::OldWord, Damage::Counts].contains(&damage);
+            assert!(!is_allowed || last == Answer::Refused(10), "any old word and any counts are allowed");
             left -= 1;
         }
     }
@@ -70,7 +72,7 @@ fn undo_damaged(count: &mut Count, draw: &mut Draw, damage: Damage) {
 fn undos() {
     let seed = draw::seed();
     let mut draw = Draw::new(seed);
-    let mut count = Count::new("cathar_undo against the model", &[0, 1, 2, 3, 10, 11]);
+    let mut count = Count::new("cathar_undo against the model", &[0, 1, 14, 2, 3, 10, 11]);
     count.begin("several refusals apply, few samples");
     limits::small(&mut |recording| {
         undo_all(&mut count, recording);
@@ -99,6 +101,8 @@ fn undos() {
     count.close(seed);
     count.close_clauses();
     assert!(count.not_received() >= 10_000, "few undos bring back a mark 6");
+    assert!(count.over_blocks() >= 2_000, "few undos are over several blocks");
+    assert!(count.wrong_kept() >= 100, "few undos leave a wrong count");
     assert!(count.calls() >= UNDOS, "fewer undos than {UNDOS}");
 }
 
@@ -108,18 +112,25 @@ fn open(count: &mut Count, opening: Opening, mut model: Recording) -> Answer {
     count.open(opening, &mut model, &mut lent)
 }
 
-/// Each number of samples, of marks beside it and of journal words, and used within the journal and past it.
+/// Each number of samples, of marks and of counts beside it and of journal words, and used within the journal and past it.
 fn open_any(count: &mut Count, opening: Opening, draw: &mut Draw) {
-    for n in [0, 1, 2, 3, 100, 4000usize] {
-        for marks_n in [n, n + 1, n.saturating_sub(1)] {
+    for n in [0, 1, 2, 3, 100, 255, 256, 257, 512, 513, 4000usize] {
+        for (marks_n, counts_n) in beside(n) {
             for length in [0, 1, 2, 500] {
                 for used in [0, 1, length, length + 1, draw.word() as usize, usize::MAX] {
-                    let (samples, marks) = (words(draw, n), marks(draw, marks_n));
-                    open(count, opening, Recording { samples, marks, journal: words(draw, length), used });
+                    let (samples, marks, journal) = (words(draw, n), marks(draw, marks_n), words(draw, length));
+                    let counts = room::counts(draw, counts_n);
+                    open(count, opening, Recording { samples, marks, counts, journal, used });
                 }
             }
         }
     }
+}
+
+/// Each number of marks and of counts that is right for so many samples, one more or one less.
+fn beside(n: usize) -> impl Iterator<Item = (usize, usize)> {
+    let three = |right: usize| [right, right + 1, right.saturating_sub(1)];
+    three(n).into_iter().flat_map(move |marks| three(blocks(n)).map(|counts| (marks, counts)))
 }
 
 /// Recordings of every size, opened in this way: with every mark, with the longest journal that can be filled and a word
@@ -127,7 +138,7 @@ fn open_any(count: &mut Count, opening: Opening, draw: &mut Draw) {
 fn open_all(title: &'static str, opening: Opening) -> Count {
     let seed = draw::seed();
     let mut draw = Draw::new(seed);
-    let mut count = Count::new(title, &[0, 1, 2]);
+    let mut count = Count::new(title, &[0, 1, 14, 2]);
     count.begin("any words");
     for _ in 0..10 {
         open_any(&mut count, opening, &mut draw);
@@ -139,19 +150,32 @@ fn open_all(title: &'static str, opening: Opening) -> Count {
     count.begin("every mark, over a NaN, 7FC00000 and 1");
     for mark in 0..=255 {
         let samples = vec![0x7f80_0001, 0x7fc0_0000, 0x3f80_0000];
-        open(&mut count, opening, Recording { samples, marks: vec![mark; 3], journal: vec![1; 5], used: 5 });
+        open(&mut count, opening, Recording::new(samples, vec![mark; 3], vec![1; 5], 5));
+    }
+    count.begin("one mark throughout, beside the end of a block");
+    for n in [BLOCK - 1, BLOCK, BLOCK + 1, 2 * BLOCK, 2 * BLOCK + 88] {
+        for mark in [0, 1, 6, 7] {
+            let mut model = Recording::new(vec![0; n], vec![mark; n], vec![1; 5], 5);
+            model.counts = room::counts(&mut draw, blocks(n));
+            open(&mut count, opening, model);
+        }
     }
     count.begin("a journal for the most samples, and a word more");
-    open(&mut count, opening, limits::recording(3, 3, &vec![9; entry_words(MOST_SAMPLES) + 1], 7));
+    open(&mut count, opening, limits::recording(3, [3, 1], &vec![9; entry_words(MOST_SAMPLES) + 1], 7));
     count.begin("beside the most samples");
-    for (n, marks, number) in [
-        (MOST_SAMPLES, MOST_SAMPLES, 0),
-        (MOST_SAMPLES, MOST_SAMPLES + 1, 1),
-        (MOST_SAMPLES + 1, MOST_SAMPLES + 1, 2),
-        (MOST_SAMPLES + 1, MOST_SAMPLES, 1),
+    for (n, marks, counts, number) in [
+        (MOST_SAMPLES, MOST_SAMPLES, 4_096, 0),
+        (MOST_SAMPLES, MOST_SAMPLES, 4_095, 14),
+        (MOST_SAMPLES, MOST_SAMPLES + 1, 4_096, 1),
+        (MOST_SAMPLES, MOST_SAMPLES + 1, 4_097, 1),
+        (MOST_SAMPLES + 1, MOST_SAMPLES + 1, 4_097, 2),
+        (MOST_SAMPLES + 1, MOST_SAMPLES + 1, 4_096, 14),
+        (MOST_SAMPLES + 1, MOST_SAMPLES + 1, 4_098, 14),
+        (MOST_SAMPLES + 1, MOST_SAMPLES, 4_097, 1),
+        (MOST_SAMPLES + 1, MOST_SAMPLES, 4_096, 1),
     ] {
-        let answer = open(&mut count, opening, limits::recording(n, marks, &[5, 6, 7], usize::MAX));
-        assert_eq!(answer.number(), number, "the model opens {n} samples with {marks} marks");
+        let answer = open(&mut count, opening, limits::recording(n, [marks, counts], &[5, 6, 7], usize::MAX));
+        assert_eq!(answer.number(), number, "the model opens {n} samples with {marks} marks and {counts} counts");
     }
     count.close(seed);
     count
@@ -173,11 +197,12 @@ fn opens_received() {
 /// *quiet* by the document's figures: the model's journal, and both sides' undo.
 #[test]
 fn quiet() {
-    let opened = Recording { samples: QUIET.to_vec(), marks: vec![0; 6], journal: vec![0; 8], used: 0 };
+    let opened = Recording::new(QUIET.to_vec(), vec![0; 6], vec![0; 8], 0);
     let mut model = opened.clone();
     assert_eq!(model.commit(1, &[(2, 0x8000_0000), (3, 0)]), Answer::Accepted(2));
     assert_eq!(model.samples, QUIET_REPAIRED);
     assert_eq!(model.marks, [0, 0, 1, 1, 0, 0]);
+    assert_eq!(model.counts, [2]);
     assert_eq!(model.journal, [2, 0, 0, 3, 0, 0, 2, 1]);
     assert_eq!(model.used, 8);
     let mut lent = Lent::new(&model);
@@ -191,7 +216,7 @@ fn quiet() {
 /// What the document says of a repair's end, by the model: no room, naming nothing, a word not in range.
 #[test]
 fn commits() {
-    let opened = Recording { samples: QUIET.to_vec(), marks: vec![0; 6], journal: vec![0; 7], used: 0 };
+    let opened = Recording::new(QUIET.to_vec(), vec![0; 6], vec![0; 7], 0);
     let mut model = opened.clone();
     assert_eq!(model.commit(1, &[(2, 0x8000_0000), (3, 0)]), Answer::Refused(9));
     assert_eq!(model.commit(4, &[]), Answer::Accepted(0));
@@ -202,4 +227,30 @@ fn commits() {
     assert_eq!(model.commit(5, &[(5, 0xc780_0000)]), Answer::Accepted(1));
     assert_eq!(model.journal, [5, 0x3080_0000, 0, 1, 5, 0, 0]);
     assert_eq!(model.commit(2, &[(5, 0)]), Answer::Refused(9));
+}
+
+/// What request P5 says of a repair's end and of undo, by the model and by the library's undo: of four blocks, the last
+/// of them short, those of the named samples are recounted, and wrong counts of the others stay.
+#[test]
+fn recounts() {
+    let mut marks = vec![0; 3 * BLOCK + 10];
+    marks[0..5].fill(6);
+    marks[3 * BLOCK..].fill(6);
+    let mut model = Recording::new(vec![0; 3 * BLOCK + 10], marks, vec![0; 50], 0);
+    assert_eq!(model.counts, [5, 0, 0, 10]);
+    assert_eq!(model.commit(3, &[(4, 0), (5, 0), (2 * BLOCK - 1, 0), (3 * BLOCK, 0)]), Answer::Accepted(4));
+    assert_eq!(model.counts, [6, 1, 0, 10]);
+    model.counts = vec![1_000, 2_000, 3_000, 4_000];
+    assert_eq!(model.commit(4, &[]), Answer::Accepted(0));
+    assert_eq!(model.commit(4, &[(BLOCK, 0x7fc0_0000)]), Answer::RefusedAt(8, BLOCK));
+    assert_eq!(model.counts, [1_000, 2_000, 3_000, 4_000]);
+    assert_eq!(model.commit(4, &[(BLOCK, 0), (2 * BLOCK - 1, 0)]), Answer::Accepted(2));
+    assert_eq!(model.counts, [1_000, 2, 3_000, 4_000]);
+    let mut lent = Lent::new(&model);
+    for (m, counts) in [(2, [1_000, 1, 3_000, 4_000]), (4, [5, 0, 3_000, 10])] {
+        assert_eq!(model.undo(), Answer::Accepted(m));
+        assert_eq!(model.counts, counts);
+        assert_eq!((lent.make(Call::Undo), lent.wrong(&model, m)), (0, vec![]));
+    }
+    assert_eq!(counted(&model.marks), [5, 0, 0, 10]);
 }

@@ -72,7 +72,7 @@ const STRENGTHS: [f32; EACH] = [0.5, 1.0, 0.3, 0.30000004, 0.75, 2.0, 0.1, 0.9, 
 const ITERATIONS: [u32; EACH] = [1, 2, 3, 16, 17, 4, 6, 15, u32::MAX, 5];
 
 fn recording(samples: &[u32]) -> Recording {
-    Recording { samples: samples.to_vec(), marks: vec![0; samples.len()], journal: vec![0; 1000], used: 0 }
+    Recording::new(samples.to_vec(), vec![0; samples.len()], vec![0; 1000], 0)
 }
 
 /// The letter of a call and the words of its settings.

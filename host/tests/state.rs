@@ -26,10 +26,20 @@ fn within<T>(state: u32, call: impl FnOnce() -> T) -> T {
 /// The words that `dequantize` leaves of a few samples whose sums are not floats.
 fn dequantized() -> Vec<u32> {
     let mut samples: Vec<u32> = [0.1f32, 0.3, -0.7, 0.2, 0.9, -0.4].iter().map(|x| x.to_bits()).collect();
-    let (mut marks, mut journal, mut used) = ([0; 6], [0; 14], 0);
+    let (mut marks, mut counts, mut journal, mut used) = ([0; 6], [0], [0; 14], 0);
     let (mut work, mut value) = ([0; 12], 0);
-    let answer = cathar::dequantize(&mut samples, &mut marks, &mut journal, &mut used, 4, 0.5, &mut work, &mut value);
-    assert_eq!((answer, value), (0, 4));
+    let answer = cathar::dequantize(
+        &mut samples,
+        &mut marks,
+        &mut counts,
+        &mut journal,
+        &mut used,
+        4,
+        0.5,
+        &mut work,
+        &mut value,
+    );
+    assert_eq!((answer, value, counts), (0, 4, [4]));
     samples
 }
 

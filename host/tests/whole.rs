@@ -39,8 +39,13 @@ const LOUD: usize = 160;
 /// Any settings of one repair, for these samples.
 type Settings = fn(&mut Draw, &[u32]) -> Repair;
 
-/// All short recordings, random ones, ones of each shape and long ones, each with any settings.
+/// Recordings beside the end of a block, all short ones, random ones, ones of each shape and long ones, each with any
+/// settings.
 fn repair_usual(count: &mut Calls, draw: &mut Draw, settings: Settings) {
+    count.begin("each shape, beside the end of a block");
+    for n in [255, 256, 257, 258, 259, 511, 512, 513, 514, 515, 768, 769, 770] {
+        repair_shapes(count, draw, settings, FEW, n..n + 1);
+    }
     for (source, which) in [
         ("all recordings of up to 5 samples, 8 words", short::ALL_WORDS),
         ("all of 6 samples, 5 words", short::FIVE_WORDS),
@@ -80,15 +85,23 @@ fn repair_shapes(count: &mut Calls, draw: &mut Draw, settings: Settings, each: u
     }
 }
 
-/// Calls to which several refusals apply, every choice of them, and recordings of the most samples.
+/// Calls to which several refusals apply, every choice of them, and each number of counts.
 fn repair_refused(count: &mut Calls, draw: &mut Draw, case: &Case) {
     count.begin("several refusals apply");
     for faults in Faults::each() {
         if let Some((model, how, work)) = faults.made(draw, case) {
             let answer = repair(count, &mut Both::new(model), how, work);
-            assert_eq!(answer.number(), faults.answer(), "the lowest of those that apply to {how:?}");
+            assert_eq!(answer.number(), faults.answer(), "the first of those that apply to {how:?}");
         }
     }
+    count.begin("each number of counts");
+    limits::counts(draw, case, &mut |model, how, work| {
+        repair(count, &mut Both::new(model), how, work);
+    });
+}
+
+/// Recordings of the most samples and of one more.
+fn repair_large(count: &mut Calls, draw: &mut Draw, case: &Case) {
     count.begin("beside the most samples");
     limits::large(draw, case, &mut |model, how, work| {
         repair(count, &mut Both::new(model), how, work);
@@ -100,6 +113,8 @@ fn declips() {
     let seed = draw::seed();
     let mut draw = Draw::new(seed);
     let mut count = Count::new("cathar_declip against model and original", &[COMMON, clipped::CLASSES]);
+    let case = limits::declip(&mut draw);
+    repair_refused(&mut count, &mut draw, &case);
     repair_usual(&mut count, &mut draw, settings::declip);
     count.begin("every choice of clipped samples, of 6 to 13");
     clipped::each(&mut draw, &mut |draw, samples, how| {
@@ -119,8 +134,7 @@ fn declips() {
             assert_eq!(answer, Answer::Refused(4), "a threshold of {threshold}");
         }
     }
-    let case = limits::declip(&mut draw);
-    repair_refused(&mut count, &mut draw, &case);
+    repair_large(&mut count, &mut draw, &case);
     count.close(seed);
 }
 
@@ -142,6 +156,7 @@ fn decrackles() {
     let seed = draw::seed();
     let mut draw = Draw::new(seed);
     let mut count = Count::new("cathar_decrackle against model and original", &[COMMON, crackled::CLASSES]);
+    repair_refused(&mut count, &mut draw, &limits::decrackle());
     repair_usual(&mut count, &mut draw, settings::decrackle);
     count.begin("every choice of flagged samples, of 7 to 14");
     crackled::each(&mut draw, &mut |draw, samples| {
@@ -154,7 +169,7 @@ fn decrackles() {
     });
     count.begin("every sensitivity, on samples with clicks");
     decrackle_clicked(&mut count, &mut draw);
-    repair_refused(&mut count, &mut draw, &limits::decrackle());
+    repair_large(&mut count, &mut draw, &limits::decrackle());
     count.close(seed);
 }
 
@@ -164,12 +179,13 @@ fn dequantizes() {
     let mut draw = Draw::new(seed);
     let classes = [COMMON, levels::BOTH, levels::CLASSES];
     let mut count = Count::new("cathar_dequantize against model and original", &classes);
+    repair_refused(&mut count, &mut draw, &limits::dequantize());
     repair_usual(&mut count, &mut draw, settings::dequantize);
     count.begin("every number of bits and every strength");
     levels::each(&mut draw, &mut |draw, samples, bits, strength| {
         repair_any(&mut count, draw, samples, Repair::Dequantize { bits, strength });
     });
-    repair_refused(&mut count, &mut draw, &limits::dequantize());
+    repair_large(&mut count, &mut draw, &limits::dequantize());
     count.close(seed);
 }
 
@@ -179,13 +195,14 @@ fn cosparse() {
     let mut draw = Draw::new(seed);
     let classes = [COMMON, levels::BOTH, levels::COSPARSE];
     let mut count = Count::new("cathar_dequantize_cosparse against model and original", &classes);
+    repair_refused(&mut count, &mut draw, &limits::cosparse());
     repair_usual(&mut count, &mut draw, settings::cosparse);
     count.begin("every number of bits and every strength");
     levels::each(&mut draw, &mut |draw, samples, bits, strength| {
         let iterations = settings::ITERATIONS[draw.below(settings::ITERATIONS.len() as u64) as usize];
         repair_any(&mut count, draw, samples, Repair::Cosparse { bits, strength, iterations });
     });
-    repair_refused(&mut count, &mut draw, &limits::cosparse());
+    repair_large(&mut count, &mut draw, &limits::cosparse());
     count.close(seed);
 }
 
@@ -194,7 +211,7 @@ fn cosparse() {
 fn repaired(samples: &[f32], how: Repair, m: usize) -> (Vec<f32>, Vec<usize>) {
     let n = samples.len();
     let words = samples.iter().map(|x| x.to_bits()).collect();
-    let model = Recording { samples: words, marks: vec![0; n], journal: vec![0; entry_words(m)], used: 0 };
+    let model = Recording::new(words, vec![0; n], vec![0; entry_words(m)], 0);
     let mut both = Both::new(model);
     assert_eq!(both.repair(how, vec![u32::MAX; needed(n)]), (Answer::Accepted(m), vec![]));
     let named: Vec<usize> = (0..n).filter(|place| both.model.marks[*place] == how.mark()).collect();

@@ -2,16 +2,22 @@
 use super::clock::thread_time;
 use super::inputs;
 use cathar_host::call::Call;
+use cathar_host::cathar;
 use cathar_host::draw::{Draw, SEED};
 use cathar_host::inpaint::Gap;
 use cathar_host::lent::Lent;
 use cathar_host::original;
+use cathar_host::question::{by_each_mark, Span};
 use cathar_host::recording::{entry_words, Recording};
 use cathar_host::whole::{self, Repair};
+use std::ptr;
 use std::time::{Duration, Instant};
 
 /// A task that takes less is run again until so much time has gone.
 const AT_LEAST: Duration = Duration::from_millis(50);
+
+/// How often the question is asked in one run.
+pub const QUESTIONS: u32 = 100;
 
 /// A scan's rate and limit, which is 48 samples.
 const RATE: u32 = 48_000;
@@ -27,6 +33,9 @@ pub enum Task {
     Whole(Repair),
     /// The undo of a repair that named all samples but two. The original has none.
     Undo,
+    /// The question, so often, of a span of so many samples from the first on, all of which are measured. In the
+    /// original's place it is answered by looking at each mark.
+    Questions { len: usize },
 }
 
 #[derive(Clone, Copy)]
@@ -52,6 +61,7 @@ impl Task {
             Task::Scan => scan(&inputs::with_dropouts(draw, n)),
             Task::Whole(repair) => whole(&inputs::worn(draw, n), repair),
             Task::Undo => undo(&inputs::worn(draw, n)),
+            Task::Questions { len } => questions(&opened(&vec![0.0; n], 0), len),
         }
     }
 }
@@ -103,6 +113,29 @@ fn undo(samples: &[f32]) -> Times {
     })
 }
 
+/// The question, answered in both ways: how often with yes has to be the same, and always.
+fn questions(recording: &Recording, len: usize) -> Times {
+    let Recording { marks, counts, .. } = recording;
+    let by_library = |span: Span| {
+        let mut yes = 0;
+        let answer = cathar::measured(marks, counts, span.start, span.len, &mut yes);
+        answer == 0 && yes == 1
+    };
+    least(|| {
+        let (theirs, looked) = timed(|| asked(len, |span| by_each_mark(marks, span)));
+        let (ours, told) = timed(|| asked(len, by_library));
+        assert_eq!((looked, told), (QUESTIONS, QUESTIONS));
+        Times { original: Some(theirs), library: ours }
+    })
+}
+
+/// How often a span of this length gets yes. The length is read anew each time, so that each question is worked out.
+fn asked(len: usize, is_yes: impl Fn(Span) -> bool) -> u32 {
+    // The reference is to a number that lives on.
+    let span = || Span { start: 0, len: unsafe { ptr::read_volatile(&len) } };
+    (0..QUESTIONS).map(|_| u32::from(is_yes(span()))).sum()
+}
+
 /// Both times of a repair that names at most so many samples. The library is lent a recording and a workspace anew
 /// for each run. Both have to leave the same samples, and others than they found.
 fn both(
@@ -129,7 +162,7 @@ fn both(
 /// for a scan too.)
 fn opened(samples: &[f32], named: usize) -> Recording {
     let n = samples.len();
-    Recording { samples: words(samples), marks: vec![0; n], journal: vec![0; entry_words(named)], used: 0 }
+    Recording::new(words(samples), vec![0; n], vec![0; entry_words(named)], 0)
 }
 
 /// The samples' words, which tell -0 from +0.

@@ -170,7 +170,7 @@ fn sets_word_of_6(lent: &mut Lent, call: Call) -> u32 {
 }
 
 fn misses_1_for_more_marks(lent: &mut Lent, _: Call) -> u32 {
-    let (samples, marks) = (lent.samples.lent(), lent.marks.lend());
+    let (samples, marks, counts) = (lent.samples.lent(), lent.marks.lend(), lent.counts.lend());
     let same = samples.len().min(marks.len());
-    cathar::open_received(samples, &mut marks[..same], lent.journal.lend(), &mut lent.used.lend()[0])
+    cathar::open_received(samples, &mut marks[..same], counts, lent.journal.lend(), &mut lent.used.lend()[0])
 }

@@ -4,7 +4,7 @@ use super::{Finds, Standin, Table};
 use crate::call::Call;
 use crate::cathar;
 use crate::lent::{Lent, GUARDS, VALUE_BEFORE};
-use crate::recording::{entry_words, in_range, Recording, MOST_SAMPLES};
+use crate::recording::{blocks, entry_words, in_range, not_measured, Recording, BLOCK, MOST_SAMPLES};
 
 pub(super) const TABLES: &[Table] = &[
     Table { file: "recording", test: "opens", finds: Finds::Always, standins: OPENINGS },
@@ -567,7 +567,13 @@ pub(super) fn refused_and(lent: &mut Lent, call: Call, alter: impl FnOnce(&mut L
 }
 
 /// The library makes the call. Where it gives the one number and the other applies too, that is given.
-fn where_also(lent: &mut Lent, call: Call, one: u32, other: u32, applies: impl Fn(&Recording) -> bool) -> u32 {
+pub(super) fn where_also(
+    lent: &mut Lent,
+    call: Call,
+    one: u32,
+    other: u32,
+    applies: impl Fn(&Recording) -> bool,
+) -> u32 {
     let number = lent.call(call);
     if number == one && applies(&lent.recording()) {
         other
@@ -638,6 +644,16 @@ fn set_value(lent: &mut Lent, value: usize) {
     lent.numbers[0].lend()[0] = value;
 }
 
+/// The blocks of these places are counted anew, as far as there are such.
+fn recount(lent: &mut Lent, places: impl Iterator<Item = usize>) {
+    let (marks, counts) = (lent.marks.lent(), lent.counts.lend());
+    for block in places.map(|place| place / BLOCK) {
+        if let (Some(count), Some(marks)) = (counts.get_mut(block), marks.chunks(BLOCK).nth(block)) {
+            *count = not_measured(marks);
+        }
+    }
+}
+
 /// What undo allows.
 struct Rules {
     most_samples: usize,
@@ -674,6 +690,7 @@ fn undo_by(lent: &mut Lent, rules: Rules) -> u32 {
     let (n, used) = (lent.samples.lent().len(), lent.used.lent()[0]);
     let outside = [
         (1, lent.marks.lent().len() != n),
+        (14, lent.counts.lent().len() != blocks(n)),
         (2, n > rules.most_samples),
         (3, used > lent.journal.lent().len()),
         (10, used == 0),
@@ -693,10 +710,11 @@ fn undo_by(lent: &mut Lent, rules: Rules) -> u32 {
     if !entry.iter().all(places_and_marks) || !entry.windows(2).all(|two| (rules.rise)(two[0][0], two[1][0])) {
         return 11;
     }
-    for [place, word, mark] in entry {
-        lent.samples.whole[GUARDS + place as usize] = word;
-        lent.marks.whole[GUARDS + place as usize] = mark as u8;
+    for [place, word, mark] in &entry {
+        lent.samples.whole[GUARDS + *place as usize] = *word;
+        lent.marks.whole[GUARDS + *place as usize] = *mark as u8;
     }
+    recount(lent, entry.iter().map(|[place, ..]| *place as usize));
     lent.journal.whole[start..end].fill(0);
     lent.used.lend()[0] = used.saturating_sub(words);
     set_value(lent, m as usize);
@@ -730,21 +748,21 @@ pub(super) fn tests_2_before_1(lent: &mut Lent, call: Call) -> u32 {
 }
 
 fn open_misses_1_for_more_marks(lent: &mut Lent, _: Call) -> u32 {
-    let (samples, marks) = (lent.samples.lent(), lent.marks.lend());
+    let (samples, marks, counts) = (lent.samples.lent(), lent.marks.lend(), lent.counts.lend());
     let same = samples.len().min(marks.len());
-    cathar::open(samples, &mut marks[..same], lent.journal.lend(), &mut lent.used.lend()[0])
+    cathar::open(samples, &mut marks[..same], counts, lent.journal.lend(), &mut lent.used.lend()[0])
 }
 
 fn open_misses_1_for_fewer_marks(lent: &mut Lent, _: Call) -> u32 {
-    let (samples, marks) = (lent.samples.lent(), lent.marks.lend());
+    let (samples, marks, counts) = (lent.samples.lent(), lent.marks.lend(), lent.counts.lend());
     let same = samples.len().min(marks.len());
-    cathar::open(&samples[..same], marks, lent.journal.lend(), &mut lent.used.lend()[0])
+    cathar::open(&samples[..same], marks, counts, lent.journal.lend(), &mut lent.used.lend()[0])
 }
 
 pub(super) fn limit_one_lower(lent: &mut Lent, call: Call) -> u32 {
     let before = lent.recording();
     let number = lent.call(call);
-    if before.samples.len() == MOST_SAMPLES && number != 1 {
+    if before.samples.len() == MOST_SAMPLES && ![1, 14].contains(&number) {
         lent.put(&before);
         set_value(lent, if call.opens() { VALUE_BEFORE } else { 0 });
         return 2;
@@ -756,6 +774,7 @@ fn open_limit_one_higher(lent: &mut Lent, call: Call) -> u32 {
     let number = lent.call(call);
     if number == 2 && lent.samples.lent().len() == MOST_SAMPLES + 1 {
         lent.marks.lend().fill(0);
+        lent.counts.lend().fill(0);
         lent.journal.lend().fill(0);
         lent.used.lend()[0] = 0;
         return 0;
@@ -813,17 +832,17 @@ fn undo_clears_word_before_entry(lent: &mut Lent, _: Call) -> u32 {
 }
 
 fn undo_misses_1_for_more_marks(lent: &mut Lent, _: Call) -> u32 {
-    let (samples, marks, journal) = (lent.samples.lend(), lent.marks.lend(), lent.journal.lend());
+    let (samples, marks, counts) = (lent.samples.lend(), lent.marks.lend(), lent.counts.lend());
     let same = samples.len().min(marks.len());
-    let (used, value) = (&mut lent.used.lend()[0], &mut lent.numbers[0].lend()[0]);
-    cathar::undo(samples, &mut marks[..same], journal, used, value)
+    let (journal, used) = (lent.journal.lend(), &mut lent.used.lend()[0]);
+    cathar::undo(samples, &mut marks[..same], counts, journal, used, &mut lent.numbers[0].lend()[0])
 }
 
 fn undo_misses_1_for_fewer_marks(lent: &mut Lent, _: Call) -> u32 {
-    let (samples, marks, journal) = (lent.samples.lend(), lent.marks.lend(), lent.journal.lend());
+    let (samples, marks, counts) = (lent.samples.lend(), lent.marks.lend(), lent.counts.lend());
     let same = samples.len().min(marks.len());
-    let (used, value) = (&mut lent.used.lend()[0], &mut lent.numbers[0].lend()[0]);
-    cathar::undo(&mut samples[..same], marks, journal, used, value)
+    let (journal, used) = (lent.journal.lend(), &mut lent.used.lend()[0]);
+    cathar::undo(&mut samples[..same], marks, counts, journal, used, &mut lent.numbers[0].lend()[0])
 }
 
 fn undo_misses_3_one_past(lent: &mut Lent, call: Call) -> u32 {
@@ -833,7 +852,7 @@ fn undo_misses_3_one_past(lent: &mut Lent, call: Call) -> u32 {
     }
     let journal = &mut lent.journal.whole[GUARDS..GUARDS + length + 1];
     let (used, value) = (&mut lent.used.lend()[0], &mut lent.numbers[0].lend()[0]);
-    cathar::undo(lent.samples.lend(), lent.marks.lend(), journal, used, value)
+    cathar::undo(lent.samples.lend(), lent.marks.lend(), lent.counts.lend(), journal, used, value)
 }
 
 fn undo_reads_used_as_32_bits(lent: &mut Lent, call: Call) -> u32 {
@@ -849,7 +868,7 @@ fn undo_reads_used_as_32_bits(lent: &mut Lent, call: Call) -> u32 {
 fn undo_gives_3_for_full_journal(lent: &mut Lent, call: Call) -> u32 {
     let before = lent.recording();
     let number = lent.call(call);
-    if ![1, 2].contains(&number) && before.used == before.journal.len() {
+    if ![1, 14, 2].contains(&number) && before.used == before.journal.len() {
         lent.put(&before);
         set_value(lent, 0);
         return 3;
@@ -887,7 +906,7 @@ fn undo_tests_first_old_mark_only(lent: &mut Lent, _: Call) -> u32 {
 
 fn undo_gives_back_while_it_tests(lent: &mut Lent, call: Call) -> u32 {
     refused_and(lent, call, |lent, before| {
-        if before.marks.len() != before.samples.len() || before.samples.len() > MOST_SAMPLES {
+        if before.refused_by_any_call().is_some() {
             return;
         }
         let mut least = 0;

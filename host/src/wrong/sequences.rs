@@ -1,7 +1,7 @@
 //! Stand-ins for the test of sequences: for the model alone, for the library alone where only a sequence shows it, for
 //! both alike, and for the test's account.
 use super::How::{Account, Alike, Library, Model};
-use super::{Alters, Finds, Standin, Table};
+use super::{alter, Alters, Finds, Standin, Table};
 use crate::call::Call;
 use crate::frames::MISSING_WORD;
 use crate::lent::Lent;
@@ -478,7 +478,7 @@ fn altered(lent: &mut Lent, call: Call, alters: Alters) -> u32 {
     let before = lent.recording();
     let number = lent.call(call);
     let mut after = lent.recording();
-    alters(call, &before, &mut after);
+    alter(alters, call, &before, &mut after);
     lent.put(&after);
     number
 }
@@ -502,7 +502,7 @@ fn samples_of(of: &Recording, from: usize) -> Vec<usize> {
 }
 
 /// Where the journal has the samples that a call has named.
-fn named(before: &Recording, after: &Recording) -> Vec<usize> {
+pub(super) fn named(before: &Recording, after: &Recording) -> Vec<usize> {
     samples_of(after, before.used)
 }
 
@@ -518,7 +518,7 @@ fn before_named(before: &Recording, after: &Recording) -> Option<usize> {
 }
 
 /// The places that an undo has taken back.
-fn taken_back(call: Call, before: &Recording, after: &Recording) -> Vec<usize> {
+pub(super) fn taken_back(call: Call, before: &Recording, after: &Recording) -> Vec<usize> {
     let samples = if call == Call::Undo { samples_of(before, after.used) } else { Vec::new() };
     samples.into_iter().map(|at| before.journal[at] as usize).collect()
 }

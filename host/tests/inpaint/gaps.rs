@@ -3,7 +3,7 @@ use cathar_host::both::Both;
 use cathar_host::count::{Class, Count};
 use cathar_host::draw::Draw;
 use cathar_host::inpaint::Gap;
-use cathar_host::recording::{entry_words, Answer};
+use cathar_host::recording::{entry_words, Answer, BLOCK};
 use cathar_host::room::{self, Room};
 
 /// A call, and what the model answers.
@@ -17,6 +17,8 @@ pub struct Call {
     /// How many journal words were free.
     pub free: usize,
     pub answer: Answer,
+    /// Whether a count is not that of its block's marks after it.
+    pub has_wrong_count: bool,
 }
 
 impl Call {
@@ -38,6 +40,10 @@ impl Call {
 
     fn overflows(&self) -> bool {
         self.gap.start.checked_add(self.gap.len).is_none()
+    }
+
+    fn is_over_blocks(&self) -> bool {
+        self.is_accepted() && self.gap.start / BLOCK < (self.gap.start + self.gap.len - 1) / BLOCK
     }
 
     fn has_exact_work(&self) -> bool {
@@ -79,7 +85,14 @@ pub const CLASSES: &[Class<Call>] = &[
     Class { name: "workspace exact", least: 500, holds: Call::has_exact_work },
     Class { name: "workspace longer", least: 500, holds: |c| c.is_accepted() && !c.has_exact_work() },
     Class { name: "journal exact", least: 500, holds: |c| c.is_accepted() && c.free == entry_words(c.gap.len) },
+    Class { name: "over several blocks", least: 500, holds: Call::is_over_blocks },
+    Class {
+        name: "leaving a wrong count of another block",
+        least: 200,
+        holds: |c| c.is_accepted() && c.has_wrong_count,
+    },
     Class { name: "answered 1", least: 10, holds: |c| c.answer.number() == 1 },
+    Class { name: "answered 14", least: 100, holds: |c| c.answer.number() == 14 },
     Class { name: "answered 2", least: 3, holds: |c| c.answer.number() == 2 },
     Class { name: "answered 3", least: 10, holds: |c| c.answer.number() == 3 },
     Class { name: "answered 5", least: 100, holds: |c| c.answer.number() == 5 },
@@ -103,7 +116,8 @@ pub fn repair(count: &mut Gaps, both: &mut Both, gap: Gap, passes: u32, work: Ve
     let (samples, lent) = (both.model.samples.len(), work.len());
     let free = both.model.journal.len().saturating_sub(both.model.used);
     let (answer, wrong) = both.inpaint_gap(gap, passes, work);
-    count.take(&Call { samples, gap, passes, work: lent, free, answer }, &wrong);
+    let has_wrong_count = both.model.has_wrong_count();
+    count.take(&Call { samples, gap, passes, work: lent, free, answer, has_wrong_count }, &wrong);
     answer
 }
 

@@ -5,7 +5,7 @@ use cathar_host::damage;
 use cathar_host::draw::Draw;
 use cathar_host::inpaint::{limit, qualified, Scan};
 use cathar_host::original;
-use cathar_host::recording::entry_words;
+use cathar_host::recording::{entry_words, BLOCK};
 use cathar_host::room::{self, Room};
 use cathar_host::settings::OfScan;
 use cathar_host::shapes::Shape;
@@ -16,6 +16,8 @@ pub struct Call {
     pub samples: usize,
     pub settings: OfScan,
     pub scan: Scan,
+    /// Whether a count is not that of its block's marks after it.
+    pub has_wrong_count: bool,
 }
 
 impl Call {
@@ -28,6 +30,14 @@ impl Call {
     fn goes_on(&self) -> bool {
         let mut after = self.scan.runs().iter().skip_while(|(_, answer)| answer.number() == 0);
         after.any(|(_, answer)| answer.number() == 0)
+    }
+
+    /// Whether runs were repaired that begin in different blocks.
+    fn is_over_blocks(&self) -> bool {
+        let repaired = self.scan.runs().iter().filter(|(_, answer)| answer.number() == 0);
+        let mut blocks: Vec<usize> = repaired.map(|(run, _)| run.start / BLOCK).collect();
+        blocks.dedup();
+        blocks.len() > 1
     }
 
     /// Whether a run was refused by another number than the first that was.
@@ -52,7 +62,14 @@ pub const CLASSES: &[Class<Call>] = &[
         holds: |c| c.is_clean() && c.scan.runs().iter().any(|r| r.0.is_line()),
     },
     Class { name: "without a limit", least: 5, holds: |c| limit(c.settings.0, c.settings.1) == usize::MAX },
+    Class { name: "repaired in several blocks", least: 100, holds: Call::is_over_blocks },
+    Class {
+        name: "leaving a wrong count of another block",
+        least: 50,
+        holds: |c| c.scan.repaired() > 0 && c.has_wrong_count,
+    },
     Class { name: "answered 1", least: 10, holds: |c| c.scan.number() == 1 },
+    Class { name: "answered 14", least: 100, holds: |c| c.scan.number() == 14 },
     Class { name: "answered 2", least: 1, holds: |c| c.scan.number() == 2 },
     Class { name: "answered 3", least: 10, holds: |c| c.scan.number() == 3 },
     Class { name: "answered 4", least: 10, holds: |c| c.scan.number() == 4 },
@@ -75,7 +92,8 @@ pub fn scan(count: &mut Scans, both: &mut Both, settings: OfScan, work: Vec<u64>
             wrong.push("the original's samples from the model's");
         }
     }
-    count.take(&Call { samples: before.len(), settings, scan: scan.clone() }, &wrong);
+    let has_wrong_count = both.model.has_wrong_count();
+    count.take(&Call { samples: before.len(), settings, scan: scan.clone(), has_wrong_count }, &wrong);
     scan
 }
 

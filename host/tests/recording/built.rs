@@ -25,6 +25,7 @@ pub fn size(draw: &mut Draw) -> usize {
     let sizes = match draw.below(64) {
         0 => 5000,
         1..=4 => 300,
+        5..=6 => 1000,
         _ => 12,
     };
     draw.below(sizes) as usize
@@ -53,7 +54,7 @@ pub fn build(draw: &mut Draw) -> Built {
     let journal = journal_length(draw, &repairs);
     let samples = words(draw, n);
     let used = draw.word() as usize;
-    let mut recording = Recording { samples, marks: marks(draw, n), journal: words(draw, journal), used };
+    let mut recording = Recording::new(samples, marks(draw, n), words(draw, journal), used);
     let open = if draw.below(2) == 0 { Recording::open } else { Recording::open_received };
     assert_eq!(open(&mut recording), Answer::Accepted(0));
     let mut before = Vec::new();

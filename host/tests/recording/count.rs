@@ -31,6 +31,9 @@ pub struct Count {
     clauses: [[u64; 2]; Clause::ALL.len()],
     /// How many openings left a mark 6, and how many undos brought one back.
     not_received: u64,
+    /// How many undos moved the counts of several blocks, and how many left one that is not that of the marks.
+    over_blocks: u64,
+    wrong_kept: u64,
     differences: u64,
     shown: Vec<String>,
 }
@@ -45,6 +48,8 @@ impl Count {
             answers: numbers.iter().map(|number| (*number, 0)).collect(),
             clauses: [[0; 2]; Clause::ALL.len()],
             not_received: 0,
+            over_blocks: 0,
+            wrong_kept: 0,
             differences: 0,
             shown: Vec::new(),
         }
@@ -70,12 +75,14 @@ impl Count {
 
     /// Both sides take back the last entry. The answer is the model's.
     pub fn undo(&mut self, model: &mut Recording, lent: &mut Lent) -> Answer {
-        let before = model.marks.clone();
+        let (before, counts) = (model.marks.clone(), model.counts.clone());
         let answer = model.undo();
         let number = lent.make(Call::Undo);
         self.take(model, answer, number, lent.wrong(model, answer.value()));
         let brings_back = |(old, new): (&u8, &u8)| *old != NOT_RECEIVED && *new == NOT_RECEIVED;
         self.not_received += u64::from(before.iter().zip(&model.marks).any(brings_back));
+        self.over_blocks += u64::from(counts.iter().zip(&model.counts).filter(|(old, new)| old != new).count() > 1);
+        self.wrong_kept += u64::from(answer.number() == 0 && model.has_wrong_count());
         if answer.number() == 11 {
             self.take_clauses(&model.malformed());
         }
@@ -124,6 +131,16 @@ impl Count {
         self.not_received
     }
 
+    /// How many undos moved the counts of several blocks.
+    pub fn over_blocks(&self) -> u64 {
+        self.over_blocks
+    }
+
+    /// How many left a count that is not that of the marks.
+    pub fn wrong_kept(&self) -> u64 {
+        self.wrong_kept
+    }
+
     /// Panics where a clause of refusal 11 was never met alone. One cannot be: more places than samples are
     /// not all below the samples and rising, and where they are not all there, 3m+2 exceeds used.
     pub fn close_clauses(&self) {
@@ -154,6 +171,10 @@ impl Count {
             }
         }
         line(&mut text, "leaving or bringing back a mark 6", self.not_received);
+        if self.over_blocks + self.wrong_kept > 0 {
+            line(&mut text, "moving the counts of several blocks", self.over_blocks);
+            line(&mut text, "leaving a wrong count of another block", self.wrong_kept);
+        }
         line(&mut text, "differences", self.differences);
         for shown in &self.shown {
             writeln!(text, "    {shown}").expect("a String takes all");
@@ -163,7 +184,8 @@ impl Count {
 }
 
 fn described(model: &Recording, answer: Answer, number: u32, wrong: &[&str]) -> String {
-    let Recording { samples, marks, journal, used } = model;
-    let counts = format!("{} samples, {} marks, {} journal words", samples.len(), marks.len(), journal.len());
-    format!("of {counts}, used {used} after it: library {number}, model {answer:?}, differing {wrong:?}")
+    let Recording { samples, marks, counts, journal, used } = model;
+    let sizes = format!("{} samples, {} marks, {} counts", samples.len(), marks.len(), counts.len());
+    let of = format!("of {sizes}, {} journal words, used {used} after it", journal.len());
+    format!("{of}: library {number}, model {answer:?}, differing {wrong:?}")
 }

@@ -1,7 +1,8 @@
-//! Well-formed journals, damaged in one word or in how many are used.
+//! Well-formed journals, damaged in one word or in how many are used; and counts that are not those of the marks.
 use super::built::{words, Built};
 use cathar_host::draw::Draw;
 use cathar_host::recording::Recording;
+use cathar_host::room;
 
 /// What is damaged.
 #[derive(Clone, Copy, PartialEq, Eq)]
@@ -12,11 +13,12 @@ pub enum Damage {
     M,
     SetMark,
     Used,
+    Counts,
 }
 
 impl Damage {
-    pub const ALL: [Damage; 6] =
-        [Damage::Place, Damage::OldWord, Damage::OldMark, Damage::M, Damage::SetMark, Damage::Used];
+    pub const ALL: [Damage; 7] =
+        [Damage::Place, Damage::OldWord, Damage::OldMark, Damage::M, Damage::SetMark, Damage::Used, Damage::Counts];
 
     pub fn words(self) -> &'static str {
         match self {
@@ -26,6 +28,7 @@ impl Damage {
             Damage::M => "damaged: m",
             Damage::SetMark => "damaged: the set mark",
             Damage::Used => "damaged: used",
+            Damage::Counts => "damaged: the counts",
         }
     }
 
@@ -40,6 +43,10 @@ impl Damage {
         }
         if self == Damage::Used {
             recording.used = moved(draw, &recording);
+            return recording;
+        }
+        if self == Damage::Counts {
+            recording.counts = room::counts(draw, recording.counts.len());
             return recording;
         }
         let (start, m) = built.entry(draw.below(built.before.len() as u64) as usize);

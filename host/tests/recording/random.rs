@@ -2,7 +2,8 @@
 //! met and an entry is well-formed by chance.
 use super::built::{marks, size, words};
 use cathar_host::draw::Draw;
-use cathar_host::recording::Recording;
+use cathar_host::recording::{blocks, Recording};
+use cathar_host::room;
 
 /// A recording with any journal, at times with an entry's outline at its end.
 pub fn recording(draw: &mut Draw) -> Recording {
@@ -14,12 +15,18 @@ pub fn recording(draw: &mut Draw) -> Recording {
     if draw.below(2) == 0 && (5..=length).contains(&used) {
         outline(draw, &mut journal[..used], n as u32);
     }
-    let marks_n = match draw.below(64) {
-        0 => n + 1,
-        1 => n.saturating_sub(1),
-        _ => n,
-    };
-    Recording { samples: words(draw, n), marks: marks(draw, marks_n), journal, used }
+    let (marks_n, counts_n) = (beside(draw, n), beside(draw, blocks(n)));
+    let (samples, marks) = (words(draw, n), marks(draw, marks_n));
+    Recording { samples, marks, counts: room::counts(draw, counts_n), journal, used }
+}
+
+/// Mostly this number, at times one more or one less.
+fn beside(draw: &mut Draw, right: usize) -> usize {
+    match draw.below(64) {
+        0 => right + 1,
+        1 => right.saturating_sub(1),
+        _ => right,
+    }
 }
 
 /// Mostly within the journal, at times past its end.

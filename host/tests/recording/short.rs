@@ -15,7 +15,7 @@ pub fn each(put: &mut dyn FnMut(Recording)) {
             for n in 0..=SAMPLES.len() {
                 for used in 0..=LONGEST as usize + 1 {
                     let (samples, marks) = (SAMPLES[..n].to_vec(), MARKS[..n].to_vec());
-                    put(Recording { samples, marks, journal: journal.clone(), used });
+                    put(Recording::new(samples, marks, journal.clone(), used));
                 }
             }
         }

@@ -55,7 +55,7 @@ pub fn recording(draw: &mut Draw, n: usize, repairs: usize, opening: Call) -> Re
         (samples, marks) = received(draw, &samples);
     }
     let length = journal(draw, n, repairs);
-    unopened(draw, Recording { samples, marks, journal: vec![0; length], used: 0 }, opening)
+    unopened(draw, Recording::new(samples, marks, vec![0; length], 0), opening)
 }
 
 /// What is received of these samples when they come in frames, of which some are lost: as many samples with their marks.
@@ -102,8 +102,8 @@ fn shape(draw: &mut Draw, n: usize) -> Shape {
     }
 }
 
-/// A recording that is this one when it is opened in this way: journal and used are any, and so are the marks, but that
-/// 6 stands just where it does here, if it is to be kept.
+/// A recording that is this one when it is opened in this way: counts, journal and used are any, and so are the marks,
+/// but that 6 stands just where it does here, if it is to be kept.
 pub fn unopened(draw: &mut Draw, opened: Recording, opening: Call) -> Recording {
     let length = opened.journal.len();
     let mut recording = room::recording(draw, opened.samples, length);

@@ -5,9 +5,9 @@ use cathar_host::both::{Both, Wrong};
 use cathar_host::draw::Draw;
 use cathar_host::recording::{entry_words, is_made, Recording, NOT_RECEIVED};
 
-/// What has no place in a sequence of calls that begins with opening: marks that are too few or too many, more than
-/// the most samples, used past the journal, and a malformed entry.
-const NEVER: [u32; 4] = [1, 2, 3, 11];
+/// What has no place in a sequence of calls that begins with opening: marks or counts that are too few or too many, more
+/// than the most samples, used past the journal, and a malformed entry.
+const NEVER: [u32; 5] = [1, 14, 2, 3, 11];
 
 /// A repair that was accepted, named a sample and is not undone.
 #[derive(Clone, Copy, Debug)]
@@ -136,8 +136,9 @@ impl History {
     }
 
     /// What is wrong whatever the model says: a sample that is marked as measured or as not received, and has not its
-    /// raw word or was not so marked at first, a used that is not what the entries of the survivors take, a change by a
-    /// call that names no sample and takes nothing back, and an answer that no sequence gives.
+    /// raw word or was not so marked at first, counts that are not those of the marks, a used that is not what the entries
+    /// of the survivors take, a change by a call that names no sample and takes nothing back, and an answer that no
+    /// sequence gives.
     fn broken(&self, before: &Recording, call: Call, outcome: &Outcome) -> Wrong {
         let model = &self.both.model;
         let entries: usize = self.survivors.iter().map(|survivor| entry_words(survivor.m)).sum();
@@ -149,6 +150,7 @@ impl History {
         let wrong = [
             ("a measured sample from what it was at first", !self.is_raw(0)),
             ("one that was not received from what it was at first", !self.is_raw(NOT_RECEIVED)),
+            ("the counts from those of the marks", model.has_wrong_count()),
             ("used from what the survivors take", model.used != entries),
             ("the recording from what it was", !changes && model != before),
             ("an answer that no sequence gives", NEVER.contains(&outcome.number)),
@@ -156,10 +158,10 @@ impl History {
         wrong.into_iter().filter(|(_, wrong)| *wrong).map(|(name, _)| name).collect()
     }
 
-    /// The raw recording, opened, with a journal as long: raw marks, all journal words 0, used 0.
+    /// The raw recording, opened, with a journal as long: raw marks and their counts, all journal words 0, used 0.
     pub fn raw(&self) -> Recording {
         let journal = vec![0; self.both.model.journal.len()];
-        Recording { samples: self.raw.clone(), marks: self.raw_marks.clone(), journal, used: 0 }
+        Recording::new(self.raw.clone(), self.raw_marks.clone(), journal, 0)
     }
 
     /// What of this recording is not the same as the other, on either side.

@@ -2,7 +2,7 @@
 use cathar_host::both::Both;
 use cathar_host::count::{Class, Count};
 use cathar_host::draw::Draw;
-use cathar_host::recording::{entry_words, in_range, Answer};
+use cathar_host::recording::{entry_words, in_range, Answer, BLOCK};
 use cathar_host::room::{self, Room};
 use cathar_host::whole::{fills, flagged, floats, needed, Repair};
 use std::fmt;
@@ -35,6 +35,9 @@ pub struct Call {
     /// How many samples the repair names, where it is not refused, and how many words it changed.
     pub named: usize,
     pub changed: usize,
+    /// Whether the named samples are in several blocks, and whether a count is not that of its block's marks after it.
+    pub over_blocks: bool,
+    pub has_wrong_count: bool,
     pub answer: Answer,
 }
 
@@ -88,7 +91,15 @@ pub const COMMON: &[Class<Call>] = &[
         least: 500,
         holds: |c| c.is_accepted() && c.named == 0 && c.free == 0,
     },
+    Class { name: "over several blocks", least: 500, holds: |c| c.names() && c.over_blocks },
+    Class { name: "leaving a wrong count of another block", least: 10, holds: |c| c.names() && c.has_wrong_count },
+    Class {
+        name: "naming none, and leaving a wrong count",
+        least: 500,
+        holds: |c| c.is_accepted() && c.named == 0 && c.has_wrong_count,
+    },
     Class { name: "answered 1", least: 20, holds: |c| c.number() == 1 },
+    Class { name: "answered 14", least: 50, holds: |c| c.number() == 14 },
     Class { name: "answered 2", least: 2, holds: |c| c.number() == 2 },
     Class { name: "answered 3", least: 10, holds: |c| c.number() == 3 },
     Class { name: "answered 4", least: 500, holds: |c| c.number() == 4 },
@@ -129,9 +140,13 @@ pub fn repair(count: &mut Calls, both: &mut Both, repair: Repair, work: Vec<u32>
     let lent = work.len();
     let (answer, wrong) = both.repair(repair, work);
     let changed = before.iter().zip(&both.model.samples).filter(|(old, new)| old != new).count();
-    let (stretches, named) = (stretches(repair, &floats(&before)), names(repair, &before));
-    let before = Before(before);
-    count.take(&Call { repair, before, work: lent, free, stretches, named, changed, answer }, &wrong);
+    let (stretches, places) = (stretches(repair, &floats(&before)), repair.named(&floats(&before)));
+    let block = |place: Option<&usize>| place.map(|place| place / BLOCK);
+    let (named, over_blocks) = (places.len(), block(places.first()) != block(places.last()));
+    let (before, has_wrong_count) = (Before(before), both.model.has_wrong_count());
+    let call =
+        Call { repair, before, work: lent, free, stretches, named, changed, over_blocks, has_wrong_count, answer };
+    count.take(&call, &wrong);
     answer
 }
 

@@ -2,7 +2,7 @@
 use super::calls::names;
 use super::clipped;
 use cathar_host::draw::Draw;
-use cathar_host::recording::{entry_words, Recording, MOST_SAMPLES};
+use cathar_host::recording::{blocks, entry_words, Recording, MOST_SAMPLES};
 use cathar_host::room;
 use cathar_host::whole::{needed, Repair};
 
@@ -66,15 +66,15 @@ pub fn cosparse() -> Case {
     }
 }
 
-/// What is wrong with a call, each or not: the marks, used, the settings, the workspace, a sample, the results and
-/// the journal's room.
+/// What is wrong with a call, each or not: the marks, the counts, used, the settings, the workspace, a sample, the
+/// results and the journal's room.
 pub struct Faults {
     number: u32,
 }
 
 impl Faults {
     /// The refusals that they lead to, in their order.
-    const REFUSALS: [u32; 7] = [1, 3, 4, 6, 7, 8, 9];
+    const REFUSALS: [u32; 8] = [1, 14, 3, 4, 6, 7, 8, 9];
 
     pub fn each() -> impl Iterator<Item = Faults> {
         (0..1 << Faults::REFUSALS.len()).map(|number| Faults { number })
@@ -85,7 +85,7 @@ impl Faults {
         self.number >> fault & 1 == 1
     }
 
-    /// "The lowest number that applies is the answer." 0 where none does.
+    /// The first that applies is the answer. 0 where none does.
     pub fn answer(&self) -> u32 {
         Faults::REFUSALS.into_iter().find(|refusal| self.has(*refusal)).unwrap_or(0)
     }
@@ -103,6 +103,10 @@ impl Faults {
         if self.has(1) {
             recording.marks.push(0);
         }
+        if self.has(14) {
+            let beside = [blocks(n) - 1, blocks(n) + 1][draw.below(2) as usize];
+            recording.counts.resize(beside, 0);
+        }
         if self.has(3) {
             recording.used = [recording.journal.len() + 1, usize::MAX][draw.below(2) as usize];
         }
@@ -115,8 +119,17 @@ fn saw(n: usize) -> Vec<u32> {
     (0..n).map(|place| ((place % 37) as f32 - 18.5).to_bits()).collect()
 }
 
+/// Hands on calls on recordings of no samples, of few, and of some beside the end of a block, with each number of counts.
+pub fn counts(draw: &mut Draw, case: &Case, put: &mut dyn FnMut(Recording, Repair, Vec<u32>)) {
+    for n in [0, 1, 14, 255, 256, 257, 512, 513] {
+        let work = room::words(draw, needed(n));
+        let recording = room::recording(draw, saw(n), entry_words(n));
+        room::each_number_of_counts(&recording, &mut |recording| put(recording, case.repair, work.clone()));
+    }
+}
+
 /// Hands on calls on recordings of the most samples and of one more, with workspace and journal for all that is
-/// named: with one mark more or less; with the most samples and with one word less of either, and with settings that
+/// named: with one mark or one count more or less; with the most samples and with one word less of either, and with settings that
 /// are not allowed; and with one sample more and with nothing that would do.
 pub fn large(draw: &mut Draw, case: &Case, put: &mut dyn FnMut(Recording, Repair, Vec<u32>)) {
     for n in [MOST_SAMPLES, MOST_SAMPLES + 1] {
@@ -124,9 +137,13 @@ pub fn large(draw: &mut Draw, case: &Case, put: &mut dyn FnMut(Recording, Repair
         let free = entry_words(names(case.repair, &samples));
         let work = room::words(draw, needed(n));
         let mut whole = room::recording(draw, samples, free);
-        for marks in [n - 1, n, n + 1] {
+        let right = blocks(n);
+        for (marks, counts) in
+            [(n - 1, right), (n, right), (n + 1, right), (n, right - 1), (n, right + 1), (n + 1, right + 1)]
+        {
             let mut recording = whole.clone();
             recording.marks.resize(marks, 9);
+            recording.counts.resize(counts, 9);
             put(recording, case.repair, work.clone());
         }
         if n == MOST_SAMPLES {
