@@ -187,7 +187,7 @@ NotReceivedIsRaw =
 abbrev pub CountsAreWorkedOut : Type 0
 CountsAreWorkedOut = AfterAny (λ raw cs. after cs raw .counts ≡ blocks.counted (after cs raw .marks))
 
--- what the question answers of a recording as it is after these calls, "only our calls wrote" its marks and counts
+-- what the question answers of a recording. Its "premise is that only our calls wrote" marks and counts: `AfterAny` says so.
 abbrev pub measuredThroughout : State → ℕ → ℕ → Verdict
 measuredThroughout s start len = spanVerdict (s .marks) (s .counts) start len
 
@@ -199,7 +199,7 @@ AnswerIsEachMark =
     let s = after cs raw in
     (start len : ℕ) → start + len ≤ length (s .marks) → measuredThroughout s start len ≡ (if marksSay (s .marks) start len then Yes else No))
 
--- so a yes means that every sample of the span has the word that was recorded, and was received
+-- so, whatever calls were made since the recording opened, a yes means that every sample of the span has its raw word, and was received
 abbrev pub YesIsRaw : Type 0
 YesIsRaw =
     AfterAny
