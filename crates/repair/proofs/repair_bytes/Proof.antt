@@ -17,7 +17,8 @@ block-count-requires c κs = search needs
 array-borrow-prefix-counts : tie.Need-array-borrow-prefix-counts
 array-borrow-prefix-counts c =
     let samples = c .before .before .before .before in
-    few-blocks _ _ (c .before .before .block-count .ensures) (omega (arith, samples .samples .given, samples .before .before .before .before .before .before .pre .2))
+    few-blocks _ _ (c .before .before .block-count .ensures)
+    (omega (arith, samples .samples .given, samples .before .before .before .before .before .before .pre .2))
 
 slice-aggregate-repair-recording : tie.Need-slice-aggregate-repair-recording
 slice-aggregate-repair-recording c = sym (length-take-le _ _ (array-borrow-prefix-counts (c .before)))
