@@ -21,6 +21,7 @@ use Rattle.recording.proofs.Put.{length-places, places-each, places-val
 use Rattle.recording.proofs.Journal.{length-saved, length-threeWords, read-saved, none-past}
 use Rattle.recording.proofs.Performing.{span-ascends, picked-ascends}
 use Rattle.leaves.proofs.Lists.{read-within}
+use Rattle.leaves.proofs.Stores.{stored-behind}
 use Rattle.recording.specs.declared.Reason.{Reason}
 use Rattle.recording.specs.declared.Reason.the-variants.{Result, Room}
 use Rattle.recording.specs.declared.Answer.{Answer}
@@ -51,13 +52,6 @@ unfolding saved
 save-more j next-j whole samples marks at next i is e ej rest =
     let there : next ≡ suc (suc (suc at)) = omega arith in
     rw (there, ej) rest
-
--- stores that go on where others ended
-sets-append : {A : Type 0} (l : List A) (i : ℕ) (xs ys : List A) → sets (sets l i xs) (i + length xs) ys ≡ sets l i (xs ++ ys)
-sets-append l i [] ys = rw add-zero refl
-sets-append l i (x ∷ xs) ys =
-    let there : i + suc (length xs) ≡ suc i + length xs = omega arith in
-    rw there (sets-append (set l i x) (suc i) xs ys)
 
 -- ---- A span
 
@@ -281,7 +275,7 @@ entry-words s mark cs =
     let count : 3 * length cs ≡ length three =
     sym (simp (length-threeWords, length-saved, length-places)) in
     ap (λ (k : ℕ). sets (sets (s .journal) (s .used) three) (s .used + k) (length cs ∷ mark ∷ [])) count
-    ∙ sets-append (s .journal) (s .used) three (length cs ∷ mark ∷ [])
+    ∙ stored-behind (s .journal) three (length cs ∷ mark ∷ []) (s .used)
     ∙ ap (λ (k : ℕ). sets (s .journal) (s .used) (three ++ (k ∷ mark ∷ []))) (sym (length-places cs))
 
 module _ (s : State) (mark : ℕ) (cs : List Placed) where
