@@ -63,6 +63,7 @@ float cathar_round(float x);
 #define CATHAR_LOUDEST 65536            /* the largest magnitude that is in range */
 #define CATHAR_MOST_BY_MODEL 2048       /* the longest gap that the model fills; a longer one becomes a line */
 #define CATHAR_MOST_RATE 16777216       /* the highest rate that a scan takes */
+#define CATHAR_HELD_RUN 16              /* so many equal words, or more, are a dropout; fewer are sound */
 #define CATHAR_LEAST_BITS 4             /* what the bits of both forms of dequantize are held to */
 #define CATHAR_MOST_BITS 24
 #define CATHAR_MOST_ITERATIONS 16       /* as many iterations are made at most */
@@ -150,10 +151,11 @@ uint32_t cathar_read_frames(const uint8_t *frames, size_t frames_n, uint32_t *sa
  *   then the mark that the repair set.
  * For so many repairs of n samples, whatever they name, this gives as many words as are enough, a scan counting as
  * one repair. (Those over the whole recording never name the first and the last sample; where they name all others,
- * as cathar_dequantize does, k of them take k times 3(n-2)+2 words.) */
+ * as cathar_dequantize does, k of them take k times 3(n-2)+2 words. The runs of a scan take most where two zeros stand
+ * directly before CATHAR_HELD_RUN equal words, again and again: 55 words for each 18 samples.) */
 static inline size_t cathar_journal_words(size_t n, size_t repairs)
 {
-    return repairs * (3 * n + 2);
+    return repairs * (3 * n + n / (CATHAR_HELD_RUN + 2) + 2);
 }
 
 /* Opens a recording: sets all marks, all counts, all journal words and used to 0. What they held has no say. The
@@ -258,9 +260,13 @@ static inline size_t cathar_longest_gap_work(size_t n, size_t longest)
 }
 
 /* Finds the dropouts, from the first on, and repairs each as cathar_inpaint_gap does. A dropout is a
- * longest run of samples that are zeros or NaN, those of missing frames among them; it qualifies if it has at
- * least 2 samples and at most as many as the limit, and touches neither end of the recording. The limit is
- * (max_gap_ms/1000)*rate in floats, raised to 1 and cut to a whole number; a product of +infinity means no limit.
+ * longest run of
+ *   at least 2 samples that are zeros or NaN, those of missing frames among them: all of it is the gap; or
+ *   at least CATHAR_HELD_RUN samples of the same word, in range and not zero, as of a bus that went silent and
+ *   holds its last word: the first sample was measured and stays, and the others are the gap.
+ * It qualifies if its gap has at most as many samples as the limit and touches neither end of the recording. The
+ * runs are those of the recording as the call began. The limit is (max_gap_ms/1000)*rate in floats, raised to 1 and
+ * cut to a whole number; a product of +infinity means no limit.
  * A run whose repair is refused stays as it was, and the scan goes on after it. Each run that is repaired
  * has an entry of its own in the journal, so that cathar_undo takes back one run at a time.
  * work is lent to the repair of one run after the other, and left by each as cathar_inpaint_gap says; a run

@@ -1,5 +1,6 @@
--- What the plan of a gap does not depend on, that its repair is lawful, what a scan comes to, and what it never lacks.
+-- What the plan of a gap does not depend on, that its repair is lawful, what a scan comes to, what it never lacks, and which runs it always had.
 pub mod Plans
 pub mod Lawful
 pub mod Scans
 pub mod Rooms
+pub mod Unheld

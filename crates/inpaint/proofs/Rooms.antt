@@ -1,5 +1,5 @@
--- What each run of a scan answers: an acceptance or a refusal from 6 to 9; none by 9 where the journal has three free words for
--- each sample, and none by 6 where the workspace suffices for every gap within the limit. And how much that is at most. Assumes nothing.
+-- What each run of a scan answers: an acceptance or a refusal from 6 to 9; none by 9 where the journal has as many free words as the
+-- densest runs take, and none by 6 where the workspace suffices for every gap within the limit. And how much that is at most. Assumes nothing.
 use mathlib.Core.Path.{_≡_, refl, sym, ap, subst, _∙_}
 use mathlib.Core.Bool.{true, false, true≢false}
 use mathlib.Core.Logic.{_⊎_, inl, inr}
@@ -7,7 +7,7 @@ use mathlib.Core.List.{List, [], _∷_}
 use Prim.Native.Nat.{ℕ, zero, suc, _+_, _-_, _*_, _≤_, _<_}
 use native.Mathlib.Nat.{sub-zero}
 use native.Mathlib.Omega.{arith}
-use lib.ListN.{length}
+use lib.ListN.{length, getD}
 use lib.Seq.{length-sets}
 use lib.Dec.{ltb, eqb}
 use lib.Ieee.{Float}
@@ -27,17 +27,16 @@ use Rattle.recording.proofs.Entering.{Enters, Ending, unnamed, turned-away, ent
 use Rattle.leaves.proofs.Choice.{EitherWay, truth, picks, picks-by, both-hold}
 use Rattle.model.specs.Model.{doublesFor}
 use Rattle.recording.proofs.Put.{length-put}
-use Rattle.recording.proofs.Runs.{begins-not}
 use Rattle.inpaint.specs.Gap.{gapWrong, needed, gapPlan, gapRepair}
-use Rattle.inpaint.specs.Auto.{limit, dropoutAt, runBegins, runAt, qualifies, nextRun, sourcePasses, scannable}
+use Rattle.inpaint.specs.Auto.{limit, zeroOrNan, runAt, nextRun, sourcePasses, scannable}
 use Rattle.inpaint.specs.Runs.{Stretch, runsAmong, runsOf, gapCalls, answers}
-use Rattle.inpaint.specs.Consequences.{NeededAtMost, EachNumber, OwnAnswers, ThreeWordsSuffice, WideSuffices}
+use Rattle.inpaint.specs.Consequences.{NeededAtMost, EachNumber, OwnAnswers, densePlaces, denseWords, DenseSuffices, WideSuffices}
 use Rattle.inpaint.specs.declared.Run.{Run}
 use Rattle.inpaint.specs.declared.Run.the-variants.{At, Nowhere}
-use Rattle.inpaint.proofs.auto.Laws.{Found, qualifies-all, found-run, scannable-unfit}
+use Rattle.inpaint.proofs.auto.Laws.{OfZeros, OfHeld, Found, found-run, Fit, fits, scannable-unfit}
 use Rattle.inpaint.proofs.window.Laws.{right-gap, context-least, context-most, needed-within}
 use Rattle.inpaint.proofs.Lawful.{plan-holds, gap-lawful}
-use Rattle.inpaint.proofs.Scans.{none-among, runs-behind, found-behind, answers-first}
+use Rattle.inpaint.proofs.Scans.{none-among, runs-behind, zeros-end, answers-first}
 
 -- ---- What the repair of a gap answers
 
@@ -130,101 +129,118 @@ gap-left s start len passes room = go (ending s plan (gap-lawful start len passe
 
 -- ---- The runs of a scan
 
--- runs of n samples, each within the limit and before the end, and each behind a place that no run before it has; the first
--- behind place i
-abbrev Apart : ℕ → ℕ → ℕ → List Stretch → Type 0
-Apart n most i [] = Unit {0}
-Apart n most i (r ∷ rs) =
-    (i < r .start) × (1 ≤ r .len) × (r .len ≤ most) × (r .start + r .len < n) × Apart n most (r .start + r .len) rs
+-- runs that are found one behind the other, the first from place i on
+abbrev InTurn : List ℕ → ℕ → ℕ → List Stretch → Type 0
+InTurn samples most i [] = Unit {0}
+InTurn samples most i (r ∷ rs) = Found samples most i i (r .start) (r .len) × InTurn samples most (r .start + r .len) rs
 
--- where place i has no dropout, or is the start, a run that is found begins behind it
-found-apart : (samples : List ℕ) (most i start len : ℕ) → Found samples most i start len
-    → (i ≡ 0) ⊎ (dropoutAt samples i ≡ false) → (i < start) × (len ≤ most)
-found-apart samples most i start len f place = (later place, omega (arith, f .long, bounds .1))
-  where
-    tests : (runBegins samples start ≡ true) × (qualifies (length samples) most start (runAt samples start) ≡ true)
-    tests = both-hold (runBegins samples start) (qualifies (length samples) most start (runAt samples start)) (f .here)
-
-    bounds : (2 ≤ runAt samples start) × (runAt samples start ≤ most) × (0 < start) × (start + runAt samples start < length samples)
-    bounds = qualifies-all (length samples) most start (runAt samples start) (tests .1)
-
-    later : (i ≡ 0) ⊎ (dropoutAt samples i ≡ false) → i < start
-    later (inl first) = omega (arith, first, bounds .2)
-    later (inr none) = omega (arith, f .from, apart)
-      where
-        apart : i ≡ start → ⊥
-        apart e = true≢false (sym (tests .0) ∙ sym (begins-not (dropoutAt samples) start (ap (dropoutAt samples) (sym e) ∙ none)))
-
-runs-apart : (samples : List ℕ) (most k i : ℕ) → length samples ≤ i + k → (i ≡ 0) ⊎ (dropoutAt samples i ≡ false)
-    → Apart (length samples) most i (runsAmong samples most i (length samples - i))
-runs-apart samples most zero i h place =
+runs-in-turn : (samples : List ℕ) (most k i : ℕ) → length samples ≤ i + k
+    → InTurn samples most i (runsAmong samples most i i (length samples - i))
+runs-in-turn samples most zero i h =
     let none : length samples - i ≡ 0 = omega arith in
     rw none (unfold runsAmong in tt)
-runs-apart samples most (suc k) i h place = go (nextRun samples most i) refl (runs-apart samples most k)
+runs-in-turn samples most (suc k) i h = go (nextRun samples most i) refl (runs-in-turn samples most k)
   where
     n : ℕ
     n = length samples
 
     go : (t : Run) → nextRun samples most i ≡ t
-        → ((j : ℕ) → n ≤ j + k → (j ≡ 0) ⊎ (dropoutAt samples j ≡ false) → Apart n most j (runsAmong samples most j (n - j)))
-        → Apart n most i (runsAmong samples most i (n - i))
-    go Nowhere e later = rw (none-among samples most i (n - i) e) tt
+        → ((j : ℕ) → n ≤ j + k → InTurn samples most j (runsAmong samples most j j (n - j)))
+        → InTurn samples most i (runsAmong samples most i i (n - i))
+    go Nowhere e later = rw (none-among samples most i i (n - i) e) tt
     go (At start len) e later =
         let f = found-run samples most i start len e in
-        let first = found-apart samples most i start len f place in
-        let rest = later (start + len) (omega (arith, f .from, f .two)) (inr (found-behind samples most i start len e)) in
-        rw (runs-behind samples most i start len e) (first .0, omega (arith, f .two), first .1, f .inside, rest)
+        rw (runs-behind samples most i start len f) (f, later (start + len) (omega (arith, f .on, fits f .ends)))
 
--- the repair of a run behind place i has an answer of which P holds, where I holds of the place and the recording, and leaves them so
-abbrev Step : (ℕ → Type 0) → (ℕ → State → Type 0) → ℕ → ℕ → ℕ → Type 0
-Step P I n most room =
-    (i start len : ℕ) (s : State) → I i s → i < start → 1 ≤ len → len ≤ most → start + len < n
+-- the repair of a run that is found from place i on has an answer of which P holds, where I holds of the place and the recording, and
+-- leaves them so
+abbrev Step : (ℕ → Type 0) → (ℕ → State → Type 0) → List ℕ → ℕ → ℕ → Type 0
+Step P I samples most room =
+    (i start len : ℕ) (s : State) → I i s → Found samples most i i start len
     → let e = gapRepair start len sourcePasses room s in P (number (e .answer)) × I (start + len) (e .after)
 
 -- so P holds of all answers
-each-number : (P : ℕ → Type 0) (I : ℕ → State → Type 0) (n most room : ℕ) → Step P I n most room
-    → (rs : List Stretch) (i : ℕ) (s : State) → Apart n most i rs → I i s → EachNumber P (answers (gapCalls room rs) s)
-each-number P I n most room step [] i s h k = unfold answers in tt
-each-number P I n most room step (r ∷ rs) i s h k =
+each-number : (P : ℕ → Type 0) (I : ℕ → State → Type 0) (samples : List ℕ) (most room : ℕ) → Step P I samples most room
+    → (rs : List Stretch) (i : ℕ) (s : State) → InTurn samples most i rs → I i s → EachNumber P (answers (gapCalls room rs) s)
+each-number P I samples most room step [] i s h k = unfold answers in tt
+each-number P I samples most room step (r ∷ rs) i s h k =
     let e = gapRepair (r .start) (r .len) sourcePasses room s in
-    let now = step i (r .start) (r .len) s k (h .0) (h .1) (h .2) (h .3) in
-    rw (answers-first room r rs s) (now .0, each-number P I n most room step rs (r .start + r .len) (e .after) (h .4) (now .1))
+    let now = step i (r .start) (r .len) s k (h .0) in
+    rw (answers-first room r rs s) (now .0, each-number P I samples most room step rs (r .start + r .len) (e .after) (h .1) (now .1))
 
-all-numbers : (P : ℕ → Type 0) (I : ℕ → State → Type 0) (most room : ℕ) (s : State) → Step P I (length (s .samples)) most room → I 0 s
+all-numbers : (P : ℕ → Type 0) (I : ℕ → State → Type 0) (most room : ℕ) (s : State) → Step P I (s .samples) most room → I 0 s
     → EachNumber P (answers (gapCalls room (runsOf (s .samples) most)) s)
 all-numbers P I most room s step begin =
     let n = length (s .samples) in
-    let apart = runs-apart (s .samples) most n 0 (omega arith) (inl refl) in
-    each-number P I n most room step (runsOf (s .samples) most) 0 s
-    (subst (λ (m : ℕ). Apart n most 0 (runsAmong (s .samples) most 0 m)) (sub-zero n) apart) begin
+    let turns = runs-in-turn (s .samples) most n 0 (omega arith) in
+    each-number P I (s .samples) most room step (runsOf (s .samples) most) 0 s
+    (subst (λ (m : ℕ). InTurn (s .samples) most 0 (runsAmong (s .samples) most 0 0 m)) (sub-zero n) turns) begin
+
+-- ---- How much of the journal they take
+
+-- up to place i, with u words used from the v on that were used before: no more than the densest runs take; or, at the end of a run of zeros
+-- and NaN, where no such sample follows, up to 34 eighteenths of a word more
+abbrev UsedTo : List ℕ → ℕ → ℕ → ℕ → Type 0
+UsedTo samples v i u =
+    (densePlaces * u ≤ densePlaces * v + denseWords * i)
+    ⊎ ((densePlaces * u ≤ densePlaces * v + denseWords * i + 34) × (zeroOrNan (getD samples i 0) ≡ false))
+
+-- in both cases it is less than one place more would allow
+used-below : (samples : List ℕ) (v i u : ℕ) → UsedTo samples v i u → densePlaces * u < densePlaces * v + denseWords * (i + 1)
+used-below samples v i u (inl h) = omega arith
+used-below samples v i u (inr h) = omega (arith, h .0)
+
+-- a run more, with its entry
+uses : (samples : List ℕ) (most v i start len u u' : ℕ) → Found samples most i i start len → UsedTo samples v i u → u' ≤ u + entrySize len
+    → UsedTo samples v (start + len) u'
+uses samples most v i start len u u' f so-far grown = go (g .kind) so-far
+  where
+    g : Fit samples most (f .at) start len
+    g = fits f
+
+    go : OfZeros (getD samples (f .at) 0) (runAt samples (f .at)) ⊎ OfHeld (getD samples (f .at) 0) (runAt samples (f .at))
+        → UsedTo samples v i u → UsedTo samples v (start + len) u'
+    -- one of zeros and NaN: two words more than three for each of its samples
+    go (inl z) (inl h) = inr (omega (arith, grown, f .on, f .start-is, g .ends, z .none-kept, z .two), zeros-end samples most i start len f (z .zero))
+    -- behind another, of which it does not begin at the end: there stands no such sample
+    go (inl z) (inr h) =
+        let apart : i ≡ f .at → ⊥ = λ e. true≢false (sym (z .zero) ∙ ap (λ (j : ℕ). zeroOrNan (getD samples j 0)) (sym e) ∙ h .1) in
+        inr (omega (arith, grown, h .0, f .on, f .start-is, g .ends, z .none-kept, z .two, apart), zeros-end samples most i start len f (z .zero))
+    -- one of a held word: one word less than three for each of its samples
+    go (inr k) (inl h) = inl (omega (arith, grown, f .on, f .start-is, g .ends, k .one-kept, k .sixteen))
+    go (inr k) (inr h) = inl (omega (arith, grown, h .0, f .on, f .start-is, g .ends, k .one-kept, k .sixteen))
 
 -- ---- The answers of a scan's runs
 
-pub three-words-suffice : ThreeWordsSuffice
-three-words-suffice rate ms work s long =
-    all-numbers P I (limit ms rate) (length work) s step (refl, omega arith, long)
+pub dense-suffices : DenseSuffices
+dense-suffices rate ms work s long = all-numbers P I (limit ms rate) (length work) s step (refl, refl, inl (omega arith))
   where
     P : ℕ → Type 0
     P k = k ≡ 9 → ⊥
 
-    -- up to place i no more than three words for each place have been used
     I : ℕ → State → Type 0
-    I i t =
-        (length (t .samples) ≡ length (s .samples)) × (t .used ≤ s .used + 3 * i)
-        × (s .used + 3 * length (s .samples) ≤ length (t .journal))
+    I i t = (length (t .samples) ≡ length (s .samples)) × (length (t .journal) ≡ length (s .journal)) × UsedTo (s .samples) (s .used) i (t .used)
 
     other : (k : ℕ) → k < 9 → k ≡ 9 → ⊥
     other k h e = omega arith
 
-    step : Step P I (length (s .samples)) (limit ms rate) (length work)
-    step i start len t h later some short inside =
-        let left = gap-left t start len sourcePasses (length work) in (
+    step : Step P I (s .samples) (limit ms rate) (length work)
+    step i start len t h f =
+        let left = gap-left t start len sourcePasses (length work) in
+        let room =
+        used-below (s .samples) (s .used) (start + len) (t .used + entrySize len)
+        (uses (s .samples) (limit ms rate) (s .used) i start len (t .used) (t .used + entrySize len) f (h .2) (omega arith))
+        in (
           gap-number P t start len sourcePasses (length work) (other 0 (omega arith))
               (fitting-number P t (other 0 (omega arith)) (other 1 (omega arith)) (λ (e : 14 ≡ 9). omega arith) (other 2 (omega arith))
               (other 3 (omega arith)))
               (λ w. other 5 (omega arith)) (λ w. other 6 (omega arith)) (other 7 (omega arith)) (other 8 (omega arith))
-              (λ full e. omega (arith, full, h .1, h .2)),
-          (left .samples ∙ h .0, omega (arith, left .grown, h .1), omega (arith, left .journal, h .2)),
+              (λ full e. omega (arith, full, h .1, room, long, fits f .inside)),
+          (
+            left .samples ∙ h .0,
+            left .journal ∙ h .1,
+            uses (s .samples) (limit ms rate) (s .used) i start len (t .used) _ f (h .2) (left .grown),
+          ),
         )
 
 pub wide-suffices : WideSuffices
@@ -240,12 +256,12 @@ wide-suffices rate ms work s wide = all-numbers P I (limit ms rate) (length work
     other k (inl h) e = omega arith
     other k (inr h) e = omega arith
 
-    step : Step P I (length (s .samples)) (limit ms rate) (length work)
-    step i start len t h later some short inside = (
+    step : Step P I (s .samples) (limit ms rate) (length work)
+    step i start len t h f = (
       gap-number P t start len sourcePasses (length work) (other 0 (inl (omega arith)))
           (fitting-number P t (other 0 (inl (omega arith))) (other 1 (inl (omega arith))) (other 14 (inr (omega arith))) (other 2 (inl (omega arith)))
           (other 3 (inl (omega arith)))) (λ w. other 5 (inl (omega arith)))
-          (λ less e. omega (arith, rw h at less, wide start len short)) (other 7 (inr (omega arith))) (other 8 (inr (omega arith)))
+          (λ less e. omega (arith, rw h at less, wide start len (fits f .short))) (other 7 (inr (omega arith))) (other 8 (inr (omega arith)))
           (λ full. other 9 (inr (omega arith))),
       gap-left t start len sourcePasses (length work) .samples ∙ h,
     )
@@ -273,10 +289,10 @@ own-answers rate ms work s h = all-numbers P I (limit ms rate) (length work) s s
     refusal : (k : ℕ) → 6 ≤ k → k ≤ 9 → P k
     refusal k a b = inr (a, b)
 
-    step : Step P I (length (s .samples)) (limit ms rate) (length work)
-    step i start len t k later some short inside =
+    step : Step P I (s .samples) (limit ms rate) (length work)
+    step i start len t k f =
         let left = gap-left t start len sourcePasses (length work) in
-        let right = right-gap (length (t .samples)) start len some (omega (arith, k .0)) in (
+        let right = right-gap (length (t .samples)) start len (fits f .one) (omega (arith, k .0, fits f .inside)) in (
           gap-number P t start len sourcePasses (length work) (inl refl) (rw (fits-done (k .1)) (inl refl))
               (λ w. absurd (true≢false (sym w ∙ right))) (λ w. refusal 6 (omega arith) (omega arith)) (refusal 7 (omega arith) (omega arith))
               (refusal 8 (omega arith) (omega arith)) (λ w. refusal 9 (omega arith) (omega arith)),

@@ -1,5 +1,5 @@
 -- The scan is a sequence of gap repairs, one for each run that qualified as the call began: a repair changes nothing
--- behind its run, and there stands a sample that is no dropout. Assumes nothing.
+-- behind its run's end, where another run begins, whatever stands before it. Assumes nothing.
 use mathlib.Core.Path.{_≡_, refl, sym, ap, subst, _∙_}
 use mathlib.Core.Bool.{true, false, cond}
 use mathlib.Core.List.{List, [], _∷_}
@@ -8,7 +8,7 @@ use Prim.Native.Nat.{ℕ, zero, suc, _+_, _-_, _≤_, _<_}
 use native.Mathlib.Decide.{ℕ-discrete}
 use native.Mathlib.Nat.{sub-zero, zero-add}
 use native.Mathlib.Omega.{arith}
-use borrow.Author.Tests.{eqb-true, ne-eqb}
+use borrow.Author.Tests.{eqb-true, eq-eqb, ne-eqb}
 use lib.ListN.{length, getD, replicate}
 use lib.Seq.{length-sets}
 use lib.Dec.{ltb, eqb}
@@ -20,22 +20,24 @@ use Rattle.recording.specs.Recording.{fitting, ranged, entered, committed, carr
 use Rattle.recording.specs.Recording.{entrySize, clears, workAfter}
 use Rattle.recording.specs.History.{run, did}
 use Rattle.recording.specs.Consequences.{Among}
+use Rattle.recording.specs.Runs.{runLength}
 use Rattle.recording.specs.declared.Reason.{Reason}
 use Rattle.recording.specs.declared.Answer.{Answer}
 use Rattle.recording.specs.declared.Answer.the-variants.{Done, Refused}
 use Rattle.leaves.proofs.Choice.{picks, truth, EitherWay}
 use Rattle.recording.proofs.Single.{above-zero}
 use Rattle.recording.proofs.Put.{length-put, put-elsewhere}
-use Rattle.recording.proofs.Runs.{begins-not, begins-same, begins-not-behind, length-same, run-met, run-behind}
+use Rattle.recording.proofs.Runs.{length-same, run-met, run-behind}
 use Rattle.inpaint.specs.Gap.{needed, gapPlan, gapRepair}
-use Rattle.inpaint.specs.Auto.{limit, dropout, dropoutAt, runBegins, runAt, starts, nextAmong, nextRun}
+use Rattle.inpaint.specs.Auto.{limit, zeroOrNan, continues, continuesAt, runBegins, runAt, gapAt, gapLength, starts}
+use Rattle.inpaint.specs.Auto.{nextAmong, nextRun}
 use Rattle.inpaint.specs.Auto.{Scan, scan, sourcePasses, repairAt, scanFrom, scannable, automatic}
 use Rattle.inpaint.specs.Runs.{Stretch, runsAmong, runsOf, gapCalls, answers, acceptances, firstRefusal}
 use Rattle.inpaint.specs.Runs.{ScanIsItsRuns, ScanCountsItsRuns}
 use Rattle.inpaint.specs.Consequences.{ScanLawful, RefusedScan}
 use Rattle.inpaint.specs.declared.Run.{Run}
 use Rattle.inpaint.specs.declared.Run.the-variants.{At, Nowhere}
-use Rattle.inpaint.proofs.auto.Laws.{Found, found-run, scan-stops, scan-takes}
+use Rattle.inpaint.proofs.auto.Laws.{continues-zeros, Found, found-run, Fit, fits, scan-stops, scan-takes}
 use Rattle.inpaint.proofs.auto.Laws.{automatic-refused, automatic-scanned}
 use Rattle.inpaint.proofs.Lawful.{plan-holds, gap-lawful}
 
@@ -115,128 +117,176 @@ work-count n a w =
 -- ---- The first of the runs is what the search answers
 
 -- place i is passed over
-runs-pass : (samples : List ℕ) (most i n : ℕ) → starts samples most i ≡ false
-    → runsAmong samples most i (suc n) ≡ runsAmong samples most (i + 1) n
+runs-pass : (samples : List ℕ) (most from i n : ℕ) → starts samples most from i ≡ false
+    → runsAmong samples most from i (suc n) ≡ runsAmong samples most from (i + 1) n
 unfolding runsAmong
-runs-pass samples most i n t = rw t refl
+runs-pass samples most from i n t = rw t refl
 
 -- place i has a run
-runs-take : (samples : List ℕ) (most i n : ℕ) → starts samples most i ≡ true
-    → runsAmong samples most i (suc n) ≡ stretch i (runAt samples i) ∷ runsAmong samples most (i + 1) n
+runs-take : (samples : List ℕ) (most from i n : ℕ) → starts samples most from i ≡ true
+    → runsAmong samples most from i (suc n) ≡ stretch (gapAt samples i) (gapLength samples i) ∷ runsAmong samples most from (i + 1) n
 unfolding runsAmong
-runs-take samples most i n t = rw t refl
+runs-take samples most from i n t = rw t refl
 
 -- the places before i + k, of which none has a run, are passed over
-runs-skip : (samples : List ℕ) (most k i n m : ℕ) → n ≡ k + m
-    → ((j : ℕ) → i ≤ j → j < i + k → starts samples most j ≡ false)
-    → runsAmong samples most i n ≡ runsAmong samples most (i + k) m
-runs-skip samples most zero i n m e none =
+runs-skip : (samples : List ℕ) (most from k i n m : ℕ) → n ≡ k + m
+    → ((j : ℕ) → i ≤ j → j < i + k → starts samples most from j ≡ false)
+    → runsAmong samples most from i n ≡ runsAmong samples most from (i + k) m
+runs-skip samples most from zero i n m e none =
     let there : i ≡ i + 0 = omega arith in
-    ap (runsAmong samples most i) (e ∙ zero-add m) ∙ ap (λ (j : ℕ). runsAmong samples most j m) there
-runs-skip samples most (suc k) i n m e none =
+    ap (runsAmong samples most from i) (e ∙ zero-add m) ∙ ap (λ (j : ℕ). runsAmong samples most from j m) there
+runs-skip samples most from (suc k) i n m e none =
     let more : n ≡ suc (k + m) = omega arith in
-    ap (runsAmong samples most i) more
-    ∙ runs-pass samples most i (k + m) (none i (omega arith) (omega arith))
-    ∙ runs-skip samples most k (i + 1) (k + m) m refl (λ j a b. none j (omega arith) (omega arith))
-    ∙ ap (λ (j : ℕ). runsAmong samples most j m) (omega arith)
+    ap (runsAmong samples most from i) more
+    ∙ runs-pass samples most from i (k + m) (none i (omega arith) (omega arith))
+    ∙ runs-skip samples most from k (i + 1) (k + m) m refl (λ j a b. none j (omega arith) (omega arith))
+    ∙ ap (λ (j : ℕ). runsAmong samples most from j m) (omega arith)
 
 -- where it answers with nothing, there are none
-pub none-among : (samples : List ℕ) (most i n : ℕ) → nextAmong samples most i n ≡ Nowhere → runsAmong samples most i n ≡ []
+pub none-among : (samples : List ℕ) (most from i n : ℕ) → nextAmong samples most from i n ≡ Nowhere
+    → runsAmong samples most from i n ≡ []
 unfolding nextAmong runsAmong
-none-among samples most i zero h = refl
-none-among samples most i (suc n) h =
-    go (truth (starts samples most i)) (none-among samples most (i + 1) n)
+none-among samples most from i zero h = refl
+none-among samples most from i (suc n) h =
+    go (truth (starts samples most from i)) (none-among samples most from (i + 1) n)
   where
-    go : EitherWay (starts samples most i)
-        → (nextAmong samples most (i + 1) n ≡ Nowhere → runsAmong samples most (i + 1) n ≡ [])
-        → runsAmong samples most i (suc n) ≡ []
+    go : EitherWay (starts samples most from i)
+        → (nextAmong samples most from (i + 1) n ≡ Nowhere → runsAmong samples most from (i + 1) n ≡ [])
+        → runsAmong samples most from i (suc n) ≡ []
     go (inl t) later =
-        let step : nextAmong samples most i (suc n) ≡ At i (runAt samples i) = rw t refl in
-        let wrong : At i (runAt samples i) ≡ Nowhere = sym step ∙ h in
+        let step : nextAmong samples most from i (suc n) ≡ At (gapAt samples i) (gapLength samples i) = rw t refl in
+        let wrong : At (gapAt samples i) (gapLength samples i) ≡ Nowhere = sym step ∙ h in
         let none : _≡_ {A = ℕ} 0 1 = cc in
         absurd (omega arith)
     go (inr t) later =
-        let step : nextAmong samples most i (suc n) ≡ nextAmong samples most (i + 1) n = rw t refl in
-        runs-pass samples most i n t ∙ later (sym step ∙ h)
+        let step : nextAmong samples most from i (suc n) ≡ nextAmong samples most from (i + 1) n = rw t refl in
+        runs-pass samples most from i n t ∙ later (sym step ∙ h)
 
--- what is found is the first of them, and the others begin behind its end: within it, and at its end, none begins
-pub runs-behind : (samples : List ℕ) (most i start len : ℕ) → nextRun samples most i ≡ At start len
-    → runsAmong samples most i (length samples - i)
-    ≡ stretch start len ∷ runsAmong samples most (start + len) (length samples - (start + len))
-runs-behind samples most i start len h =
-    to-start
-    ∙ ap (runsAmong samples most start) one
-    ∙ runs-take samples most start (n - (start + 1)) (f .here)
-    ∙ ap (λ (m : ℕ). stretch start m ∷ runsAmong samples most (start + 1) (n - (start + 1))) (f .long)
-    ∙ ap (λ (rs : List Stretch). stretch start len ∷ rs) to-end
+-- ---- What stands before a run's begin has no say in the runs from there on
+
+-- the runs are the same in a recording that is the same from place i on, where the same ones begin
+runs-same : (samples t : List ℕ) (most from to i n : ℕ) → length t ≡ length samples
+    → ((j : ℕ) → i ≤ j → getD t j 0 ≡ getD samples j 0)
+    → ((j : ℕ) → i ≤ j → runBegins t from j ≡ runBegins samples to j)
+    → runsAmong t most from i n ≡ runsAmong samples most to i n
+unfolding runsAmong
+runs-same samples t most from to i zero count same begin = refl
+runs-same samples t most from to i (suc n) count same begin =
+    let later = runs-same samples t most from to (i + 1) n count (λ j h. same j (omega arith)) (λ j h. begin j (omega arith)) in
+    let long =
+    length-same (continuesAt samples) (continuesAt t) (i + 1) (length samples - (i + 1))
+    (λ j h. ap (λ (w : ℕ). continues w (getD t j 0)) (same (j - 1) (omega arith)) ∙ ap (continues (getD samples (j - 1) 0)) (same j (omega arith)))
+    in
+    rw (begin i (omega arith), count, long, same i (omega arith), later) refl
+
+-- one begins where a place does not continue the one before it, and so those from there on
+begins-anew : (samples : List ℕ) (from end j : ℕ) → from < end → continuesAt samples end ≡ false → end ≤ j
+    → runBegins samples from j ≡ runBegins samples end j
+begins-anew samples from end j before new h =
+    elim (ℕ-discrete j end) [
+      | yes e ↦ rw (e, eq-eqb end end refl, new, ne-eqb end from (λ same. absurd (omega arith))) refl
+      | no f ↦ rw (ne-eqb j end f, ne-eqb j from (λ same. absurd (omega arith))) refl
+    ]
+
+runs-anew : (samples : List ℕ) (most from end n : ℕ) → from < end → continuesAt samples end ≡ false
+    → runsAmong samples most from end n ≡ runsAmong samples most end end n
+runs-anew samples most from end n before new =
+    runs-same samples samples most from end end n refl (λ j h. refl) (λ j h. begins-anew samples from end j before new h)
+
+-- a repair leaves those from its gap's end on
+behind-same : (samples t : List ℕ) (most end n : ℕ) → Behind end samples t
+    → runsAmong t most end end n ≡ runsAmong samples most end end n
+behind-same samples t most end n b = runs-same samples t most end end end n (b .count) (b .same) begin
+  where
+    begin : (j : ℕ) → end ≤ j → runBegins t end j ≡ runBegins samples end j
+    begin j h =
+        elim (ℕ-discrete j end) [
+          | yes e ↦ rw (e, eq-eqb end end refl) refl
+          | no f ↦ rw (b .same j h, b .same (j - 1) (omega arith)) refl
+        ]
+
+-- ---- What is found is the first of them, and the others begin behind its end
+
+-- behind a run that is found stands a sample that does not continue it
+pub found-behind : (samples : List ℕ) (most i start len : ℕ) → Found samples most i i start len
+    → continuesAt samples (start + len) ≡ false
+found-behind samples most i start len f =
+    let g = fits f in
+    let more = runLength (continuesAt samples) (f .at + 1) (length samples - (f .at + 1)) in
+    let end : start + len ≡ f .at + 1 + more = omega (arith, g .ends) in
+    ap (continuesAt samples) end
+    ∙ run-behind (continuesAt samples) (f .at + 1) (length samples - (f .at + 1)) (omega (arith, g .ends, g .inside))
+
+-- a run that begins with a zero or a NaN has no other samples, and none follows
+pub zeros-all : (samples : List ℕ) (at k : ℕ) → zeroOrNan (getD samples at 0) ≡ true → k < runAt samples at
+    → zeroOrNan (getD samples (at + k) 0) ≡ true
+zeros-all samples at zero z h = ap (λ (j : ℕ). zeroOrNan (getD samples j 0)) (omega arith) ∙ z
+zeros-all samples at (suc k) z h =
+    let before = zeros-all samples at k z (omega arith) in
+    let met = run-met (continuesAt samples) (at + 1) (length samples - (at + 1)) k (omega arith) in
+    let there : at + suc k ≡ at + 1 + k = omega arith in
+    let back : at + 1 + k - 1 ≡ at + k = omega arith in
+    let before' : zeroOrNan (getD samples (at + 1 + k - 1) 0) ≡ true = ap (λ (j : ℕ). zeroOrNan (getD samples j 0)) back ∙ before in
+    ap (λ (j : ℕ). zeroOrNan (getD samples j 0)) there ∙ continues-zeros _ _ before' ∙ met
+
+pub zeros-end : (samples : List ℕ) (most i start len : ℕ) (f : Found samples most i i start len)
+    → zeroOrNan (getD samples (f .at) 0) ≡ true → zeroOrNan (getD samples (start + len) 0) ≡ false
+zeros-end samples most i start len f z =
+    let g = fits f in
+    let last : f .at + (start + len - 1 - f .at) ≡ start + len - 1 = omega (arith, g .ends) in
+    let all = zeros-all samples (f .at) (start + len - 1 - f .at) z (omega (arith, g .ends)) in
+    continues-zeros _ _ (ap (λ (j : ℕ). zeroOrNan (getD samples j 0)) (sym last) ∙ all) ∙ found-behind samples most i start len f
+
+-- within the run none begins
+none-within : (samples : List ℕ) (most i start len : ℕ) (f : Found samples most i i start len) (j : ℕ)
+    → f .at + 1 ≤ j → j < start + len → starts samples most i j ≡ false
+none-within samples most i start len f j a b =
+    let g = fits f in
+    let k = j - (f .at + 1) in
+    let there : j ≡ f .at + 1 + k = omega arith in
+    let met = run-met (continuesAt samples) (f .at + 1) (length samples - (f .at + 1)) k (omega (arith, g .ends)) in
+    let on : continuesAt samples j ≡ true = ap (continuesAt samples) there ∙ met in
+    rw (ne-eqb j i (λ same. absurd (omega (arith, f .on))), on) refl
+
+pub runs-behind : (samples : List ℕ) (most i start len : ℕ) → Found samples most i i start len
+    → runsAmong samples most i i (length samples - i)
+    ≡ stretch start len ∷ runsAmong samples most (start + len) (start + len) (length samples - (start + len))
+runs-behind samples most i start len f =
+    to-run
+    ∙ ap (runsAmong samples most i (f .at)) one
+    ∙ runs-take samples most i (f .at) (n - (f .at + 1)) (f .here)
+    ∙ ap (λ (m : ℕ). stretch m (gapLength samples (f .at)) ∷ runsAmong samples most i (f .at + 1) (n - (f .at + 1))) (f .start-is)
+    ∙ ap (λ (m : ℕ). stretch start m ∷ runsAmong samples most i (f .at + 1) (n - (f .at + 1))) (f .len-is)
+    ∙ ap (λ (rs : List Stretch). stretch start len ∷ rs)
+    (to-end ∙ runs-anew samples most i end (n - end) (omega (arith, f .on, g .ends)) (found-behind samples most i start len f))
   where
     n : ℕ
     n = length samples
 
-    f : Found samples most i start len
-    f = found-run samples most i start len h
+    end : ℕ
+    end = start + len
 
-    to-start : runsAmong samples most i (n - i) ≡ runsAmong samples most start (n - start)
-    to-start =
-        let left : n - i ≡ start - i + (n - start) = omega (arith, f .from, f .inside) in
-        let there : i + (start - i) ≡ start = omega (arith, f .from) in
-        runs-skip samples most (start - i) i (n - i) (n - start) left
-        (λ j a b. f .none-before j a (omega (arith, there)))
-        ∙ ap (λ (m : ℕ). runsAmong samples most m (n - start)) there
+    g : Fit samples most (f .at) start len
+    g = fits f
 
-    one : n - start ≡ suc (n - (start + 1))
-    one = omega (arith, f .inside)
+    to-run : runsAmong samples most i i (n - i) ≡ runsAmong samples most i (f .at) (n - f .at)
+    to-run =
+        let left : n - i ≡ f .at - i + (n - f .at) = omega (arith, f .on, g .ends, g .inside) in
+        let there : i + (f .at - i) ≡ f .at = omega (arith, f .on) in
+        runs-skip samples most i (f .at - i) i (n - i) (n - f .at) left (λ j a b. f .none-before j a (omega (arith, there)))
+        ∙ ap (λ (m : ℕ). runsAmong samples most i m (n - f .at)) there
 
-    none : (j : ℕ) → start + 1 ≤ j → j < start + 1 + (len - 1) → starts samples most j ≡ false
-    none j a b =
-        let k = j - start - 1 in
-        let back : j ≡ start + k + 1 = omega arith in
-        let dropped = run-met (dropoutAt samples) start (n - start) k (omega (arith, f .long, f .two)) in
-        rw (ap (runBegins samples) back ∙ begins-not-behind (dropoutAt samples) (start + k) dropped) refl
+    one : n - f .at ≡ suc (n - (f .at + 1))
+    one = omega (arith, g .ends, g .inside)
 
-    to-end : runsAmong samples most (start + 1) (n - (start + 1))
-        ≡ runsAmong samples most (start + len) (n - (start + len))
+    to-end : runsAmong samples most i (f .at + 1) (n - (f .at + 1)) ≡ runsAmong samples most i end (n - end)
     to-end =
-        let left : n - (start + 1) ≡ len - 1 + (n - (start + len)) = omega (arith, f .two, f .inside) in
-        let there : start + 1 + (len - 1) ≡ start + len = omega (arith, f .two) in
-        runs-skip samples most (len - 1) (start + 1) (n - (start + 1)) (n - (start + len)) left none
-        ∙ ap (λ (m : ℕ). runsAmong samples most m (n - (start + len))) there
-
--- behind a run that is found stands a sample that is no dropout
-pub found-behind : (samples : List ℕ) (most i start len : ℕ) → nextRun samples most i ≡ At start len
-    → dropout (getD samples (start + len) 0) ≡ false
-found-behind samples most i start len h =
-    let f = found-run samples most i start len h in
-    let inside : runAt samples start < length samples - start = omega (arith, f .long, f .inside) in
-    ap (λ (m : ℕ). dropout (getD samples (start + m) 0)) (sym (f .long))
-    ∙ run-behind (dropoutAt samples) start (length samples - start) inside
-
--- ---- The runs from a place on are the same in a recording that is the same from there on
-
-runs-same : (samples t : List ℕ) (most i n : ℕ) → length t ≡ length samples
-    → ((j : ℕ) → i ≤ j → getD t j 0 ≡ getD samples j 0)
-    → ((j : ℕ) → i ≤ j → runBegins t j ≡ runBegins samples j)
-    → runsAmong t most i n ≡ runsAmong samples most i n
-unfolding runsAmong
-runs-same samples t most i zero count same begin = refl
-runs-same samples t most i (suc n) count same begin =
-    let later = runs-same samples t most (i + 1) n count (λ j h. same j (omega arith)) (λ j h. begin j (omega arith)) in
-    rw (count, begin i (omega arith), length-same (dropoutAt samples) (dropoutAt t) i (length samples - i) (λ j h. ap dropout (same j h)), later) refl
-
--- behind a gap, where there is no dropout, a repair leaves them
-behind-same : (samples t : List ℕ) (most end n : ℕ) → Behind end samples t → dropout (getD samples end 0) ≡ false
-    → runsAmong t most end n ≡ runsAmong samples most end n
-behind-same samples t most end n b none = runs-same samples t most end n (b .count) (b .same) begin
-  where
-    none' : dropout (getD t end 0) ≡ false
-    none' = ap dropout (b .same end (omega arith)) ∙ none
-
-    begin : (j : ℕ) → end ≤ j → runBegins t j ≡ runBegins samples j
-    begin j h =
-        elim (ℕ-discrete j end) [
-          | yes e ↦ rw e (sym (begins-not (dropoutAt t) end none') ∙ begins-not (dropoutAt samples) end none)
-          | no f ↦ begins-same (dropoutAt samples) (dropoutAt t) j (ap dropout (b .same j h)) (ap dropout (b .same (j - 1) (omega arith)))
-        ]
+        let more = end - (f .at + 1) in
+        let left : n - (f .at + 1) ≡ more + (n - end) = omega (arith, g .ends, g .inside) in
+        let there : f .at + 1 + more ≡ end = omega (arith, g .ends) in
+        runs-skip samples most i more (f .at + 1) (n - (f .at + 1)) (n - end) left
+        (λ j a b. none-within samples most i start len f j a (omega (arith, there)))
+        ∙ ap (λ (m : ℕ). runsAmong samples most i m (n - end)) there
 
 -- ---- The scan is made over its runs
 
@@ -247,11 +297,11 @@ over (r ∷ rs) c = over rs (repairAt c (r .start) (r .len))
 
 -- a scan from place i on, with at most k runs to come, repairs the runs from there on
 abbrev Ends : ℕ → ℕ → ℕ → Scan → Type 0
-Ends most i k c = scanFrom most i k c ≡ over (runsAmong (c .after .samples) most i (length (c .after .samples) - i)) c
+Ends most i k c = scanFrom most i k c ≡ over (runsAmong (c .after .samples) most i i (length (c .after .samples) - i)) c
 
 -- no run is left
 ends-none : (most i k : ℕ) (c : Scan) → scanFrom most i k c ≡ c
-    → runsAmong (c .after .samples) most i (length (c .after .samples) - i) ≡ [] → Ends most i k c
+    → runsAmong (c .after .samples) most i i (length (c .after .samples) - i) ≡ [] → Ends most i k c
 ends-none most i k c stops none = stops ∙ ap (λ (rs : List Stretch). over rs c) (sym none)
 
 -- a run is left
@@ -261,7 +311,7 @@ ends-more most i k c start len h rest =
     scan-takes most i k start len c h
     ∙ rest
     ∙ ap (λ (rs : List Stretch). over rs d) same
-    ∙ ap (λ (rs : List Stretch). over rs c) (sym (runs-behind before most i start len h))
+    ∙ ap (λ (rs : List Stretch). over rs c) (sym (runs-behind before most i start len (found-run before most i start len h)))
   where
     before : List ℕ
     before = c .after .samples
@@ -272,31 +322,30 @@ ends-more most i k c start len h rest =
     left : Behind (start + len) before (d .after .samples)
     left = repair-leaves start len sourcePasses (length (c .work)) (c .after)
 
-    same : runsAmong (d .after .samples) most (start + len) (length (d .after .samples) - (start + len))
-        ≡ runsAmong before most (start + len) (length before - (start + len))
+    same : runsAmong (d .after .samples) most (start + len) (start + len) (length (d .after .samples) - (start + len))
+        ≡ runsAmong before most (start + len) (start + len) (length before - (start + len))
     same =
-        ap (λ (m : ℕ). runsAmong (d .after .samples) most (start + len) (m - (start + len))) (left .count)
+        ap (λ (m : ℕ). runsAmong (d .after .samples) most (start + len) (start + len) (m - (start + len))) (left .count)
         ∙ behind-same before (d .after .samples) most (start + len) (length before - (start + len)) left
-        (found-behind before most i start len h)
 
 -- whatever is left, if there are no more places from i on than runs may come
 ends : (most k i : ℕ) (c : Scan) → length (c .after .samples) ≤ i + k → Ends most i k c
 unfolding scanFrom runsAmong
 ends most zero i c h =
     let none : length (c .after .samples) - i ≡ 0 = omega arith in
-    ends-none most i 0 c refl (ap (runsAmong (c .after .samples) most i) none)
+    ends-none most i 0 c refl (ap (runsAmong (c .after .samples) most i i) none)
 ends most (suc k) i c h = go (nextRun (c .after .samples) most i) refl (ends most k)
   where
     go : (r : Run) → nextRun (c .after .samples) most i ≡ r
         → ((j : ℕ) (d : Scan) → length (d .after .samples) ≤ j + k → Ends most j k d) → Ends most i (suc k) c
     go Nowhere e later =
         ends-none most i (suc k) c (scan-stops most i (suc k) c e)
-        (none-among (c .after .samples) most i (length (c .after .samples) - i) e)
+        (none-among (c .after .samples) most i i (length (c .after .samples) - i) e)
     go (At start len) e later =
         let f = found-run (c .after .samples) most i start len e in
         let left = repair-leaves start len sourcePasses (length (c .work)) (c .after) in
         ends-more most i k c start len e
-        (later (start + len) (repairAt c start len) (omega (arith, left .count, f .from, f .two)))
+        (later (start + len) (repairAt c start len) (omega (arith, left .count, f .on, fits f .ends)))
 
 -- the scan of a whole call
 whole : (rate : ℕ) (ms : Float) (work : List Float) (s : State) → scannable rate ms s ≡ Done 0
@@ -306,7 +355,7 @@ whole rate ms work s h =
     let c = scan 0 0 0 s work in
     sym (automatic-scanned rate ms work s (Done 0) (sym h) 0 refl most _ refl refl)
     ∙ ends most (length (s .samples)) 0 c (omega arith)
-    ∙ ap (λ (n : ℕ). over (runsAmong (s .samples) most 0 n) c) (sub-zero (length (s .samples)))
+    ∙ ap (λ (n : ℕ). over (runsAmong (s .samples) most 0 0 n) c) (sub-zero (length (s .samples)))
 
 -- ---- What it leaves and returns
 

@@ -1,17 +1,18 @@
--- The automatic scan: document 01's `inpaint_auto` paragraph, whose sentences the comments quote. Definitions only.
+-- The automatic scan: document 01's `inpaint_auto` paragraph and request P1 of document 02, whose sentences the comments quote.
+-- Definitions only.
 use Prim.Native.Nat.{ℕ, zero, suc, _+_, _-_}
-use mathlib.Core.Bool.{Bool, _&&_, _||_}
+use mathlib.Core.Bool.{Bool, not, _&&_, _||_}
 use mathlib.Core.List.{List}
 use lib.ListN.{length, getD}
 use lib.Dec.{leb, ltb, eqb}
 use lib.Ieee.{Float, isNan, eq, mul, div, toUnsigned}
 use lib.Ieee.Scale.{finite}
 use Rattle.leaves.specs.Arithmetic.{_*₃₂_, _/₃₂_, nought, one, float, count}
-use Rattle.leaves.specs.Floats.{larger}
+use Rattle.leaves.specs.Floats.{larger, inRange}
 use Rattle.recording.specs.Answers.{number, reasonNumber}
 use Rattle.recording.specs.Recording.{State, fitting, orElse, workAfter}
 use Rattle.leaves.specs.Choice.{if_then_else_}
-use Rattle.recording.specs.Runs.{begins, runLength}
+use Rattle.recording.specs.Runs.{runLength}
 use Rattle.recording.specs.declared.Reason.the-variants.{Setting}
 use Rattle.recording.specs.declared.Answer.{Answer}
 use Rattle.recording.specs.declared.Answer.the-variants.{Done, Refused}
@@ -31,47 +32,86 @@ unfoldable pub limit : Float → ℕ → ℕ
 unfolding mul div count larger toUnsigned
 limit ms rate = toUnsigned 64 (larger (ms /₃₂ count 1000 *₃₂ count rate) one)
 
--- ---- A dropout run
+-- ---- A dropout run: the sentence of document 01 as request P1 of document 02 amends it
 
 -- "samples equal to zero (either sign) or NaN"
-unfoldable pub dropout : ℕ → Bool
+unfoldable pub zeroOrNan : ℕ → Bool
 unfolding float eq isNan
-dropout w = eq (float w) nought || isNan (float w)
+zeroOrNan w = eq (float w) nought || isNan (float w)
 
--- "a longest run" of these: this is its test of a place
-abbrev pub dropoutAt : List ℕ → ℕ → Bool
-dropoutAt samples i = dropout (getD samples i 0)
+-- "in range and not zero": a word that a silent bus can hold
+unfoldable pub holdable : ℕ → Bool
+unfolding float eq inRange
+holdable w = inRange w && not (eq (float w) nought)
 
--- one begins at place i
-abbrev pub runBegins : List ℕ → ℕ → Bool
-runBegins samples i = begins (dropoutAt samples) i
+-- a run is a stretch of places that continue each other: w continues v, the word before it, where both are zero or NaN, or the two are
+-- "equal words, in range and not zero"
+unfoldable pub continues : ℕ → ℕ → Bool
+unfolding zeroOrNan holdable
+continues v w = zeroOrNan v && zeroOrNan w || eqb v w && holdable w
+
+abbrev pub continuesAt : List ℕ → ℕ → Bool
+continuesAt samples i = continues (getD samples (i - 1) 0) (getD samples i 0)
+
+-- "a longest run" begins at place i, of the places from `from` on: at the first of them, and wherever a place does not continue the one
+-- before it. What stands before place `from` has no say.
+abbrev pub runBegins : List ℕ → ℕ → ℕ → Bool
+runBegins samples from i = eqb i from || not (continuesAt samples i)
 
 -- how long it is
 abbrev pub runAt : List ℕ → ℕ → ℕ
-runAt samples i = runLength (dropoutAt samples) i (length samples - i)
+runAt samples i = runLength (continuesAt samples) (i + 1) (length samples - (i + 1)) + 1
 
--- "It qualifies if its length is at least 2 and within the limit, and it touches neither end."
-abbrev pub qualifies : ℕ → ℕ → ℕ → ℕ → Bool
-qualifies n most start len = leb 2 len && leb len most && ltb 0 start && ltb (start + len) n
+-- "16 or more equal words"; "15 equal words are sound."
+abbrev pub heldRun : ℕ
+heldRun = 16
 
--- a run that qualifies begins at place i
-abbrev pub starts : List ℕ → ℕ → ℕ → Bool
-starts samples most i = runBegins samples i && qualifies (length samples) most i (runAt samples i)
+-- a run of so many samples, w the first of them, is a dropout: one of zeros and NaN "if its length is at least 2", one of a word that
+-- is held if it has "16 or more"
+unfoldable pub longEnough : ℕ → ℕ → Bool
+unfolding zeroOrNan holdable
+longEnough w len = zeroOrNan w && leb 2 len || holdable w && leb heldRun len
+
+-- its gap: all of it, but of a held word "its first sample is measured and the rest are the gap". This is how many samples the gap leaves
+-- at the run's begin;
+unfoldable pub kept : ℕ → ℕ
+unfolding holdable
+kept w = if holdable w then 1 else 0
+
+-- and where the gap of the run that begins at place i starts, and how long it is
+abbrev pub gapAt : List ℕ → ℕ → ℕ
+gapAt samples i = i + kept (getD samples i 0)
+
+abbrev pub gapLength : List ℕ → ℕ → ℕ
+gapLength samples i = runAt samples i - kept (getD samples i 0)
+
+-- "under the same length limit; the gap must touch neither end"
+abbrev pub gapAllowed : ℕ → ℕ → ℕ → ℕ → Bool
+gapAllowed n most start len = leb len most && ltb 0 start && ltb (start + len) n
+
+-- a run of so many samples from place i on, w the first of them, qualifies
+unfoldable pub qualifies : ℕ → ℕ → ℕ → ℕ → ℕ → Bool
+unfolding longEnough kept
+qualifies n most w i len = longEnough w len && gapAllowed n most (i + kept w) (len - kept w)
+
+-- a run that qualifies begins at place i, of the places from `from` on
+abbrev pub starts : List ℕ → ℕ → ℕ → ℕ → Bool
+starts samples most from i = runBegins samples from i && qualifies (length samples) most (getD samples i 0) i (runAt samples i)
 
 -- ---- The search
 
--- "The search answers with the first run from a place on that meets every condition, or with nothing if none exists": among the n
--- places from i on
-unfoldable pub nextAmong : List ℕ → ℕ → ℕ → ℕ → Run
-unfolding begins runLength dropout
-nextAmong samples most i zero = Nowhere
-nextAmong samples most i (suc n) =
-    let on = nextAmong samples most (i + 1) n in
-    if starts samples most i then At i (runAt samples i) else on
+-- "The search answers with the first run from a place on that meets every condition, or with nothing if none exists": by the start and the
+-- length of its gap. Of the places from `from` on, among the n from i on.
+unfoldable pub nextAmong : List ℕ → ℕ → ℕ → ℕ → ℕ → Run
+unfolding runLength continues qualifies kept
+nextAmong samples most from i zero = Nowhere
+nextAmong samples most from i (suc n) =
+    let on = nextAmong samples most from (i + 1) n in
+    if starts samples most from i then At (gapAt samples i) (gapLength samples i) else on
 
--- among all from place i on
+-- among all of them
 abbrev pub nextRun : List ℕ → ℕ → ℕ → Run
-nextRun samples most i = nextAmong samples most i (length samples - i)
+nextRun samples most from = nextAmong samples most from from (length samples - from)
 
 -- ---- The scan
 

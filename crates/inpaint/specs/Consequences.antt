@@ -1,6 +1,6 @@
 -- What follows from the rules of a gap and of the scan. Statements only, each proved under the same name, written small, in
 -- Plans.antt, Lawful.antt, Scans.antt or Rooms.antt of proofs/, which nobody has to read.
-use Prim.Native.Nat.{ℕ, _+_, _*_, _≤_}
+use Prim.Native.Nat.{ℕ, _+_, _-_, _*_, _≤_}
 use mathlib.Core.Path.{_≡_}
 use mathlib.Core.Bool.{false}
 use mathlib.Core.Logic.{_⊎_}
@@ -9,13 +9,13 @@ use lib.ListN.{length}
 use lib.Seq.{sets}
 use lib.Ieee.{Float}
 use Rattle.recording.specs.Answers.{number}
-use Rattle.recording.specs.Recording.{State}
+use Rattle.recording.specs.Recording.{State, entrySize}
 use Rattle.recording.specs.History.{LawfulRepair, Lawful}
 use Rattle.recording.specs.declared.Reason.{Reason}
 use Rattle.recording.specs.declared.Answer.{Answer}
 use Rattle.recording.specs.declared.Answer.the-variants.{Refused}
 use Rattle.inpaint.specs.Gap.{byLine, needed, gapPlan}
-use Rattle.inpaint.specs.Auto.{limit, scannable, automatic}
+use Rattle.inpaint.specs.Auto.{limit, heldRun, scannable, automatic}
 use Rattle.inpaint.specs.Runs.{Stretch, gapCalls, runAnswers, OfEveryScan}
 
 -- ---- Of a gap
@@ -63,10 +63,19 @@ OwnAnswers = OfEveryScan (λ rate ms work s. EachNumber (λ k. (k ≡ 0) ⊎ ((6
 abbrev pub NoneHas : ℕ → List Answer → Type 0
 NoneHas k = EachNumber (λ j. j ≡ k → ⊥)
 
--- where the journal has three free words for each sample, no run is refused for want of room in it
-abbrev pub ThreeWordsSuffice : Type 0
-ThreeWordsSuffice =
-    (rate : ℕ) (ms : Float) (work : List Float) (s : State) → s .used + 3 * length (s .samples) ≤ length (s .journal)
+-- the most of the journal that runs can take: 55 words for 18 samples, those of a run of two zeros directly before a held run of 16, whose gap
+-- has 15
+abbrev pub densePlaces : ℕ
+densePlaces = 2 + heldRun
+
+abbrev pub denseWords : ℕ
+denseWords = entrySize 2 + entrySize (heldRun - 1)
+
+-- where the journal has so many free words for the samples, no run is refused for want of room in it
+abbrev pub DenseSuffices : Type 0
+DenseSuffices =
+    (rate : ℕ) (ms : Float) (work : List Float) (s : State)
+    → densePlaces * s .used + denseWords * length (s .samples) ≤ densePlaces * length (s .journal)
     → NoneHas 9 (runAnswers rate ms work s)
 
 -- where the workspace suffices for every gap within the limit, no run is refused for want of workspace

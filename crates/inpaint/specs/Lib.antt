@@ -1,5 +1,7 @@
 pub mod Gap
 pub mod Auto
 pub mod Runs
+pub mod Unheld
 pub mod Consequences
 pub mod Inner
+pub mod Examples

@@ -1,5 +1,5 @@
--- Which runs the automatic scan takes: those of the recording as the call began, whatever the repair of one run has
--- made of the samples when the next is looked for. So "Each run is one gap repair" makes the scan a sequence of calls, each
+-- Which runs the automatic scan takes: "Runs of both kinds are those of the recording as the call began", whatever the repair of one
+-- has made of the samples when the next is looked for. So "Each run is one gap repair" makes the scan a sequence of calls, each
 -- with its own answer. Definitions, and then two statements, which are proved as `scan-is-its-runs` and
 -- `scan-counts-its-runs` of proofs/Scans.antt, which nobody has to read.
 use Prim.Native.Nat.{ℕ, zero, suc, _+_}
@@ -9,29 +9,30 @@ use lib.ListN.{length}
 use lib.Ieee.{Float}
 use Rattle.recording.specs.Recording.{State}
 use Rattle.leaves.specs.Choice.{if_then_else_}
-use Rattle.recording.specs.Runs.{begins, runLength}
+use Rattle.recording.specs.Runs.{runLength}
 use Rattle.recording.specs.Answers.{reasonNumber}
 use Rattle.recording.specs.History.{Call, repair, did, run}
 use Rattle.recording.specs.declared.Answer.{Answer}
 use Rattle.recording.specs.declared.Answer.the-variants.{Done, Refused}
 use Rattle.inpaint.specs.Gap.{gapPlan}
-use Rattle.inpaint.specs.Auto.{limit, dropout, runAt, starts, sourcePasses, scannable, automatic}
+use Rattle.inpaint.specs.Auto.{limit, continues, kept, qualifies, gapAt, gapLength, starts, sourcePasses, scannable, automatic}
 
--- a dropout run, by its start and its length
+-- a dropout run, by the start and the length of its gap
 pub record Stretch : Type 0 where
   pub start : ℕ
   pub len : ℕ
 
--- the runs that qualify, ascending: those that begin at one of the n places from i on
-unfoldable pub runsAmong : List ℕ → ℕ → ℕ → ℕ → List Stretch
-unfolding begins runLength dropout
-runsAmong samples most i zero = []
-runsAmong samples most i (suc n) =
-    let later = runsAmong samples most (i + 1) n in
-    if starts samples most i then record { start = i; len = runAt samples i } ∷ later else later
+-- the runs of the places from `from` on that qualify, ascending: those that begin at one of the n places from i on
+unfoldable pub runsAmong : List ℕ → ℕ → ℕ → ℕ → ℕ → List Stretch
+unfolding runLength continues qualifies kept
+runsAmong samples most from i zero = []
+runsAmong samples most from i (suc n) =
+    let later = runsAmong samples most from (i + 1) n in
+    if starts samples most from i then record { start = gapAt samples i; len = gapLength samples i } ∷ later else later
 
+-- those of the whole recording
 abbrev pub runsOf : List ℕ → ℕ → List Stretch
-runsOf samples most = runsAmong samples most 0 (length samples)
+runsOf samples most = runsAmong samples most 0 0 (length samples)
 
 -- "Each run is one gap repair": the calls, with so many doubles of workspace
 abbrev pub gapCalls : ℕ → List Stretch → List Call

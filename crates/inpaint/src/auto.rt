@@ -5,7 +5,8 @@ ghost use lib.ListN.{length};
 ghost use lib.Dec.{eqb};
 ghost use lib.Ieee.{toUnsigned};
 ghost use Rattle.leaves.specs.Choice.{if_then_else_};
-ghost use Rattle.inpaint.specs.Auto.{allowed, limit, dropout, runBegins, qualifies, nextRun, scan, scanFrom, scannable, automatic};
+ghost use Rattle.inpaint.specs.Auto.{allowed, limit, zeroOrNan, holdable, continues, runBegins, longEnough, kept, gapAllowed, qualifies};
+ghost use Rattle.inpaint.specs.Auto.{nextRun, scan, scanFrom, scannable, automatic};
 ghost use Rattle.recording.specs.Lent.{left, lent, seen};
 use super::Run;
 use super::Scanned;
@@ -13,6 +14,7 @@ use super::gap::inpaint_gap;
 use leaves::order::larger32;
 use leaves::words::count_as_f32;
 use leaves::words::f32_of_word;
+use leaves::words::in_range;
 use recording::Answer;
 use recording::Reason;
 use recording::numbers::number_of;
@@ -23,6 +25,9 @@ const MOST_RATE: u32 = 16_777_216;
 
 // How many passes the original makes at each run.
 const PASSES: u32 = 3;
+
+// From how many equal words on a run of them is a dropout; fewer are sound.
+const HELD_RUN: usize = 16;
 
 // x cut to a whole number of 64 bits, as Rust's `as`: beyond either end of the range that end, and 0 for
 // a NaN. The range ends one below 2 ^ 64, which is 18446744073709551616.
@@ -42,7 +47,7 @@ fn whole_part(x: f32) -> u64
     }
 }
 
-// The longest run that is repaired, of a limit in milliseconds at a rate for each second, which has 1000 of
+// The longest gap that is repaired, of a limit in milliseconds at a rate for each second, which has 1000 of
 // them; at least 1.
 fn longest_run(millis: f32, rate: u32) -> usize
     requires { ⌜ rate ≤ 16777216 ⌝ }
@@ -69,35 +74,74 @@ fn settings_allowed(rate: u32, millis: f32) -> bool
 }
 
 // Whether a sample is equal to zero or NaN.
-fn is_dropout(word: u32) -> bool
-    ensures { λ r. ⌜ r ≡ dropout word ⌝ }
+fn is_zero_or_nan(word: u32) -> bool
+    ensures { λ r. ⌜ r ≡ zeroOrNan word ⌝ }
 {
     let x = f32_of_word(word);
     if x == 0.0 { true } else { x != x }
 }
 
-// Whether a longest run begins at place i.
-fn run_begins(samples: &[u32], i: usize) -> bool
-    requires { ⌜ i < length (now samples) ⌝ }
-    ensures { λ r. ⌜ r ≡ runBegins (now (samples .entry)) i ⌝ }
+// Whether a silent bus can hold a word: one in range that is not zero.
+fn is_holdable(word: u32) -> bool
+    ensures { λ r. ⌜ r ≡ holdable word ⌝ }
 {
-    if !is_dropout(samples[i]) {
+    if !in_range(word) {
         return false;
     }
-    if i == 0 {
-        return true;
-    }
-    !is_dropout(samples[i - 1])
+    f32_of_word(word) != 0.0
 }
 
-// Whether a run qualifies, in a recording of n samples.
-fn run_qualifies(n: usize, most: usize, start: usize, len: usize) -> bool
-    requires { ⌜ start + len ≤ n ⌝ }
-    ensures { λ r. ⌜ r ≡ qualifies n most start len ⌝ }
+// Whether a word continues the run of the word before it. A zero or a NaN is no word that is held, so that
+// the first test settles the kind.
+fn continues_run(before: u32, word: u32) -> bool
+    ensures { λ r. ⌜ r ≡ continues before word ⌝ }
 {
-    if len < 2 {
+    if is_zero_or_nan(before) {
+        return is_zero_or_nan(word);
+    }
+    if before != word {
         return false;
     }
+    is_holdable(word)
+}
+
+// Whether a longest run begins at place i, of the places from `from` on.
+fn run_begins(samples: &[u32], from: usize, i: usize) -> bool
+    requires { ⌜ (from ≤ i) × (i < length (now samples)) ⌝ }
+    ensures { λ r. ⌜ r ≡ runBegins (now (samples .entry)) from i ⌝ }
+{
+    if i == from {
+        return true;
+    }
+    !continues_run(samples[i - 1], samples[i])
+}
+
+// Whether a run of `len` samples that begins with a word is long enough for a dropout.
+fn is_long_enough(word: u32, len: usize) -> bool
+    ensures { λ r. ⌜ r ≡ longEnough word len ⌝ }
+{
+    if is_zero_or_nan(word) {
+        return 2 <= len;
+    }
+    if !is_holdable(word) {
+        return false;
+    }
+    HELD_RUN <= len
+}
+
+// How many samples of a run that begins with a word stand before its gap: the one that was measured before
+// the bus held it.
+fn kept_of(word: u32) -> usize
+    ensures { λ r. ⌜ r ≡ kept word ⌝ }
+{
+    if is_holdable(word) { 1 } else { 0 }
+}
+
+// Whether a gap is within the limit and touches neither end of a recording of n samples.
+fn is_gap_allowed(n: usize, most: usize, start: usize, len: usize) -> bool
+    requires { ⌜ start + len ≤ n ⌝ }
+    ensures { λ r. ⌜ r ≡ gapAllowed n most start len ⌝ }
+{
     if most < len {
         return false;
     }
@@ -107,9 +151,23 @@ fn run_qualifies(n: usize, most: usize, start: usize, len: usize) -> bool
     start + len < n
 }
 
-// The first run from place `from` on that meets every condition: the outer scan looks at each place, and
-// the inner one follows a run that begins there to its end. A run that reaches the recording's end does
-// not qualify, so that the inner scan has nothing to say of it. Each run is followed once.
+// Whether a run of `len` samples from place `start` on that begins with a word qualifies, in a recording of
+// n samples.
+fn run_qualifies(n: usize, most: usize, word: u32, start: usize, len: usize) -> bool
+    requires { ⌜ (1 ≤ len) × (start + len ≤ n) ⌝ }
+    ensures { λ r. ⌜ r ≡ qualifies n most word start len ⌝ }
+{
+    if !is_long_enough(word, len) {
+        return false;
+    }
+    let kept = kept_of(word);
+    is_gap_allowed(n, most, start + kept, len - kept)
+}
+
+// The gap of the first run from place `from` on that meets every condition: the outer scan looks at each
+// place, and the inner one follows a run that begins there to its end. A run that reaches the recording's
+// end does not qualify, so that the inner scan has nothing to say of it. Each run is followed once, and what
+// stands before place `from`, where a gap may have been filled, is not looked at.
 pub fn next_run(samples: &[u32], most: usize, from: usize) -> Run
     ensures { λ r. ⌜ r ≡ nextRun (now (samples .entry)) most from ⌝ }
 {
@@ -119,12 +177,14 @@ pub fn next_run(samples: &[u32], most: usize, from: usize) -> Run
     'search: while i < n {
         let start = i;
         i += 1;
-        if run_begins(samples, start) {
-            let mut end = start;
+        if run_begins(samples, from, start) {
+            let word = samples[start];
+            let mut end = start + 1;
             while end < n {
-                if !is_dropout(samples[end]) {
-                    if run_qualifies(n, most, start, end - start) {
-                        found = Run::At(start, end - start);
+                if !continues_run(samples[end - 1], samples[end]) {
+                    if run_qualifies(n, most, word, start, end - start) {
+                        let kept = kept_of(word);
+                        found = Run::At(start + kept, end - start - kept);
                         break 'search;
                     }
                     break;
@@ -173,8 +233,8 @@ fn first_of(number: u32, later: u32) -> u32
     if number == 0 { later } else { number }
 }
 
-// Finds the dropout runs of at most `most` samples that qualify, one behind the other, and repairs each as
-// one gap; a refused one does not end the scan.
+// Finds the dropout runs that qualify, one behind the other, and repairs the gap of each, of at most `most`
+// samples; a refused one does not end the scan.
 fn repair_runs(
     samples: &mut [u32],
     marks: &mut [u8],

@@ -6,7 +6,8 @@ pub mod gap;
 mod line;
 mod window;
 
-// What the search for a dropout run answers: a run, by its start and its length, or that there is none.
+// What the search for a dropout run answers: a run, by the start and the length of its gap, or that there is
+// none.
 pub enum Run {
     At(usize, usize),
     Nowhere,

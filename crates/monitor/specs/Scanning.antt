@@ -28,9 +28,9 @@ rate = 48000
 abbrev pub limitMs : Float
 limitMs = one
 
--- "a journal of 12,288 words"
+-- "The program's journal becomes 12,800 words" (request P1 of document 02)
 abbrev pub journalWords : ℕ
-journalWords = 12288
+journalWords = 12800
 
 -- the counts of the blocks that 4,096 samples make
 abbrev pub mostBlocks : ℕ

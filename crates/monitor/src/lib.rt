@@ -17,7 +17,7 @@ pub const MOST_SAMPLES: usize = 4096;
 pub const MOST_BLOCKS: usize = 16;
 
 // What the journal holds, which always suffices, and the workspace, likewise.
-pub const JOURNAL_WORDS: usize = 12_288;
+pub const JOURNAL_WORDS: usize = 12_800;
 
 pub const WORKSPACE: usize = 4_788;
 

@@ -1,7 +1,7 @@
 -- `inpaint::auto::repair_runs` meets its contract. The loop's invariant: the scan from here on gives the whole scan;
--- each run found took two places or more, so that the runs counted are at most half of the places passed. The measure
+-- each run found took a place or more, so that the runs counted are at most as many as the places passed. The measure
 -- is how many places are left. Assumes nothing.
-use Prim.Native.Nat.{_-_, _*_, _≤_, _<_}
+use Prim.Native.Nat.{_+_, _-_, _≤_, _<_}
 use mathlib.Core.Path.{_≡_, refl, sym, _∙_}
 use native.Mathlib.Omega.{arith}
 use native.Mathlib.Nat.{sub-zero}
@@ -9,7 +9,7 @@ use borrow.Author.Needs.{needs}
 use lib.ListN.{length}
 use Rattle.recording.specs.Recording.{State, state}
 use Rattle.inpaint.specs.Auto.{scan, scanFrom}
-use Rattle.inpaint.proofs.auto.Laws.{at-most-one, search-ends, found-run, Found, scan-stops, scan-turn}
+use Rattle.inpaint.proofs.auto.Laws.{at-most-one, search-ends, found-within, scan-stops, scan-turn}
 use Rattle.inpaint.proofs.auto.repair_runs.Statement.{statement}
 use Rattle.inpaint.proofs.auto.repair_runs.Tie as tie
 
@@ -17,7 +17,7 @@ abbrev Inv-loop : tie.InvT-loop
 Inv-loop samples₀ marks₀ counts₀ journal₀ used₀ most work₀ n qualified₀ repaired₀ refused₀ at₀
     samples marks counts journal used work qualified repaired refused at =
     (at ≤ n)
-    × (2 * qualified ≤ at)
+    × (qualified ≤ at)
     × (repaired ≤ qualified)
     × (length samples ≡ length samples₀)
     × (length marks ≡ length marks₀)
@@ -43,8 +43,9 @@ turned c = state (c .loop .samples) (c .loop .marks) (c .loop .counts) (c .loop 
 -- where the run lies that a turn finds
 run-found : (c : tie.After-found Inv-loop μ-loop)
     → let at = c .before .before .before .before .before in
-    Found (at .loop .samples) (start at .args .most) (at .loop .at) (c .found .given .0 .0) (c .found .given .0 .1 .0)
-run-found c = found-run _ _ _ _ _ (sym (c .before .before .next-run .ensures) ∙ c .found .given .1)
+    (at .loop .at ≤ c .found .given .0 .0) × (1 ≤ c .found .given .0 .1 .0)
+    × (c .found .given .0 .0 + c .found .given .0 .1 .0 < length (at .loop .samples))
+run-found c = found-within _ _ _ _ _ (sym (c .before .before .next-run .ensures) ∙ c .found .given .1)
 
 -- the samples fill a part of the memory
 few : (c : tie.At-loop Inv-loop μ-loop) → length (c .loop .samples) < 9223372036854775808
@@ -146,7 +147,7 @@ returns : tie.Need-returns Inv-loop μ-loop
 returns c =
     let at = c .before .loop in
     let past : length (at .samples) ≤ at .at = omega (arith, c .loop-test .left, at .inv .3) in
-    sym (scan-stops _ _ _ _ (sym (search-ends _ _ _ _ past refl))) ∙ at .inv .8
+    sym (scan-stops _ _ _ _ (sym (search-ends _ _ _ _ _ past refl))) ∙ at .inv .8
 
 same-length-6 : tie.Need-same-length-6 Inv-loop μ-loop
 same-length-6 c = c .before .before .before .before .before .loop .inv .3

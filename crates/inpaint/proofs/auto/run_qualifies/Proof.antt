@@ -1,33 +1,45 @@
 -- `inpaint::auto::run_qualifies` meets its contract: each way out is a line of the rule. Assumes nothing.
 use borrow.Author.Needs.{needs}
-use Rattle.inpaint.proofs.auto.Laws.{qualifies-short, qualifies-long, qualifies-start, qualifies-end}
+use borrow.Author.Tests.{not-true, not-false}
+use mathlib.Core.Path.{sym, _∙_}
+use native.Mathlib.Omega.{arith}
+use Rattle.inpaint.proofs.auto.Laws.{keeps-one, qualifies-short, qualifies-gap}
 use Rattle.inpaint.proofs.auto.run_qualifies.Statement.{statement}
 use Rattle.inpaint.proofs.auto.run_qualifies.Tie as tie
 
+is-long-enough-requires : tie.Need-is-long-enough-requires
+is-long-enough-requires c κs = search needs
+
 returns : tie.Need-returns
-returns c =
-    let a = c .before .args in
-    qualifies-short (a .n) (a .most) (a .start) (a .len) (c .if1 .taken)
+returns c = qualifies-short _ _ _ _ _ (sym (c .before .is-long-enough .ensures) ∙ not-true _ (c .if1 .taken))
+
+kept-of-requires : tie.Need-kept-of-requires
+kept-of-requires c κs = search needs
+
+add-is-gap-allowed : tie.Need-add-is-gap-allowed
+add-is-gap-allowed c = omega (arith, keeps-one _ _ (c .kept-of .ensures))
+
+sub-is-gap-allowed : tie.Need-sub-is-gap-allowed
+sub-is-gap-allowed c = omega (arith, keeps-one _ _ (c .kept-of .ensures))
+
+is-gap-allowed-requires : tie.Need-is-gap-allowed-requires
+is-gap-allowed-requires c κs = omega (arith, keeps-one _ _ (c .kept-of .ensures))
 
 returns-2 : tie.Need-returns-2
 returns-2 c =
-    let a = c .before .before .args in
-    qualifies-long (a .n) (a .most) (a .start) (a .len) (c .before .if1 .left) (c .if2 .taken)
-
-returns-3 : tie.Need-returns-3
-returns-3 c =
-    let tests = c .before in
-    let a = tests .before .before .args in
-    qualifies-start (a .n) (a .most) (a .start) (a .len) (tests .before .if1 .left) (tests .if2 .left) (c .if3 .taken)
-
-add-result : tie.Need-add-result
-add-result c = search needs
-
-returns-4 : tie.Need-returns-4
-returns-4 c =
-    let tests = c .before in
-    let a = tests .before .before .args in
-    qualifies-end (a .n) (a .most) (a .start) (a .len) (tests .before .if1 .left) (tests .if2 .left) (c .if3 .left)
+    let kept = c .before in
+    let long = kept .before in
+    c .is-gap-allowed .ensures
+    ∙ qualifies-gap _ _ _ _ _ (sym (long .before .is-long-enough .ensures) ∙ not-false _ (long .if1 .left)) _ (kept .kept-of .ensures)
 
 pub run-qualifies-spec : {M : Type 1} → statement M
-run-qualifies-spec = tie.close (tie.spec returns returns-2 returns-3 add-result returns-4)
+run-qualifies-spec =
+    tie.close
+    (tie.spec
+    is-long-enough-requires
+    returns
+    kept-of-requires
+    add-is-gap-allowed
+    sub-is-gap-allowed
+    is-gap-allowed-requires
+    returns-2)
