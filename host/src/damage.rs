@@ -1,6 +1,8 @@
-//! What goes wrong with the samples of a recording: dropouts, clicks, clipping, and samples that are not in range.
+//! What goes wrong with the samples of a recording: dropouts, held words, clicks, clipping, and samples that are not in
+//! range.
 //! There is at least one sample.
 use crate::draw::Draw;
+use crate::inpaint::HELD_RUN;
 use crate::shapes::{ALPHABET, IN_RANGE};
 
 /// The words that drop out: zeros of both signs, and two NaN.
@@ -23,6 +25,16 @@ pub fn drop_out(draw: &mut Draw, samples: &mut [u32], longest: usize, words: &[u
         for word in &mut samples[start..end] {
             *word = words[if others { place(draw, words) } else { first }];
         }
+    }
+}
+
+/// Up to three words that are held, for some 16 samples to about twice as many.
+pub fn hold(draw: &mut Draw, samples: &mut [u32]) {
+    for _ in 0..1 + draw.below(3) {
+        let start = place(draw, samples);
+        let end = (start + HELD_RUN - 2 + draw.below(20) as usize).min(samples.len());
+        let word = samples[start];
+        samples[start..end].fill(word);
     }
 }
 

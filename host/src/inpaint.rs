@@ -1,6 +1,6 @@
-//! The repair of a gap and the automatic scan as document 01 has them, over the model of the recording. What
-//! they turn away and what they leave is written from the document's text. The new samples are those that the
-//! original Rust computes, from its own files.
+//! The repair of a gap and the automatic scan as document 01 has them, with the dropouts of request P1 of document 02,
+//! over the model of the recording. What they turn away and what they leave is written from the documents' text. The new
+//! samples are those that the original Rust computes, from its own files.
 use crate::original;
 use crate::recording::{in_range, Answer, Recording};
 use std::ops::Range;
@@ -16,6 +16,10 @@ const MOST_PASSES: u32 = 5;
 
 /// How many passes a scan makes.
 pub const SCAN_PASSES: u32 = 3;
+
+/// From how many samples on a run of zeros and NaN is a dropout, and from how many on one of equal words.
+pub const LOST_RUN: usize = 2;
+pub const HELD_RUN: usize = 16;
 
 /// The samples from `start` on, `len` of them.
 #[derive(Clone, Copy, Debug, PartialEq, Eq)]
@@ -40,15 +44,20 @@ impl Gap {
         1 + u8::from(self.is_line())
     }
 
+    /// The place behind its last one. For a gap that is not outside.
+    pub fn end(self) -> usize {
+        self.start + self.len
+    }
+
     fn places(self) -> Range<usize> {
-        self.start..self.start + self.len
+        self.start..self.end()
     }
 
     /// "Context c is the larger of 4*len and 1024. The window runs from max(0, start−c) to
     /// min(n, start+len+c)." For a gap that is not outside.
     fn window(self, n: usize) -> Range<usize> {
         let context = (4 * self.len).max(1024);
-        self.start.saturating_sub(context)..(self.start + self.len + context).min(n)
+        self.start.saturating_sub(context)..(self.end() + context).min(n)
     }
 
     /// How many doubles of the workspace it needs: "len doubles" for the line, and else "window + len*(p+1) +
@@ -76,9 +85,14 @@ impl Gap {
         self.places().map(|place| (place, filled[place].to_bits())).collect()
     }
 
-    /// "It qualifies if its length is at least 2 and within the limit, and it touches neither end."
-    fn qualifies(self, n: usize, limit: usize) -> bool {
-        (2..=limit).contains(&self.len) && self.start > 0 && self.start + self.len < n
+    /// "Under the same length limit; the gap must touch neither end."
+    pub fn is_allowed(self, n: usize, limit: usize) -> bool {
+        self.len <= limit && self.start > 0 && self.end() < n
+    }
+
+    /// Whether it is the gap of a held word, of a scan that began with these samples.
+    pub fn is_held(self, before: &[u32]) -> bool {
+        !is_lost(before[self.start])
     }
 }
 
@@ -119,6 +133,11 @@ pub enum Scan {
 }
 
 impl Scan {
+    /// The gaps of the runs that qualified; none, where the scan was refused.
+    pub fn gaps(&self) -> Vec<Gap> {
+        self.runs().iter().map(|(gap, _)| *gap).collect()
+    }
+
     /// The runs that qualified, with their answers; none, where the scan was refused.
     pub fn runs(&self) -> &[(Gap, Answer)] {
         match self {
@@ -145,7 +164,7 @@ impl Scan {
 }
 
 /// The automatic scan. "Each run is one gap repair with its own answer from 6 to 9; the scan goes on after a
-/// refused one." A repair writes to its run alone, so that the runs ahead of it stay as they were found.
+/// refused one." "Runs of both kinds are those of the recording as the call began."
 pub fn inpaint_auto(recording: &mut Recording, rate: u32, max_gap_ms: f32, work: &mut [u64]) -> Scan {
     if let Some(number) = recording.refused_by_any_call() {
         return Scan::Refused(number);
@@ -156,16 +175,26 @@ pub fn inpaint_auto(recording: &mut Recording, rate: u32, max_gap_ms: f32, work:
     }
 }
 
-/// The runs that a scan of these samples repairs where there is room, in their order. Nothing, where the settings
+/// What the original leaves of these samples where a scan repairs each of these gaps: by its own scan, or, where there is
+/// one of a held word, which it does not know, by its repair of each gap in turn.
+pub fn scanned_by_original(before: &[u32], rate: u32, max_gap_ms: f32, gaps: &[Gap]) -> Vec<f32> {
+    let samples: Vec<f32> = before.iter().map(|word| f32::from_bits(*word)).collect();
+    if !gaps.iter().any(|gap| gap.is_held(before)) {
+        return original::inpaint_auto(&samples, rate, max_gap_ms);
+    }
+    gaps.iter().fold(samples, |left, gap| original::inpaint_gap(&left, gap.start, gap.len, SCAN_PASSES))
+}
+
+/// The gaps that a scan of these samples repairs where there is room, in their order. Nothing, where the settings
 /// are not allowed: "Rate at most 16,777,216 and finite max_gap_ms, else 4."
 pub fn qualified(samples: &[u32], rate: u32, max_gap_ms: f32) -> Option<Vec<Gap>> {
     if rate > MOST_RATE || !max_gap_ms.is_finite() {
         return None;
     }
     let limit = limit(rate, max_gap_ms);
-    let mut runs = dropouts(samples);
-    runs.retain(|run| run.qualifies(samples.len(), limit));
-    Some(runs)
+    let mut gaps = dropouts(samples);
+    gaps.retain(|gap| gap.is_allowed(samples.len(), limit));
+    Some(gaps)
 }
 
 /// "The limit is (max_gap_ms/1000)*rate in f32, raised to 1, cut to a whole number; a product of plus infinity
@@ -181,17 +210,44 @@ pub fn limit(rate: u32, max_gap_ms: f32) -> usize {
     }
 }
 
-/// "A dropout run is a longest run of samples equal to zero (either sign) or NaN."
+/// The gaps of the dropout runs, in their order.
 fn dropouts(samples: &[u32]) -> Vec<Gap> {
+    let mut gaps = lost(samples);
+    gaps.retain(|gap| gap.len >= LOST_RUN);
+    gaps.extend(held(samples, HELD_RUN));
+    gaps.sort_unstable_by_key(|gap| gap.start);
+    gaps
+}
+
+/// "Equal to zero (either sign) or NaN."
+pub fn is_lost(word: u32) -> bool {
+    let x = f32::from_bits(word);
+    x == 0.0 || x.is_nan()
+}
+
+/// "A dropout run is a longest run of samples equal to zero (either sign) or NaN": all of it is the gap.
+pub fn lost(samples: &[u32]) -> Vec<Gap> {
     let mut runs: Vec<Gap> = Vec::new();
-    for (place, word) in samples.iter().enumerate() {
-        let x = f32::from_bits(*word);
-        if x == 0.0 || x.is_nan() {
-            match runs.last_mut() {
-                Some(last) if last.start + last.len == place => last.len += 1,
-                _ => runs.push(Gap { start: place, len: 1 }),
-            }
+    for (place, _) in samples.iter().enumerate().filter(|(_, word)| is_lost(**word)) {
+        match runs.last_mut() {
+            Some(last) if last.end() == place => last.len += 1,
+            _ => runs.push(Gap { start: place, len: 1 }),
         }
     }
     runs
+}
+
+/// "A longest run of 16 or more equal words, in range and not zero, is a dropout too: its first sample is measured and the
+/// rest are the gap." Of so many or more.
+pub fn held(samples: &[u32], least: usize) -> Vec<Gap> {
+    let mut gaps = Vec::new();
+    let mut start = 0;
+    while let Some(word) = samples.get(start) {
+        let len = samples[start..].iter().take_while(|other| *other == word).count();
+        if len >= least && in_range(*word) && f32::from_bits(*word) != 0.0 {
+            gaps.push(Gap { start: start + 1, len: len - 1 });
+        }
+        start += len;
+    }
+    gaps
 }

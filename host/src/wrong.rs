@@ -5,6 +5,7 @@
 mod counts;
 mod frames;
 mod gaps;
+mod held;
 mod leaves;
 mod question;
 mod received;
@@ -81,12 +82,13 @@ pub enum Finds {
 }
 
 /// All of them.
-pub const TABLES: [&[Table]; 11] = [
+pub const TABLES: [&[Table]; 12] = [
     leaves::TABLES,
     recording::TABLES,
     received::TABLES,
     gaps::TABLES,
     scans::TABLES,
+    held::TABLES,
     whole::TABLES,
     sequences::TABLES,
     counts::TABLES,

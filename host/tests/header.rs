@@ -2,7 +2,7 @@
 //! is said. What it declares is what the crate `cathar` exports, type by type, as are the declarations in Rust. Its
 //! names for limits, marks and answers have the numbers of the sources, and its functions on memory give what the model
 //! says is needed.
-use cathar_host::inpaint::Gap;
+use cathar_host::inpaint::{Gap, HELD_RUN, LOST_RUN};
 use cathar_host::machine::{c_compiler, file, runner};
 use cathar_host::recording::{blocks, entry_words, MOST_SAMPLES};
 use cathar_host::whole;
@@ -163,6 +163,7 @@ fn in_sources() -> BTreeMap<String, u64> {
         ("BLOCK", "BLOCK", "crates/recording/src/counts.rt"),
         ("MOST_BY_MODEL", "MAX_SOLVE", "crates/inpaint/src/window.rt"),
         ("MOST_RATE", "MOST_RATE", "crates/inpaint/src/auto.rt"),
+        ("HELD_RUN", "HELD_RUN", "crates/inpaint/src/auto.rt"),
         ("LEAST_BITS", "LEAST_BITS", "crates/dequant/src/lattice.rt"),
         ("MOST_BITS", "MOST_BITS", "crates/dequant/src/lattice.rt"),
         ("MOST_ITERATIONS", "MOST_ITERATIONS", "crates/dequant/src/cosparse.rt"),
@@ -246,7 +247,8 @@ fn memory_as_needed() {
                 let within = len > 0 && start < n && len <= n - start;
                 let gap = if within { Gap { start, len }.needed(n) } else { 0 };
                 lines += &format!("{n} {start} {len}\n");
-                let (words, journal, counts) = (whole::needed(n), len * entry_words(n), blocks(n));
+                let (words, counts) = (whole::needed(n), blocks(n));
+                let journal = len * (entry_words(n) + n / (LOST_RUN + HELD_RUN));
                 expected += &format!("{gap} {enough} {words} {journal} {counts}\n");
             }
         }

@@ -4,6 +4,7 @@
 //! `CATHAR_SEED` sets the seed.
 mod inpaint {
     pub mod gaps;
+    pub mod held;
     pub mod lengths;
     pub mod limits;
     pub mod scans;
@@ -23,7 +24,7 @@ use cathar_host::shapes::Shape;
 use inpaint::gaps::{self, repair, repair_with, Gaps};
 use inpaint::limits::{self, louder, Faults, LOUD, LOUDER_GAP, LOUD_GAP};
 use inpaint::scans::{self, dropped, scan, scan_any, Scans};
-use inpaint::{lengths, short};
+use inpaint::{held, lengths, short};
 
 /// How many gaps are tried: in random short recordings over the alphabet, in short ones of each shape, by
 /// model and longer than 500, and by line.
@@ -267,6 +268,24 @@ fn scanned() {
     });
     count.begin("of 3,000 samples and more");
     scan_long(&mut count, &mut draw);
+    count.close(seed);
+}
+
+#[test]
+fn held_words() {
+    let seed = draw::seed();
+    let mut draw = Draw::new(seed);
+    let mut count = Count::new("cathar_inpaint_auto on held words against model and original", &[held::CLASSES]);
+    count.begin("up to 16 equal words, and one more");
+    held::smallest(&mut count);
+    count.begin("all recordings of up to four pieces, four limits");
+    held::all(&mut count, &mut draw);
+    count.begin("a fill that the run behind it continues");
+    held::continued(&mut count, &mut draw);
+    count.begin("gaps by line");
+    held::lines(&mut count, &mut draw);
+    count.begin("two to nine pieces");
+    held::random(&mut count, &mut draw);
     count.close(seed);
 }
 

@@ -4,7 +4,7 @@
 //! recordings and files are written anew; the streams are taken as they are.
 use cathar_host::draw::{Draw, SEED};
 use cathar_host::frames::{read_frames, Rooms, FRAME_BYTES};
-use cathar_host::inpaint::inpaint_auto;
+use cathar_host::inpaint::{inpaint_auto, HELD_RUN, LOST_RUN};
 use cathar_host::machine;
 use cathar_host::recording::{Answer, Recording};
 use cathar_host::shapes::Shape;
@@ -12,9 +12,10 @@ use std::env;
 use std::fs;
 use std::path::PathBuf;
 
-/// What document 01 says of the program: the most samples, the journal's words, rate and limit.
+/// What document 01 says of the program: the most samples, the journal's words, which request P1 of document 02 made
+/// more, rate and limit.
 const MOST: usize = 4096;
-const JOURNAL: usize = 12_288;
+const JOURNAL: usize = 12_800;
 const RATE: u32 = 48_000;
 const LIMIT: f32 = 1.0;
 
@@ -23,6 +24,13 @@ const MOST_BYTES: usize = 65_536;
 
 /// The dropouts of the pump: a run of 1 does not qualify, nor does one of 49, nor one at an end.
 const PUMP: [(usize, usize); 8] = [(0, 2), (137, 5), (410, 2), (600, 1), (801, 48), (1100, 49), (1500, 17), (2046, 2)];
+
+/// The words that a bus holds, each from a sample on for so many in all: from the first sample on; 15, which are sound; 16; a
+/// gap of 48, the limit, and one of 49; one directly before a run of zeros, and one directly behind it; and one up to the
+/// last sample.
+const HELD: [(usize, usize); 8] =
+    [(0, 17), (150, 15), (200, 16), (300, 49), (400, 50), (520, 20), (543, 24), (980, 20)];
+const HELD_ZEROS: (usize, usize) = (540, 3);
 
 fn bytes(samples: &[u32]) -> Vec<u8> {
     samples.iter().flat_map(|word| word.to_le_bytes()).collect()
@@ -82,23 +90,53 @@ fn with_dropouts(mut samples: Vec<u32>, dropouts: &[(usize, usize)], word: u32) 
     bytes(&samples)
 }
 
+/// The tone of a pump over a bus that goes silent and holds its last word.
+fn held(draw: &mut Draw) -> Vec<u8> {
+    let mut samples = Shape::Tone.samples(draw, 1000);
+    for (start, len) in HELD {
+        let word = samples[start];
+        samples[start..start + len].fill(word);
+    }
+    with_dropouts(samples, &[HELD_ZEROS], 0)
+}
+
+/// The longest input with the densest runs: 16 equal words and two zeros, again and again, and then a sample between each two
+/// zeros. They take more of the journal than any other known.
+fn dense(draw: &mut Draw) -> Vec<u8> {
+    let mut words = Shape::Tone.samples(draw, MOST).into_iter();
+    let mut next = || words.next().expect("there are enough words");
+    let mut samples = Vec::new();
+    while samples.len() + HELD_RUN + LOST_RUN < MOST {
+        samples.extend([next(); HELD_RUN]);
+        samples.extend([0; LOST_RUN]);
+    }
+    samples.push(next());
+    while samples.len() < MOST {
+        samples.extend([0; LOST_RUN]);
+        samples.push(next());
+    }
+    bytes(&samples)
+}
+
 /// The recordings: a pump's tone with dropouts; *quiet*; the longest input, with a run at every third place
-/// but one; a NaN that one window holds and another does not; and inputs of no sample, of 3 bytes and of one
-/// sample too many.
+/// but one; a NaN that one window holds and another does not; inputs of no sample, of 3 bytes and of one
+/// sample too many; a bus that holds its word; and the longest input with the densest runs.
 fn recordings() -> Vec<(&'static str, Vec<u8>)> {
     let mut draw = Draw::new(SEED);
     let often: Vec<(usize, usize)> = (0..1364).map(|k| (1 + 3 * k, 2)).collect();
-    let mut held = Shape::Noise.samples(&mut draw, 3000);
-    held[2999] = 0x7fc0_0000;
+    let mut with_nan = Shape::Noise.samples(&mut draw, 3000);
+    with_nan[2999] = 0x7fc0_0000;
     let soft = 0x3080_0000;
     vec![
         ("pump", with_dropouts(Shape::Tone.samples(&mut draw, 2048), &PUMP, 0x8000_0000)),
         ("quiet", bytes(&[soft, soft, 0, 0, soft, soft])),
         ("often", with_dropouts(Shape::Steps.samples(&mut draw, MOST), &often, 0)),
-        ("refused", with_dropouts(held, &[(500, 3), (2900, 4)], 0)),
+        ("refused", with_dropouts(with_nan, &[(500, 3), (2900, 4)], 0)),
         ("empty", Vec::new()),
         ("odd", vec![0, 0, 0x80]),
         ("over", vec![0; 4 * MOST + 4]),
+        ("held", held(&mut draw)),
+        ("dense", dense(&mut draw)),
     ]
 }
 

@@ -13,7 +13,7 @@
 //! other samples the original leaves as they were. The settings, 0 where there are fewer, are by letter:
 //!
 //!     g start len passes              one gap, by `inpaint_gap`
-//!     s rate limit 0                  a scan, by `inpaint_auto`
+//!     s rate limit 0                  a scan, by `inpaint_auto`; with held words, by `inpaint_gap` at each gap
 //!     d threshold 0 0                 the cubic `declip_with_method`
 //!     c sensitivity 0 0               `decrackle`
 //!     q bits strength 0               `dequantize`
@@ -22,7 +22,7 @@
 //! Limit, threshold, sensitivity and strength are words of f32. Each repair is accepted and names a sample, and a
 //! scan repairs every run that qualifies. A sample of a scan that is not in range is a NaN within the first such run.
 use cathar_host::draw::{Draw, SEED};
-use cathar_host::inpaint::{inpaint_auto, inpaint_gap, Gap, Scan};
+use cathar_host::inpaint::{inpaint_auto, inpaint_gap, scanned_by_original, Gap, Scan};
 use cathar_host::original;
 use cathar_host::recording::{in_range, Answer, Recording};
 use cathar_host::shapes::Shape;
@@ -57,6 +57,16 @@ const SCANS: [(Shape, usize, &[usize]); 8] = [
     (Shape::Quiet, 100, &[8, 16]),
     (Shape::Loud, 110, &[20, 4, 4]),
     (Shape::Tone, 120, &[48, 49]),
+];
+
+/// The scans with held words: how many samples there are, and from where on a word is held for so many, or, where the last
+/// part says so, zeros stand. The first begin and end beside what is a dropout: 15 words, 16 and 17; from place 0 on; up to
+/// the last sample; directly before zeros, and directly behind them.
+const HELD_SCANS: [(Shape, usize, &[(usize, usize, bool)]); 4] = [
+    (Shape::Tone, 40, &[(3, 15, false), (20, 16, false)]),
+    (Shape::Noise, 30, &[(0, 17, false)]),
+    (Shape::Tone, 44, &[(2, 16, false), (18, 2, true), (20, 17, false)]),
+    (Shape::Steps, 40, &[(5, 2, true), (7, 16, false), (24, 16, false)]),
 ];
 
 /// How many lines each of the four repairs over the whole recording has.
@@ -157,8 +167,18 @@ fn scan_line(samples: &[u32]) -> String {
     let scan = inpaint_auto(&mut model, RATE, LIMIT, &mut vec![0; 10_000]);
     assert!(scan.number() == 0 && scan.qualified() > 0, "the scan of a line: {scan:?}");
     assert!(model.samples.iter().all(|word| in_range(*word)), "a sample is not in range after the scan");
-    let left = original::inpaint_auto(&floats(samples), RATE, LIMIT);
+    let left = scanned_by_original(samples, RATE, LIMIT, &scan.gaps());
     line(('s', [RATE, LIMIT.to_bits(), 0]), of_scan(&scan), samples, &model, &left)
+}
+
+/// Samples of which words are held, and others are zero.
+fn with_held(draw: &mut Draw, shape: Shape, n: usize, runs: &[(usize, usize, bool)]) -> Vec<u32> {
+    let mut samples = shape.samples(draw, n);
+    for (start, len, is_zero) in runs {
+        let word = if *is_zero { 0 } else { samples[*start] };
+        samples[*start..start + len].fill(word);
+    }
+    samples
 }
 
 /// A repair over the whole recording as a line has it.
@@ -230,6 +250,9 @@ fn list() -> String {
     for chosen in WHOLE {
         text += &whole_lines(&mut draw, chosen);
     }
+    for (shape, n, runs) in HELD_SCANS {
+        text += &scan_line(&with_held(&mut draw, shape, n, runs));
+    }
     text
 }
 
@@ -244,7 +267,8 @@ fn changes(line: &str) -> bool {
 
 /// Holds the lines of each letter to their number, and most repairs over the whole recording to a change.
 fn check_lines(stored: &str) {
-    for (letter, number) in [('g', GAPS), ('s', SCANS.len()), ('d', EACH), ('c', EACH), ('q', EACH), ('p', EACH)] {
+    let scans = SCANS.len() + HELD_SCANS.len();
+    for (letter, number) in [('g', GAPS), ('s', scans), ('d', EACH), ('c', EACH), ('q', EACH), ('p', EACH)] {
         let lines: Vec<&str> = stored.lines().filter(|line| line.starts_with(letter)).collect();
         assert_eq!(lines.len(), number, "lines of {letter}");
         if !['g', 's'].contains(&letter) {

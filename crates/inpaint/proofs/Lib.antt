@@ -1,6 +1,8 @@
--- What the plan of a gap does not depend on, that its repair is lawful, what a scan comes to, what it never lacks, and which runs it always had.
+-- What the plan of a gap does not depend on, that its repair is lawful, what a dropout run is, what a
+-- scan comes to, what it never lacks, and which runs it always had.
 pub mod Plans
 pub mod Lawful
+pub mod Dropouts
 pub mod Scans
 pub mod Rooms
 pub mod Unheld

@@ -36,7 +36,8 @@ use Rattle.inpaint.specs.declared.Run.the-variants.{At, Nowhere}
 use Rattle.inpaint.proofs.auto.Laws.{OfZeros, OfHeld, Found, found-run, Fit, fits, scannable-unfit}
 use Rattle.inpaint.proofs.window.Laws.{right-gap, context-least, context-most, needed-within}
 use Rattle.inpaint.proofs.Lawful.{plan-holds, gap-lawful}
-use Rattle.inpaint.proofs.Scans.{none-among, runs-behind, zeros-end, answers-first}
+use Rattle.inpaint.proofs.Dropouts.{zeros-end}
+use Rattle.inpaint.proofs.Scans.{none-among, runs-behind, answers-first}
 
 -- ---- What the repair of a gap answers
 
@@ -201,11 +202,11 @@ uses samples most v i start len u u' f so-far grown = go (g .kind) so-far
     go : OfZeros (getD samples (f .at) 0) (runAt samples (f .at)) ⊎ OfHeld (getD samples (f .at) 0) (runAt samples (f .at))
         → UsedTo samples v i u → UsedTo samples v (start + len) u'
     -- one of zeros and NaN: two words more than three for each of its samples
-    go (inl z) (inl h) = inr (omega (arith, grown, f .on, f .start-is, g .ends, z .none-kept, z .two), zeros-end samples most i start len f (z .zero))
+    go (inl z) (inl h) = inr (omega (arith, grown, f .on, f .start-is, g .ends, z .none-kept, z .two), zeros-end f (z .zero))
     -- behind another, of which it does not begin at the end: there stands no such sample
     go (inl z) (inr h) =
         let apart : i ≡ f .at → ⊥ = λ e. true≢false (sym (z .zero) ∙ ap (λ (j : ℕ). zeroOrNan (getD samples j 0)) (sym e) ∙ h .1) in
-        inr (omega (arith, grown, h .0, f .on, f .start-is, g .ends, z .none-kept, z .two, apart), zeros-end samples most i start len f (z .zero))
+        inr (omega (arith, grown, h .0, f .on, f .start-is, g .ends, z .none-kept, z .two, apart), zeros-end f (z .zero))
     -- one of a held word: one word less than three for each of its samples
     go (inr k) (inl h) = inl (omega (arith, grown, f .on, f .start-is, g .ends, k .one-kept, k .sixteen))
     go (inr k) (inr h) = inl (omega (arith, grown, h .0, f .on, f .start-is, g .ends, k .one-kept, k .sixteen))

@@ -20,29 +20,26 @@ use Rattle.recording.specs.Recording.{fitting, ranged, entered, committed, carr
 use Rattle.recording.specs.Recording.{entrySize, clears, workAfter}
 use Rattle.recording.specs.History.{run, did}
 use Rattle.recording.specs.Consequences.{Among}
-use Rattle.recording.specs.Runs.{runLength}
 use Rattle.recording.specs.declared.Reason.{Reason}
 use Rattle.recording.specs.declared.Answer.{Answer}
 use Rattle.recording.specs.declared.Answer.the-variants.{Done, Refused}
 use Rattle.leaves.proofs.Choice.{picks, truth, EitherWay}
 use Rattle.recording.proofs.Single.{above-zero}
 use Rattle.recording.proofs.Put.{length-put, put-elsewhere}
-use Rattle.recording.proofs.Runs.{length-same, run-met, run-behind}
+use Rattle.recording.proofs.Runs.{length-same, run-met}
 use Rattle.inpaint.specs.Gap.{needed, gapPlan, gapRepair}
-use Rattle.inpaint.specs.Auto.{limit, zeroOrNan, continues, continuesAt, runBegins, runAt, gapAt, gapLength, starts}
+use Rattle.inpaint.specs.Auto.{limit, continues, continuesAt, runBegins, runAt, gapAt, gapLength, starts}
 use Rattle.inpaint.specs.Auto.{nextAmong, nextRun}
 use Rattle.inpaint.specs.Auto.{Scan, scan, sourcePasses, repairAt, scanFrom, scannable, automatic}
-use Rattle.inpaint.specs.Runs.{Stretch, runsAmong, runsOf, gapCalls, answers, acceptances, firstRefusal}
+use Rattle.inpaint.specs.Runs.{Stretch, stretch, runsAmong, runsOf, gapCalls, answers, acceptances, firstRefusal}
 use Rattle.inpaint.specs.Runs.{ScanIsItsRuns, ScanCountsItsRuns}
 use Rattle.inpaint.specs.Consequences.{ScanLawful, RefusedScan}
 use Rattle.inpaint.specs.declared.Run.{Run}
 use Rattle.inpaint.specs.declared.Run.the-variants.{At, Nowhere}
-use Rattle.inpaint.proofs.auto.Laws.{continues-zeros, Found, found-run, Fit, fits, scan-stops, scan-takes}
+use Rattle.inpaint.proofs.auto.Laws.{Found, found-run, Fit, fits, scan-stops, scan-takes}
 use Rattle.inpaint.proofs.auto.Laws.{automatic-refused, automatic-scanned}
+use Rattle.inpaint.proofs.Dropouts.{found-behind}
 use Rattle.inpaint.proofs.Lawful.{plan-holds, gap-lawful}
-
-abbrev stretch : ℕ → ℕ → Stretch
-stretch start len = record { start = start; len = len }
 
 -- ---- A repair changes nothing behind its gap
 
@@ -207,36 +204,6 @@ behind-same samples t most end n b = runs-same samples t most end end end n (b .
 
 -- ---- What is found is the first of them, and the others begin behind its end
 
--- behind a run that is found stands a sample that does not continue it
-pub found-behind : (samples : List ℕ) (most i start len : ℕ) → Found samples most i i start len
-    → continuesAt samples (start + len) ≡ false
-found-behind samples most i start len f =
-    let g = fits f in
-    let more = runLength (continuesAt samples) (f .at + 1) (length samples - (f .at + 1)) in
-    let end : start + len ≡ f .at + 1 + more = omega (arith, g .ends) in
-    ap (continuesAt samples) end
-    ∙ run-behind (continuesAt samples) (f .at + 1) (length samples - (f .at + 1)) (omega (arith, g .ends, g .inside))
-
--- a run that begins with a zero or a NaN has no other samples, and none follows
-pub zeros-all : (samples : List ℕ) (at k : ℕ) → zeroOrNan (getD samples at 0) ≡ true → k < runAt samples at
-    → zeroOrNan (getD samples (at + k) 0) ≡ true
-zeros-all samples at zero z h = ap (λ (j : ℕ). zeroOrNan (getD samples j 0)) (omega arith) ∙ z
-zeros-all samples at (suc k) z h =
-    let before = zeros-all samples at k z (omega arith) in
-    let met = run-met (continuesAt samples) (at + 1) (length samples - (at + 1)) k (omega arith) in
-    let there : at + suc k ≡ at + 1 + k = omega arith in
-    let back : at + 1 + k - 1 ≡ at + k = omega arith in
-    let before' : zeroOrNan (getD samples (at + 1 + k - 1) 0) ≡ true = ap (λ (j : ℕ). zeroOrNan (getD samples j 0)) back ∙ before in
-    ap (λ (j : ℕ). zeroOrNan (getD samples j 0)) there ∙ continues-zeros _ _ before' ∙ met
-
-pub zeros-end : (samples : List ℕ) (most i start len : ℕ) (f : Found samples most i i start len)
-    → zeroOrNan (getD samples (f .at) 0) ≡ true → zeroOrNan (getD samples (start + len) 0) ≡ false
-zeros-end samples most i start len f z =
-    let g = fits f in
-    let last : f .at + (start + len - 1 - f .at) ≡ start + len - 1 = omega (arith, g .ends) in
-    let all = zeros-all samples (f .at) (start + len - 1 - f .at) z (omega (arith, g .ends)) in
-    continues-zeros _ _ (ap (λ (j : ℕ). zeroOrNan (getD samples j 0)) (sym last) ∙ all) ∙ found-behind samples most i start len f
-
 -- within the run none begins
 none-within : (samples : List ℕ) (most i start len : ℕ) (f : Found samples most i i start len) (j : ℕ)
     → f .at + 1 ≤ j → j < start + len → starts samples most i j ≡ false
@@ -258,7 +225,7 @@ runs-behind samples most i start len f =
     ∙ ap (λ (m : ℕ). stretch m (gapLength samples (f .at)) ∷ runsAmong samples most i (f .at + 1) (n - (f .at + 1))) (f .start-is)
     ∙ ap (λ (m : ℕ). stretch start m ∷ runsAmong samples most i (f .at + 1) (n - (f .at + 1))) (f .len-is)
     ∙ ap (λ (rs : List Stretch). stretch start len ∷ rs)
-    (to-end ∙ runs-anew samples most i end (n - end) (omega (arith, f .on, g .ends)) (found-behind samples most i start len f))
+    (to-end ∙ runs-anew samples most i end (n - end) (omega (arith, f .on, g .ends)) (found-behind f))
   where
     n : ℕ
     n = length samples

@@ -18,28 +18,9 @@ use Rattle.inpaint.specs.Auto.{zeroOrNan, holdable, continues, continues
 use Rattle.inpaint.specs.Auto.{gapAllowed, qualifies, starts}
 use Rattle.inpaint.specs.Runs.{Stretch, runsAmong}
 use Rattle.inpaint.specs.Unheld.{zeroAt, zerosAt, zerosQualify, zerosStart, zerosAmong, ZerosAsBefore, NothingHeld, UnheldAsBefore}
+use Rattle.inpaint.proofs.Dropouts.{back-to-zero, equal-words}
 use Rattle.inpaint.proofs.auto.Laws.{both, zero-not-held, continues-zeros, enough-zeros, OfZeros, OfHeld, kind-of, kept-zeros}
 use Rattle.inpaint.proofs.auto.Laws.{qualifies-short}
-
--- ---- What one word tells of the next
-
--- what continues with a zero or a NaN began with one
-back-to-zero : (v w : ℕ) → zeroOrNan w ≡ true → continues v w ≡ zeroOrNan v
-unfolding continues
-back-to-zero v w z =
-    elim (truth (zeroOrNan v)) [
-      | inl y ↦ sym (continues-zeros v w y) ∙ z ∙ sym y
-      | inr y ↦ rw (y, zero-not-held w z, and-false) refl
-    ]
-
--- what continues a word that is held is the same word
-same-word : (v w : ℕ) → holdable v ≡ true → continues v w ≡ true → v ≡ w
-unfolding continues
-same-word v w held on =
-    elim (truth (zeroOrNan v)) [
-      | inl z ↦ both held (zero-not-held v z)
-      | inr z ↦ eqb-true v w (both-hold (eqb v w) (holdable w) (rw z at on) .0)
-    ]
 
 module _ (samples : List ℕ) where
   -- ---- At a zero or a NaN
@@ -95,17 +76,6 @@ module _ (samples : List ℕ) where
         go (inl t) later = rw t (omega (arith, later))
         go (inr t) later = rw t (omega arith)
 
-    -- the words of a run from a held word on are equal to it
-    equal-words : (i k : ℕ) → holdable (getD samples i 0) ≡ true → k < runAt samples i → getD samples (i + k) 0 ≡ getD samples i 0
-    equal-words i zero h inside = ap (λ (j : ℕ). getD samples j 0) (omega arith)
-    equal-words i (suc k) h inside =
-        let before = equal-words i k h (omega arith) in
-        let met = run-met (continuesAt samples) (i + 1) (length samples - (i + 1)) k (omega arith) in
-        let there : i + suc k ≡ i + 1 + k = omega arith in
-        let back : i + 1 + k - 1 ≡ i + k = omega arith in
-        let last : getD samples (i + 1 + k - 1) 0 ≡ getD samples i 0 = ap (λ (j : ℕ). getD samples j 0) back ∙ before in
-        ap (λ (j : ℕ). getD samples j 0) there ∙ sym (same-word _ _ (ap holdable last ∙ h) met) ∙ last
-
     none-elsewhere : (most i : ℕ) → i < length samples → zeroAt samples i ≡ false → starts samples most 0 i ≡ false
     none-elsewhere most i inside other =
         let w = getD samples i 0 in
@@ -118,7 +88,7 @@ module _ (samples : List ℕ) where
         long (inl z) = both (z .zero) other
         long (inr k) =
             nothing i (omega (arith, k .sixteen, within-places (i + 1) (length samples - (i + 1)))) (k .held)
-            (λ j below. equal-words i j (k .held) (omega (arith, k .sixteen)))
+            (λ j below. equal-words samples i j (k .held) (omega (arith, k .sixteen)))
 
 pub zeros-as-before : ZerosAsBefore
 zeros-as-before samples most i inside z =

@@ -4,7 +4,7 @@ use Prim.Native.Nat.{ℕ}
 use mathlib.Core.Path.{_≡_, refl}
 use mathlib.Core.List.{List, [], _∷_, _++_, map}
 use lib.ListN.{replicate}
-use Rattle.inpaint.specs.Runs.{Stretch, runsAmong, runsOf}
+use Rattle.inpaint.specs.Runs.{Stretch, stretch, runsAmong, runsOf}
 
 -- 1/2, which stands around the runs, and two words that the bus holds: 1/4 and -3/4
 abbrev pub sound : List ℕ
@@ -29,9 +29,6 @@ infinite = λ n. replicate n 0x7f800000
 abbrev pub tooLoud : ℕ → List ℕ
 tooLoud = λ n. replicate n 0x47800001
 
-abbrev pub gap : ℕ → ℕ → Stretch
-gap start len = record { start = start; len = len }
-
 -- a recording, a limit, and the gaps of the runs that qualify
 pub record Row : Type 0 where
   pub samples : List ℕ
@@ -45,27 +42,27 @@ abbrev pub rows : List Row
 rows =
     -- "15 equal words are sound"; 16; 17
     row (sound ++ held 15 ++ sound) 48 []
-    ∷ row (sound ++ held 16 ++ sound) 48 (gap 2 15 ∷ [])
-    ∷ row (sound ++ held 17 ++ sound) 48 (gap 2 16 ∷ [])
+    ∷ row (sound ++ held 16 ++ sound) 48 (stretch 2 15 ∷ [])
+    ∷ row (sound ++ held 17 ++ sound) 48 (stretch 2 16 ∷ [])
     -- at either end: "the gap must touch neither"
-    ∷ row (held 16 ++ sound) 48 (gap 1 15 ∷ [])
+    ∷ row (held 16 ++ sound) 48 (stretch 1 15 ∷ [])
     ∷ row (sound ++ held 16) 48 []
     -- directly before zeros, and directly behind them
-    ∷ row (sound ++ held 16 ++ zeros ++ sound) 48 (gap 2 15 ∷ gap 17 2 ∷ [])
-    ∷ row (sound ++ zeros ++ held 16 ++ sound) 48 (gap 1 2 ∷ gap 4 15 ∷ [])
+    ∷ row (sound ++ held 16 ++ zeros ++ sound) 48 (stretch 2 15 ∷ stretch 17 2 ∷ [])
+    ∷ row (sound ++ zeros ++ held 16 ++ sound) 48 (stretch 1 2 ∷ stretch 4 15 ∷ [])
     -- directly before NaN and behind zeros, which are one run with it; one word behind the other
-    ∷ row (sound ++ held 16 ++ nans ++ zeros ++ held 16 ++ sound) 48 (gap 2 15 ∷ gap 17 4 ∷ gap 22 15 ∷ [])
-    ∷ row (sound ++ held 16 ++ heldOther 16 ++ sound) 48 (gap 2 15 ∷ gap 18 15 ∷ [])
+    ∷ row (sound ++ held 16 ++ nans ++ zeros ++ held 16 ++ sound) 48 (stretch 2 15 ∷ stretch 17 4 ∷ stretch 22 15 ∷ [])
+    ∷ row (sound ++ held 16 ++ heldOther 16 ++ sound) 48 (stretch 2 15 ∷ stretch 18 15 ∷ [])
     -- the limit exactly, and one more: "under the same length limit"
-    ∷ row (sound ++ held 17 ++ sound) 16 (gap 2 16 ∷ [])
+    ∷ row (sound ++ held 17 ++ sound) 16 (stretch 2 16 ∷ [])
     ∷ row (sound ++ held 18 ++ sound) 16 []
-    ∷ row (sound ++ zeros ++ sound) 2 (gap 1 2 ∷ [])
+    ∷ row (sound ++ zeros ++ sound) 2 (stretch 1 2 ∷ [])
     ∷ row (sound ++ zeros ++ nans ++ sound) 3 []
     -- "in range": neither is held
     ∷ row (sound ++ infinite 16 ++ sound) 48 []
     ∷ row (sound ++ tooLoud 16 ++ sound) 48 []
     -- a run of 16 zeros is a gap of 16
-    ∷ row (sound ++ replicate 16 0 ++ sound) 48 (gap 1 16 ∷ [])
+    ∷ row (sound ++ replicate 16 0 ++ sound) 48 (stretch 1 16 ∷ [])
     ∷ []
 
 pub rows-hold : map (λ (r : Row). runsOf (r .samples) (r .most)) rows ≡ map (λ (r : Row). r .gaps) rows

@@ -1,6 +1,7 @@
 pub mod Gap
 pub mod Auto
 pub mod Runs
+pub mod Dropouts
 pub mod Unheld
 pub mod Consequences
 pub mod Inner

@@ -22,13 +22,16 @@ pub record Stretch : Type 0 where
   pub start : ℕ
   pub len : ℕ
 
+abbrev pub stretch : ℕ → ℕ → Stretch
+stretch start len = record { start = start; len = len }
+
 -- the runs of the places from `from` on that qualify, ascending: those that begin at one of the n places from i on
 unfoldable pub runsAmong : List ℕ → ℕ → ℕ → ℕ → ℕ → List Stretch
 unfolding runLength continues qualifies kept
 runsAmong samples most from i zero = []
 runsAmong samples most from i (suc n) =
     let later = runsAmong samples most from (i + 1) n in
-    if starts samples most from i then record { start = gapAt samples i; len = gapLength samples i } ∷ later else later
+    if starts samples most from i then stretch (gapAt samples i) (gapLength samples i) ∷ later else later
 
 -- those of the whole recording
 abbrev pub runsOf : List ℕ → ℕ → List Stretch

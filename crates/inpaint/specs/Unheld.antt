@@ -9,7 +9,7 @@ use lib.Dec.{leb}
 use Rattle.leaves.specs.Choice.{if_then_else_}
 use Rattle.recording.specs.Runs.{begins, runLength}
 use Rattle.inpaint.specs.Auto.{zeroOrNan, holdable, runAt, heldRun, gapAllowed, starts}
-use Rattle.inpaint.specs.Runs.{Stretch, runsOf}
+use Rattle.inpaint.specs.Runs.{Stretch, stretch, runsOf}
 
 -- ---- The runs of document 01
 
@@ -33,7 +33,7 @@ unfolding begins runLength zeroOrNan
 zerosAmong samples most i zero = []
 zerosAmong samples most i (suc n) =
     let later = zerosAmong samples most (i + 1) n in
-    if zerosStart samples most i then record { start = i; len = zerosAt samples i } ∷ later else later
+    if zerosStart samples most i then stretch i (zerosAt samples i) ∷ later else later
 
 abbrev pub zerosOf : List ℕ → ℕ → List Stretch
 zerosOf samples most = zerosAmong samples most 0 (length samples)

@@ -118,6 +118,21 @@ module _ (test : ℕ → Bool) where
           let none : runLength test i (suc n) ≡ 0 = rw d refl in
           ap test (omega (arith, none)) ∙ d
 
+  -- so many places that meet the test, and behind them one that does not, are all of it
+  pub run-exact : (i n len : ℕ) → len < n → ((k : ℕ) → k < len → test (i + k) ≡ true) → test (i + len) ≡ false
+      → runLength test i n ≡ len
+  unfolding runLength
+  run-exact i zero len h all stop = absurd (omega arith)
+  run-exact i (suc n) zero h all stop =
+      let out : test i ≡ false = ap test (omega arith) ∙ stop in
+      rw out refl
+  run-exact i (suc n) (suc len) h all stop =
+      let here : test i ≡ true = ap test (omega arith) ∙ all 0 (omega arith) in
+      let later =
+      run-exact (i + 1) n len (omega arith) (λ k b. ap test (omega arith) ∙ all (suc k) (omega arith)) (ap test (omega arith) ∙ stop)
+      in
+      rw (here, later) refl
+
 -- ---- Two tests that agree on the places of a run
 
 module _ (test other : ℕ → Bool) where

@@ -24,10 +24,10 @@ use Rattle.recording.specs.declared.Verdict.the-variants.{Yes, No}
 abbrev pub RefusalChangesNothing : Type 0
 RefusalChangesNothing = (c : Call) (s : State) (why : Reason) → did c s .answer ≡ Refused why → did c s .after ≡ s
 
--- a place is one of these
-abbrev pub Among : ℕ → List ℕ → Type 0
-Among i [] = ⊥
-Among i (j ∷ js) = (i ≡ j) ⊎ Among i js
+-- it is one of these
+abbrev pub Among : {A : Type 0} → A → List A → Type 0
+Among x [] = ⊥
+Among x (y ∷ ys) = (x ≡ y) ⊎ Among x ys
 
 -- the named samples get their words, "exactly the samples it names" get the mark, and no other sample's word changes
 pub record MadeOf (mark : ℕ) (cs : List Placed) (before after : State) : Type 0 where

@@ -2,7 +2,7 @@
 use super::How::Library;
 use super::{Finds, Standin, Table};
 use crate::call::Call;
-use crate::inpaint::{limit, qualified, Gap, MOST_RATE, SCAN_PASSES};
+use crate::inpaint::{held, is_lost, limit, lost, qualified, Gap, HELD_RUN, LOST_RUN, MOST_RATE, SCAN_PASSES};
 use crate::lent::Lent;
 use crate::settings::OfScan;
 
@@ -181,7 +181,7 @@ const STANDINS: &[Standin] = &[
 ];
 
 /// The settings of a scan that is not refused as a whole.
-fn allowed(lent: &Lent, call: Call) -> Option<OfScan> {
+pub(super) fn allowed(lent: &Lent, call: Call) -> Option<OfScan> {
     match call {
         Call::Scan { rate, max_gap_ms } if lent.recording().refused_by_any_call().is_none() => {
             qualified(&[], rate, max_gap_ms).map(|_| (rate, max_gap_ms))
@@ -197,7 +197,7 @@ fn runs_of(lent: &Lent, call: Call) -> Vec<Gap> {
 }
 
 /// Each of these runs is repaired, in this order. The numbers that are answered.
-fn repair(lent: &mut Lent, runs: &[Gap]) -> Vec<u32> {
+pub(super) fn repair(lent: &mut Lent, runs: &[Gap]) -> Vec<u32> {
     runs.iter().map(|run| lent.call(Call::Gap { gap: *run, passes: SCAN_PASSES })).collect()
 }
 
@@ -210,7 +210,7 @@ fn answer(lent: &mut Lent, number: u32, counts: [usize; 2]) -> u32 {
 }
 
 /// The scan answers as document 01 has it where its runs were answered with these numbers.
-fn answer_of(lent: &mut Lent, numbers: &[u32]) -> u32 {
+pub(super) fn answer_of(lent: &mut Lent, numbers: &[u32]) -> u32 {
     let repaired = numbers.iter().filter(|number| **number == 0).count();
     let first = numbers.iter().find(|number| **number != 0);
     answer(lent, first.copied().unwrap_or(0), [numbers.len(), repaired])
@@ -228,7 +228,7 @@ fn over(lent: &mut Lent, runs: &[Gap]) -> u32 {
 }
 
 /// A scan that is not refused as a whole repairs the runs that this makes of the samples.
-fn with_runs(lent: &mut Lent, call: Call, runs: impl FnOnce(&[u32], OfScan) -> Vec<Gap>) -> u32 {
+pub(super) fn with_runs(lent: &mut Lent, call: Call, runs: impl FnOnce(&[u32], OfScan) -> Vec<Gap>) -> u32 {
     match allowed(lent, call) {
         Some(settings) => {
             let runs = runs(lent.samples(), settings);
@@ -236,11 +236,6 @@ fn with_runs(lent: &mut Lent, call: Call, runs: impl FnOnce(&[u32], OfScan) -> V
         }
         None => lent.call(call),
     }
-}
-
-/// Whether a sample is a dropout.
-fn drops_out(x: f32) -> bool {
-    x == 0.0 || x.is_nan()
 }
 
 /// The longest runs of samples that are so, each like the one before it.
@@ -256,9 +251,16 @@ fn runs_where(samples: &[u32], so: fn(f32) -> bool, like: fn(f32, f32) -> bool) 
     runs
 }
 
-/// The dropout runs.
+/// The gaps of two lists, in their order.
+pub(super) fn in_order(mut gaps: Vec<Gap>, others: Vec<Gap>) -> Vec<Gap> {
+    gaps.extend(others);
+    gaps.sort_unstable_by_key(|gap| gap.start);
+    gaps
+}
+
+/// The runs of zeros and NaN, those of one sample among them, and the gaps of held words.
 fn dropouts(samples: &[u32]) -> Vec<Gap> {
-    runs_where(samples, drops_out, |_, _| true)
+    in_order(lost(samples), held(samples, HELD_RUN))
 }
 
 fn touches_start(run: Gap) -> bool {
@@ -270,9 +272,8 @@ fn touches_end(run: Gap, n: usize) -> bool {
 }
 
 /// The runs that qualify of these in n samples, with this limit.
-fn qualifying(runs: Vec<Gap>, n: usize, limit: usize) -> Vec<Gap> {
-    let qualifies = |run: &Gap| (2..=limit).contains(&run.len) && !touches_start(*run) && !touches_end(*run, n);
-    runs.into_iter().filter(qualifies).collect()
+pub(super) fn qualifying(runs: Vec<Gap>, n: usize, limit: usize) -> Vec<Gap> {
+    runs.into_iter().filter(|run| run.len >= LOST_RUN && run.is_allowed(n, limit)).collect()
 }
 
 /// A scan with this limit.
@@ -280,10 +281,11 @@ fn with_limit(lent: &mut Lent, call: Call, limit: fn(OfScan) -> usize) -> u32 {
     with_runs(lent, call, |samples, settings| qualifying(dropouts(samples), samples.len(), limit(settings)))
 }
 
-/// A scan with these for dropouts.
+/// A scan with these for dropouts in the place of zeros and NaN.
 fn with_dropouts(lent: &mut Lent, call: Call, so: fn(f32) -> bool, like: fn(f32, f32) -> bool) -> u32 {
     with_runs(lent, call, |samples, (rate, max_gap_ms)| {
-        qualifying(runs_where(samples, so, like), samples.len(), limit(rate, max_gap_ms))
+        let runs = in_order(runs_where(samples, so, like), held(samples, HELD_RUN));
+        qualifying(runs, samples.len(), limit(rate, max_gap_ms))
     })
 }
 
@@ -373,11 +375,11 @@ fn scan_infinity_is_one(lent: &mut Lent, call: Call) -> u32 {
 }
 
 fn scan_subnormal_is_one(lent: &mut Lent, call: Call) -> u32 {
-    with_dropouts(lent, call, |x| drops_out(x) || x.is_subnormal(), |_, _| true)
+    with_dropouts(lent, call, |x| is_lost(x.to_bits()) || x.is_subnormal(), |_, _| true)
 }
 
 fn scan_zeros_and_nan_apart(lent: &mut Lent, call: Call) -> u32 {
-    with_dropouts(lent, call, drops_out, |x, y| x.is_nan() == y.is_nan())
+    with_dropouts(lent, call, |x| is_lost(x.to_bits()), |x, y| x.is_nan() == y.is_nan())
 }
 
 fn scan_shorter_runs_too(lent: &mut Lent, call: Call) -> u32 {
@@ -404,7 +406,7 @@ fn scan_skips_two(lent: &mut Lent, call: Call) -> u32 {
         let mut found = Vec::new();
         for run in dropouts(samples) {
             let start = run.start.max(from);
-            let seen = Gap { start, len: run.start + run.len - start };
+            let seen = Gap { start, len: (run.start + run.len).saturating_sub(start) };
             if !qualifying(vec![seen], n, most).is_empty() {
                 from = run.start + run.len + 2;
                 found.push(seen);

@@ -1,11 +1,10 @@
 //! One scan by both sides, and by the original where nothing is refused, and what is counted of it.
-use cathar_host::both::Both;
+use cathar_host::both::{Both, Wrong};
 use cathar_host::count::{Class, Count};
 use cathar_host::damage;
 use cathar_host::draw::Draw;
-use cathar_host::inpaint::{limit, qualified, Scan};
-use cathar_host::original;
-use cathar_host::recording::{entry_words, BLOCK};
+use cathar_host::inpaint::{limit, qualified, scanned_by_original, Scan};
+use cathar_host::recording::{entry_words, Recording, BLOCK};
 use cathar_host::room::{self, Room};
 use cathar_host::settings::OfScan;
 use cathar_host::shapes::Shape;
@@ -84,22 +83,35 @@ pub const CLASSES: &[Class<Call>] = &[
 /// Both sides scan in a workspace of these patterns, and the original too where nothing is refused. The answer
 /// is the model's.
 pub fn scan(count: &mut Scans, both: &mut Both, settings: OfScan, work: Vec<u64>) -> Scan {
-    let before: Vec<f32> = both.model.samples.iter().map(|word| f32::from_bits(*word)).collect();
+    let samples = both.model.samples.len();
+    let (scan, wrong) = scanned(both, settings, work);
+    let has_wrong_count = both.model.has_wrong_count();
+    count.take(&Call { samples, settings, scan: scan.clone(), has_wrong_count }, &wrong);
+    scan
+}
+
+/// The same, with what is wrong and not counted yet.
+pub fn scanned(both: &mut Both, settings: OfScan, work: Vec<u64>) -> (Scan, Wrong) {
+    let before = both.model.samples.clone();
     let (scan, mut wrong) = both.inpaint_auto(settings, work);
     if scan.number() == 0 {
-        let after = original::inpaint_auto(&before, settings.0, settings.1);
+        let after = scanned_by_original(&before, settings.0, settings.1, &scan.gaps());
         if !after.iter().map(|x| x.to_bits()).eq(both.model.samples.iter().copied()) {
             wrong.push("the original's samples from the model's");
         }
     }
-    let has_wrong_count = both.model.has_wrong_count();
-    count.take(&Call { samples: before.len(), settings, scan: scan.clone(), has_wrong_count }, &wrong);
-    scan
+    (scan, wrong)
 }
 
-/// Both sides scan these samples. The workspace is enough for all runs or one short for the longest, and the
-/// journal enough for all or one short for the last, or both are enough for any one of the runs and no more.
+/// Both sides scan these samples in any room.
 pub fn scan_any(count: &mut Scans, draw: &mut Draw, samples: &[u32], settings: OfScan) -> Scan {
+    let (model, work) = any_room(draw, samples, settings);
+    scan(count, &mut Both::new(model), settings, work)
+}
+
+/// What is lent to a scan of these samples. The workspace is enough for all runs or one short for the longest, and the
+/// journal enough for all or one short for the last, or both are enough for any one of the runs and no more.
+pub fn any_room(draw: &mut Draw, samples: &[u32], settings: OfScan) -> (Recording, Vec<u64>) {
     let runs = qualified(samples, settings.0, settings.1).unwrap_or_default();
     let needed: Vec<usize> = runs.iter().map(|run| run.needed(samples.len())).collect();
     let entries: Vec<usize> = runs.iter().map(|run| entry_words(run.len)).collect();
@@ -114,8 +126,7 @@ pub fn scan_any(count: &mut Scans, draw: &mut Draw, samples: &[u32], settings: O
     let work = Room::any(draw).of(draw, work);
     let work = room::work(draw, work);
     let free = Room::any(draw).of(draw, free);
-    let model = room::recording(draw, samples.to_vec(), free);
-    scan(count, &mut Both::new(model), settings, work)
+    (room::recording(draw, samples.to_vec(), free), work)
 }
 
 /// Samples of a shape with up to eight dropouts of at most so many samples, and at times with a sample that is not

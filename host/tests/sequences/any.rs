@@ -116,7 +116,7 @@ pub fn unopened(draw: &mut Draw, opened: Recording, opening: Call) -> Recording 
     recording
 }
 
-/// Samples that are clipped, have clicks, drop out and are not in range: each or not. Mostly what drops out is in
+/// Samples that are clipped, have clicks, drop out, are held and are not in range: each or not. Mostly what drops out is in
 /// range, so that a repair over the whole recording may follow.
 fn damaged(draw: &mut Draw, samples: &mut [u32]) {
     if once_in(draw, 3) {
@@ -129,6 +129,9 @@ fn damaged(draw: &mut Draw, samples: &mut [u32]) {
         let words = if once_in(draw, 3) { &DROPOUTS[..] } else { &DROPOUTS[..ZEROS] };
         let longest = from_to(draw, 2, DROPOUT);
         damage::drop_out(draw, samples, longest, words);
+    }
+    if once_in(draw, 3) {
+        damage::hold(draw, samples);
     }
     if once_in(draw, 12) {
         damage::overload(draw, samples);
@@ -211,7 +214,7 @@ fn within(draw: &mut Draw, n: usize) -> Gap {
 
 /// Any scan. Its workspace is mostly enough for all runs, and at times for any one of them.
 fn scan(draw: &mut Draw, samples: &[u32]) -> Call {
-    let limit = from_to(draw, 3, 12);
+    let limit = from_to(draw, 3, 18);
     let settings = match draw.below(16) {
         0 => NO_SCANS[draw.below(NO_SCANS.len() as u64) as usize],
         1..=8 => USUAL,

@@ -30,8 +30,9 @@ pub struct Outcome {
     pub undone: usize,
     /// The single repairs that were accepted and named a sample, in their order. Of a scan those of its runs.
     pub named: Vec<Named>,
-    /// How many runs of a scan were refused.
+    /// How many runs of a scan were refused, and how many that were repaired are of held words.
     pub refused_runs: usize,
+    pub held_runs: usize,
 }
 
 impl Call {
@@ -57,8 +58,9 @@ impl Call {
                 (of_repair(answer, || of_gap(gap, passes, n)), wrong)
             }
             Call::Scan { settings, work } => {
+                let before = both.model.samples.clone();
                 let (scan, wrong) = both.inpaint_auto(settings, room::work(draw, work));
-                (of_runs(&scan, n), wrong)
+                (of_runs(&scan, &before), wrong)
             }
             Call::Whole { repair, work } => {
                 let (answer, wrong) = both.repair(repair, room::words(draw, work));
@@ -75,7 +77,7 @@ fn of_gap(gap: Gap, passes: u32, n: usize) -> Call {
 
 /// The outcome of a call that names no sample.
 fn of_answer(answer: Answer) -> Outcome {
-    Outcome { number: answer.number(), undone: 0, named: Vec::new(), refused_runs: 0 }
+    Outcome { number: answer.number(), undone: 0, named: Vec::new(), refused_runs: 0, held_runs: 0 }
 }
 
 /// The outcome of a single repair, which is this one with just enough workspace.
@@ -86,10 +88,11 @@ fn of_repair(answer: Answer, exact: impl FnOnce() -> Call) -> Outcome {
     }
 }
 
-/// The outcome of a scan of n samples: "each run is one gap repair with its own answer".
-fn of_runs(scan: &Scan, n: usize) -> Outcome {
+/// The outcome of a scan of these samples: "each run is one gap repair with its own answer".
+fn of_runs(scan: &Scan, before: &[u32]) -> Outcome {
     let accepted = scan.runs().iter().filter(|(_, answer)| answer.number() == 0);
-    let named = accepted.map(|(run, answer)| (of_gap(*run, SCAN_PASSES, n), answer.value())).collect();
+    let held_runs = accepted.clone().filter(|(run, _)| run.is_held(before)).count();
+    let named = accepted.map(|(run, answer)| (of_gap(*run, SCAN_PASSES, before.len()), answer.value())).collect();
     let refused_runs = scan.qualified() - scan.repaired();
-    Outcome { number: scan.number(), undone: 0, named, refused_runs }
+    Outcome { number: scan.number(), undone: 0, named, refused_runs, held_runs }
 }

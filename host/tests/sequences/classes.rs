@@ -93,6 +93,12 @@ pub const CALLS: &[Class<Step>] = &[
     Class { name: "a gap by line", least: 20, holds: |s| s.names_by(Kind::Line) },
     Class { name: "a scan", least: 1_200, holds: |s| s.names_by(Kind::Scan) },
     Class { name: "of several runs", least: 400, holds: |s| s.is(Kind::Scan) && s.outcome.named.len() > 1 },
+    Class { name: "of a held run", least: 200, holds: |s| s.outcome.held_runs > 0 },
+    Class {
+        name: "of runs of both kinds",
+        least: 50,
+        holds: |s| s.outcome.held_runs > 0 && s.outcome.named.len() > s.outcome.held_runs,
+    },
     Class { name: "refused in part", least: 150, holds: |s| s.names_by(Kind::Scan) && s.outcome.refused_runs > 0 },
     Class { name: "declip", least: 3_000, holds: |s| s.names_by(Kind::Declip) },
     Class { name: "decrackle", least: 3_000, holds: |s| s.names_by(Kind::Decrackle) },

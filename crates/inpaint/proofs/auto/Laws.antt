@@ -410,7 +410,7 @@ pub record Found (samples : List ℕ) (most from i start len : ℕ) : Type 0 whe
   pub len-is : gapLength samples at ≡ len
 
 -- place i itself, or what is found from the next on
-found-there : (samples : List ℕ) (most from i : ℕ) → starts samples most from i ≡ true
+unfoldable pub found-there : (samples : List ℕ) (most from i : ℕ) → starts samples most from i ≡ true
     → Found samples most from i (gapAt samples i) (gapLength samples i)
 found-there samples most from i t =
     record {
