@@ -79,7 +79,7 @@ pub const CLASSES: &[Class<Call>] = &[
     },
     Class {
         name: "all repaired, the original's gap by gap",
-        least: 20_000,
+        least: 10_000,
         holds: |c| c.scan.number() == 0 && c.repaired(true).count() > 0,
     },
     Class { name: "several held runs repaired", least: 5_000, holds: |c| c.repaired(true).count() > 1 },
@@ -188,7 +188,8 @@ const EDGES: [u32; 8] = [1, 0x8000_0001, 0x007f_ffff, 0x0080_0000, 0x3080_0000, 
 fn any_piece(draw: &mut Draw, shape: Shape, most: usize) -> Vec<u32> {
     let beside = |draw: &mut Draw, length: usize| (length + draw.below(5) as usize).saturating_sub(2).max(1);
     let run = if draw.below(3) == 0 { most.min(60) + 1 } else { HELD_RUN };
-    let sound = shape.samples(draw, 1 + draw.below(12) as usize);
+    let few = 1 + draw.below(12) as usize;
+    let sound = shape.samples(draw, few);
     match draw.below(24) {
         0..=7 => sound,
         8..=16 => {
@@ -204,7 +205,8 @@ fn any_piece(draw: &mut Draw, shape: Shape, most: usize) -> Vec<u32> {
         22 => words((ZEROS, beside(draw, run))).collect(),
         _ => {
             let word = [NAN[0], NAN[1], TOO_LOUD[0], 0x7f80_0000][draw.below(4) as usize];
-            vec![word; beside(draw, if draw.below(2) == 0 { LOST_RUN } else { HELD_RUN })]
+            let run = [LOST_RUN, HELD_RUN][draw.below(2) as usize];
+            vec![word; beside(draw, run)]
         }
     }
 }
