@@ -263,7 +263,8 @@ static inline size_t cathar_longest_gap_work(size_t n, size_t longest)
  * longest run of
  *   at least 2 samples that are zeros or NaN, those of missing frames among them: all of it is the gap; or
  *   at least CATHAR_HELD_RUN samples of the same word, in range and not zero, as of a bus that went silent and
- *   holds its last word: the first sample was measured and stays, and the others are the gap.
+ *   holds its last word: the first sample was measured and stays, and the others are the gap. Nothing tells them
+ *   from sound that is clipped, or stands still, at one word for as long: who declips does it before the scan.
  * It qualifies if its gap has at most as many samples as the limit and touches neither end of the recording. The
  * runs are those of the recording as the call began. The limit is (max_gap_ms/1000)*rate in floats, raised to 1 and
  * cut to a whole number; a product of +infinity means no limit.
