@@ -1,9 +1,9 @@
 -- What a dropout run is made of, and what stands on either side of it; so the runs of a scan are those that the documents describe, and no
 -- others. Assumes nothing.
 use mathlib.Core.Path.{_≡_, refl, sym, ap, subst, _∙_}
-use mathlib.Core.Bool.{Bool, true, false, not, and-false}
-use mathlib.Core.List.{List, _∷_}
-use mathlib.Core.Logic.{_⊎_, inl, inr}
+use mathlib.Core.Bool.{true, false, and-false}
+use mathlib.Core.List.{List}
+use mathlib.Core.Logic.{inl, inr}
 use Prim.Native.Nat.{ℕ, zero, suc, _+_, _-_, _≤_, _<_}
 use native.Mathlib.Decide.{ℕ-discrete}
 use native.Mathlib.Omega.{arith}
@@ -17,8 +17,8 @@ use Rattle.inpaint.specs.Auto.{zeroOrNan, holdable, continues, continues
 use Rattle.inpaint.specs.Auto.{gapAt, gapLength, gapAllowed, qualifies, starts}
 use Rattle.inpaint.specs.Runs.{Stretch, stretch, runsAmong, runsOf}
 use Rattle.inpaint.specs.Dropouts.{Lost, Held, Dropout, RunsInWords}
-use Rattle.inpaint.proofs.auto.Laws.{both, zero-not-held, continues-zeros, enough-zeros, enough-held, OfZeros, OfHeld}
-use Rattle.inpaint.proofs.auto.Laws.{kept-zeros, kept-held, more, qualifies-gap, Found, found-there, Fit, fits}
+use Rattle.inpaint.proofs.auto.Runs.{both, zero-not-held, continues-zeros, enough-zeros, enough-held, OfZeros, OfHeld}
+use Rattle.inpaint.proofs.auto.Runs.{kept-zeros, kept-held, more, qualifies-gap, Found, found-there, Fit, fits}
 
 -- ---- What one word tells of the next
 
@@ -140,8 +140,11 @@ module _ (samples : List ℕ) (most i : ℕ) (here : starts samples most 0 i ≡
             λ j below. ap (λ (m : ℕ). getD samples (m + j) 0) back
             ∙ equal-words samples i j (k .held) (omega (arith, whole))
             ∙ sym gap-word;
-        before = λ later same. both (same-goes-on _ _ (k .held) (ap (λ (m : ℕ). getD samples m 0) two-back ∙ same ∙ gap-word)) (anew (omega (arith, first)));
-        behind = λ same. both (same-goes-on _ _ (ap holdable (same ∙ gap-word) ∙ k .held) (last ∙ sym (same ∙ gap-word))) (found-behind f);
+        before =
+            λ later same. both (same-goes-on _ _ (k .held) (ap (λ (m : ℕ). getD samples m 0) two-back ∙ same ∙ gap-word))
+            (anew (omega (arith, first)));
+        behind =
+            λ same. both (same-goes-on _ _ (ap holdable (same ∙ gap-word) ∙ k .held) (last ∙ sym (same ∙ gap-word))) (found-behind f);
         least = omega (arith, k .sixteen, whole);
       }
     where
@@ -222,7 +225,9 @@ of-lost samples most start len d z =
     record {
       begin = start;
       inside = omega (arith, d .inside);
-      here = starts-there samples most start begins long (omega (arith, len-is, d .short)) (omega (arith, none, d .later)) (omega (arith, none, len-is, d .inside));
+      here =
+          starts-there samples most start begins long (omega (arith, len-is, d .short)) (omega (arith, none, d .later))
+          (omega (arith, none, len-is, d .inside));
       start-is = omega (arith, none);
       len-is = len-is;
     }
@@ -267,7 +272,9 @@ of-equal samples most start len d h =
     record {
       begin = begin;
       inside = omega (arith, d .inside);
-      here = starts-there samples most begin begins long (omega (arith, len-is, d .short)) (omega (arith, one)) (omega (arith, start-is, len-is, d .inside));
+      here =
+          starts-there samples most begin begins long (omega (arith, len-is, d .short)) (omega (arith, one))
+          (omega (arith, start-is, len-is, d .inside));
       start-is = start-is;
       len-is = len-is;
     }

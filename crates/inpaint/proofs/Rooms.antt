@@ -14,7 +14,7 @@ use lib.Ieee.{Float}
 use borrow.Author.Tests.{ltb-true, ltb-false}
 use Rattle.leaves.specs.Floats.{inRange}
 use Rattle.recording.specs.Answers.{number}
-use Rattle.recording.specs.Recording.{State, Ended, Placed, each, span, Plan, refuse, change, places, entry, entrySize}
+use Rattle.recording.specs.Recording.{State, Ended, Placed, span, Plan, refuse, change, places, entry, entrySize}
 use Rattle.recording.specs.Recording.{fitting, ranged, entered, committed, carried, performed, called}
 use Rattle.recording.specs.Recording.{unlessRefused}
 use Rattle.recording.specs.Inner.{Fits}
@@ -24,7 +24,7 @@ use Rattle.recording.proofs.commit.Laws.{length-span}
 use Rattle.recording.proofs.open.Laws.{fitting-by, fits-done, accepted-fits}
 use Rattle.recording.proofs.UndoCommit.{after-fits}
 use Rattle.recording.proofs.Entering.{Enters, Ending, unnamed, turned-away, enters, ending, enters-ends}
-use Rattle.leaves.proofs.Choice.{EitherWay, truth, picks, picks-by, both-hold}
+use Rattle.leaves.proofs.Choice.{picks, picks-by}
 use Rattle.model.specs.Model.{doublesFor}
 use Rattle.recording.proofs.Put.{length-put}
 use Rattle.inpaint.specs.Gap.{gapWrong, needed, gapPlan, gapRepair}
@@ -33,7 +33,8 @@ use Rattle.inpaint.specs.Runs.{Stretch, runsAmong, runsOf, gapCalls, ans
 use Rattle.inpaint.specs.Consequences.{NeededAtMost, EachNumber, OwnAnswers, densePlaces, denseWords, DenseSuffices, WideSuffices}
 use Rattle.inpaint.specs.declared.Run.{Run}
 use Rattle.inpaint.specs.declared.Run.the-variants.{At, Nowhere}
-use Rattle.inpaint.proofs.auto.Laws.{OfZeros, OfHeld, Found, found-run, Fit, fits, scannable-unfit}
+use Rattle.inpaint.proofs.auto.Laws.{scannable-unfit}
+use Rattle.inpaint.proofs.auto.Runs.{OfZeros, OfHeld, Found, found-run, Fit, fits}
 use Rattle.inpaint.proofs.window.Laws.{right-gap, context-least, context-most, needed-within}
 use Rattle.inpaint.proofs.Lawful.{plan-holds, gap-lawful}
 use Rattle.inpaint.proofs.Dropouts.{zeros-end}

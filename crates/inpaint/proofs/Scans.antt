@@ -28,7 +28,7 @@ use Rattle.recording.proofs.Single.{above-zero}
 use Rattle.recording.proofs.Put.{length-put, put-elsewhere}
 use Rattle.recording.proofs.Runs.{length-same, run-met}
 use Rattle.inpaint.specs.Gap.{needed, gapPlan, gapRepair}
-use Rattle.inpaint.specs.Auto.{limit, continues, continuesAt, runBegins, runAt, gapAt, gapLength, starts}
+use Rattle.inpaint.specs.Auto.{limit, continues, continuesAt, runBegins, gapAt, gapLength, starts}
 use Rattle.inpaint.specs.Auto.{nextAmong, nextRun}
 use Rattle.inpaint.specs.Auto.{Scan, scan, sourcePasses, repairAt, scanFrom, scannable, automatic}
 use Rattle.inpaint.specs.Runs.{Stretch, stretch, runsAmong, runsOf, gapCalls, answers, acceptances, firstRefusal}
@@ -36,7 +36,8 @@ use Rattle.inpaint.specs.Runs.{ScanIsItsRuns, ScanCountsItsRuns}
 use Rattle.inpaint.specs.Consequences.{ScanLawful, RefusedScan}
 use Rattle.inpaint.specs.declared.Run.{Run}
 use Rattle.inpaint.specs.declared.Run.the-variants.{At, Nowhere}
-use Rattle.inpaint.proofs.auto.Laws.{Found, found-run, Fit, fits, scan-stops, scan-takes}
+use Rattle.inpaint.proofs.auto.Laws.{scan-stops, scan-takes}
+use Rattle.inpaint.proofs.auto.Runs.{Found, found-run, Fit, fits}
 use Rattle.inpaint.proofs.auto.Laws.{automatic-refused, automatic-scanned}
 use Rattle.inpaint.proofs.Dropouts.{found-behind}
 use Rattle.inpaint.proofs.Lawful.{plan-holds, gap-lawful}

@@ -1,26 +1,24 @@
 -- What request P1 left as it was: at a zero or a NaN runs begin, end and qualify as document 01 had it, and where no word is held there
 -- are no others. Assumes nothing.
 use mathlib.Core.Path.{_≡_, refl, sym, ap, _∙_}
-use mathlib.Core.Bool.{true, false, not, and-false}
-use mathlib.Core.List.{List, _∷_}
+use mathlib.Core.Bool.{true, false, and-false}
+use mathlib.Core.List.{List}
 use mathlib.Core.Logic.{_⊎_, inl, inr}
 use Prim.Native.Nat.{ℕ, zero, suc, _+_, _-_, _≤_, _<_}
-use native.Mathlib.Decide.{ℕ-discrete}
 use native.Mathlib.Numerals.{add-one}
 use native.Mathlib.Omega.{arith}
-use borrow.Author.Tests.{eqb-true}
 use lib.Dec.{eqb}
 use lib.ListN.{length, getD}
-use Rattle.leaves.proofs.Choice.{truth, EitherWay, both-hold}
+use Rattle.leaves.proofs.Choice.{truth, EitherWay}
 use Rattle.recording.specs.Runs.{begins, runLength}
-use Rattle.recording.proofs.Runs.{begins-not, begins-first, begins-after, run-met}
-use Rattle.inpaint.specs.Auto.{zeroOrNan, holdable, continues, continuesAt, runBegins, runAt, heldRun, longEnough, kept}
-use Rattle.inpaint.specs.Auto.{gapAllowed, qualifies, starts}
-use Rattle.inpaint.specs.Runs.{Stretch, runsAmong}
-use Rattle.inpaint.specs.Unheld.{zeroAt, zerosAt, zerosQualify, zerosStart, zerosAmong, ZerosAsBefore, NothingHeld, UnheldAsBefore}
+use Rattle.recording.proofs.Runs.{begins-not}
+use Rattle.inpaint.specs.Auto.{zeroOrNan, continuesAt, runBegins, runAt, longEnough}
+use Rattle.inpaint.specs.Auto.{qualifies, starts}
+use Rattle.inpaint.specs.Runs.{runsAmong}
+use Rattle.inpaint.specs.Unheld.{zeroAt, zerosAt, zerosQualify, zerosAmong, ZerosAsBefore, NothingHeld, UnheldAsBefore}
 use Rattle.inpaint.proofs.Dropouts.{back-to-zero, equal-words}
-use Rattle.inpaint.proofs.auto.Laws.{both, zero-not-held, continues-zeros, enough-zeros, OfZeros, OfHeld, kind-of, kept-zeros}
-use Rattle.inpaint.proofs.auto.Laws.{qualifies-short}
+use Rattle.inpaint.proofs.auto.Runs.{both, zero-not-held, continues-zeros, enough-zeros, OfZeros, OfHeld, kind-of, kept-zeros}
+use Rattle.inpaint.proofs.auto.Runs.{qualifies-short}
 
 module _ (samples : List ℕ) where
   -- ---- At a zero or a NaN

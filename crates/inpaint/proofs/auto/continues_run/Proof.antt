@@ -1,7 +1,7 @@
 -- `inpaint::auto::continues_run` meets its contract: each way out is a line of the rule. Assumes nothing.
 use borrow.Author.Needs.{needs}
 use mathlib.Core.Path.{sym, _∙_}
-use Rattle.inpaint.proofs.auto.Laws.{continues-zeros, continues-other, continues-held}
+use Rattle.inpaint.proofs.auto.Runs.{continues-zeros, continues-other, continues-held}
 use Rattle.inpaint.proofs.auto.continues_run.Statement.{statement}
 use Rattle.inpaint.proofs.auto.continues_run.Tie as tie
 

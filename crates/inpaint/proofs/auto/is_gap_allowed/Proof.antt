@@ -1,6 +1,6 @@
 -- `inpaint::auto::is_gap_allowed` meets its contract: each way out is a line of the rule. Assumes nothing.
 use borrow.Author.Needs.{needs}
-use Rattle.inpaint.proofs.auto.Laws.{gap-long, gap-first, gap-end}
+use Rattle.inpaint.proofs.auto.Runs.{gap-long, gap-first, gap-end}
 use Rattle.inpaint.proofs.auto.is_gap_allowed.Statement.{statement}
 use Rattle.inpaint.proofs.auto.is_gap_allowed.Tie as tie
 

@@ -2,7 +2,7 @@
 use borrow.Author.Needs.{needs}
 use borrow.Author.Tests.{not-true, not-false}
 use mathlib.Core.Path.{sym, _∙_}
-use Rattle.inpaint.proofs.auto.Laws.{holdable-out, holdable-in}
+use Rattle.inpaint.proofs.auto.Runs.{holdable-out, holdable-in}
 use Rattle.inpaint.proofs.auto.is_holdable.Statement.{statement}
 use Rattle.inpaint.proofs.auto.is_holdable.Tie as tie
 

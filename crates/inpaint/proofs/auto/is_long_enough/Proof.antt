@@ -2,7 +2,7 @@
 use borrow.Author.Needs.{needs}
 use borrow.Author.Tests.{not-true, not-false}
 use mathlib.Core.Path.{sym, _∙_}
-use Rattle.inpaint.proofs.auto.Laws.{enough-zeros, enough-other, enough-held}
+use Rattle.inpaint.proofs.auto.Runs.{enough-zeros, enough-other, enough-held}
 use Rattle.inpaint.proofs.auto.is_long_enough.Statement.{statement}
 use Rattle.inpaint.proofs.auto.is_long_enough.Tie as tie
 

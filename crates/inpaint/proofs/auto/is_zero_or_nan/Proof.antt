@@ -1,6 +1,6 @@
 -- `inpaint::auto::is_zero_or_nan` meets its contract: only a NaN differs from itself. Assumes nothing.
 use borrow.Author.Needs.{needs}
-use Rattle.inpaint.proofs.auto.Laws.{zero-word, no-zero-word}
+use Rattle.inpaint.proofs.auto.Runs.{zero-word, no-zero-word}
 use Rattle.inpaint.proofs.auto.is_zero_or_nan.Statement.{statement}
 use Rattle.inpaint.proofs.auto.is_zero_or_nan.Tie as tie
 

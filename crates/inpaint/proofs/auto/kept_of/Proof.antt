@@ -1,7 +1,7 @@
 -- `inpaint::auto::kept_of` meets its contract: each way out is a line of the rule. Assumes nothing.
 use borrow.Author.Needs.{needs}
 use mathlib.Core.Path.{sym, _∙_}
-use Rattle.inpaint.proofs.auto.Laws.{kept-zeros, kept-held}
+use Rattle.inpaint.proofs.auto.Runs.{kept-zeros, kept-held}
 use Rattle.inpaint.proofs.auto.kept_of.Statement.{statement}
 use Rattle.inpaint.proofs.auto.kept_of.Tie as tie
 

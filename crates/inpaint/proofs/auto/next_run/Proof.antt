@@ -4,15 +4,13 @@
 use Prim.Native.Nat.{ℕ, _+_, _-_, _≤_, _<_}
 use mathlib.Core.Path.{_≡_, refl, sym, _∙_}
 use mathlib.Core.Bool.{Bool}
-use mathlib.Core.List.{List}
 use native.Mathlib.Omega.{arith}
 use borrow.Author.Needs.{needs}
 use borrow.Author.Tests.{not-true, not-false}
-use lib.ListN.{length}
 use Rattle.recording.proofs.Runs.{run-more, run-stops, run-ends}
 use Rattle.inpaint.specs.Auto.{continuesAt, nextRun}
 use Rattle.inpaint.specs.declared.Run.the-variants.{Nowhere}
-use Rattle.inpaint.proofs.auto.Laws.{keeps-one, more, searched, search-passes, search-fails, search-touches, search-finds, search-ends}
+use Rattle.inpaint.proofs.auto.Runs.{keeps-one, more, searched, search-passes, search-fails, search-touches, search-finds, search-ends}
 use Rattle.inpaint.proofs.auto.next_run.Statement.{statement}
 use Rattle.inpaint.proofs.auto.next_run.Tie as tie
 

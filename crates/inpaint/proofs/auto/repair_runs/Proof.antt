@@ -9,7 +9,8 @@ use borrow.Author.Needs.{needs}
 use lib.ListN.{length}
 use Rattle.recording.specs.Recording.{State, state}
 use Rattle.inpaint.specs.Auto.{scan, scanFrom}
-use Rattle.inpaint.proofs.auto.Laws.{at-most-one, search-ends, found-within, scan-stops, scan-turn}
+use Rattle.inpaint.proofs.auto.Laws.{at-most-one, scan-stops, scan-turn}
+use Rattle.inpaint.proofs.auto.Runs.{search-ends, found-within}
 use Rattle.inpaint.proofs.auto.repair_runs.Statement.{statement}
 use Rattle.inpaint.proofs.auto.repair_runs.Tie as tie
 

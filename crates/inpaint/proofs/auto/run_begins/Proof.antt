@@ -1,6 +1,6 @@
 -- `inpaint::auto::run_begins` meets its contract: each way out is a line of the rule. Assumes nothing.
 use borrow.Author.Needs.{needs}
-use Rattle.inpaint.proofs.auto.Laws.{begins-first, begins-after}
+use Rattle.inpaint.proofs.auto.Runs.{begins-first, begins-after}
 use Rattle.inpaint.proofs.auto.run_begins.Statement.{statement}
 use Rattle.inpaint.proofs.auto.run_begins.Tie as tie
 
@@ -26,7 +26,9 @@ continues-run-requires : tie.Need-continues-run-requires
 continues-run-requires c κs = search needs
 
 returns-2 : tie.Need-returns-2
-returns-2 c = begins-after (c .before .before .before .before .before .args .samples .now) _ _ _ (c .before .before .before .if1 .left) (c .continues-run .ensures)
+returns-2 c =
+    let other = c .before .before .before in
+    begins-after (other .before .before .args .samples .now) _ _ _ (other .if1 .left) (c .continues-run .ensures)
 
 pub run-begins-spec : {M : Type 1} → statement M
 run-begins-spec =

@@ -3,7 +3,7 @@ use borrow.Author.Needs.{needs}
 use borrow.Author.Tests.{not-true, not-false}
 use mathlib.Core.Path.{sym, _∙_}
 use native.Mathlib.Omega.{arith}
-use Rattle.inpaint.proofs.auto.Laws.{keeps-one, qualifies-short, qualifies-gap}
+use Rattle.inpaint.proofs.auto.Runs.{keeps-one, qualifies-short, qualifies-gap}
 use Rattle.inpaint.proofs.auto.run_qualifies.Statement.{statement}
 use Rattle.inpaint.proofs.auto.run_qualifies.Tie as tie
 
