@@ -116,7 +116,8 @@ fn run_begins(samples: &[u32], from: usize, i: usize) -> bool
     !continues_run(samples[i - 1], samples[i])
 }
 
-// Whether a run of `len` samples that begins with a word is long enough for a dropout.
+// Whether a run of `len` samples that begins with a word is long enough for a dropout: two zeros or NaN are,
+// and HELD_RUN of a word that is held.
 fn is_long_enough(word: u32, len: usize) -> bool
     ensures { λ r. ⌜ r ≡ longEnough word len ⌝ }
 {
