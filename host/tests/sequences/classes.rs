@@ -93,7 +93,7 @@ pub const CALLS: &[Class<Step>] = &[
     Class { name: "a gap by line", least: 20, holds: |s| s.names_by(Kind::Line) },
     Class { name: "a scan", least: 1_200, holds: |s| s.names_by(Kind::Scan) },
     Class { name: "of several runs", least: 400, holds: |s| s.is(Kind::Scan) && s.outcome.named.len() > 1 },
-    Class { name: "of a held run", least: 200, holds: |s| s.outcome.held_runs > 0 },
+    Class { name: "of a held run", least: 150, holds: |s| s.outcome.held_runs > 0 },
     Class {
         name: "of runs of both kinds",
         least: 50,
