@@ -63,7 +63,7 @@ float cathar_round(float x);
 #define CATHAR_LOUDEST 65536            /* the largest magnitude that is in range */
 #define CATHAR_MOST_BY_MODEL 2048       /* the longest gap that the model fills; a longer one becomes a line */
 #define CATHAR_MOST_RATE 16777216       /* the highest rate that a scan takes */
-#define CATHAR_HELD_RUN 16              /* so many equal words, or more, are a dropout; fewer are sound */
+#define CATHAR_HELD_RUN 16              /* so many equal words in range, or more, are a dropout; fewer are sound */
 #define CATHAR_LEAST_BITS 4             /* what the bits of both forms of dequantize are held to */
 #define CATHAR_MOST_BITS 24
 #define CATHAR_MOST_ITERATIONS 16       /* as many iterations are made at most */

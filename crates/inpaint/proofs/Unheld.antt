@@ -11,7 +11,7 @@ use lib.Dec.{eqb}
 use lib.ListN.{length, getD}
 use Rattle.leaves.proofs.Choice.{truth, EitherWay}
 use Rattle.recording.specs.Runs.{begins, runLength}
-use Rattle.recording.proofs.Runs.{begins-not}
+use Rattle.recording.proofs.Runs.{begins-not, run-within}
 use Rattle.inpaint.specs.Auto.{zeroOrNan, continuesAt, runBegins, runAt, longEnough}
 use Rattle.inpaint.specs.Auto.{qualifies, starts}
 use Rattle.inpaint.specs.Runs.{runsAmong}
@@ -63,17 +63,6 @@ module _ (samples : List ℕ) where
   -- ---- Elsewhere, where no word is held
 
   module _ (nothing : NothingHeld samples) where
-    -- a run from place i on is no longer than the places from there on
-    within-places : (i n : ℕ) → runLength (continuesAt samples) i n ≤ n
-    unfolding runLength
-    within-places i zero = omega arith
-    within-places i (suc n) = go (truth (continuesAt samples i)) (within-places (i + 1) n)
-      where
-        go : EitherWay (continuesAt samples i) → runLength (continuesAt samples) (i + 1) n ≤ n
-            → runLength (continuesAt samples) i (suc n) ≤ suc n
-        go (inl t) later = rw t (omega (arith, later))
-        go (inr t) later = rw t (omega arith)
-
     none-elsewhere : (most i : ℕ) → i < length samples → zeroAt samples i ≡ false → starts samples most 0 i ≡ false
     none-elsewhere most i inside other =
         let w = getD samples i 0 in
@@ -85,7 +74,7 @@ module _ (samples : List ℕ) where
         long : OfZeros (getD samples i 0) (runAt samples i) ⊎ OfHeld (getD samples i 0) (runAt samples i) → ⊥
         long (inl z) = both (z .zero) other
         long (inr k) =
-            nothing i (omega (arith, k .sixteen, within-places (i + 1) (length samples - (i + 1)))) (k .held)
+            nothing i (omega (arith, k .sixteen, run-within (continuesAt samples) (i + 1) (length samples - (i + 1)))) (k .held)
             (λ j below. equal-words samples i j (k .held) (omega (arith, k .sixteen)))
 
 pub zeros-as-before : ZerosAsBefore

@@ -48,7 +48,7 @@ holdable w = inRange w && not (eq (float w) nought)
 -- "equal words, in range and not zero"
 unfoldable pub continues : ℕ → ℕ → Bool
 unfolding zeroOrNan holdable
-continues v w = zeroOrNan v && zeroOrNan w || eqb v w && holdable w
+continues v w = (zeroOrNan v && zeroOrNan w) || (eqb v w && holdable w)
 
 abbrev pub continuesAt : List ℕ → ℕ → Bool
 continuesAt samples i = continues (getD samples (i - 1) 0) (getD samples i 0)
@@ -70,7 +70,7 @@ heldRun = 16
 -- is held if it has "16 or more"
 unfoldable pub longEnough : ℕ → ℕ → Bool
 unfolding zeroOrNan holdable
-longEnough w len = zeroOrNan w && leb 2 len || holdable w && leb heldRun len
+longEnough w len = (zeroOrNan w && leb 2 len) || (holdable w && leb heldRun len)
 
 -- its gap: all of it, but of a held word "its first sample is measured and the rest are the gap". This is how many samples the gap leaves
 -- at the run's begin;

@@ -85,6 +85,16 @@ module _ (test : ℕ → Bool) where
       go true e later = rw e (omega (arith, later))
       go false e later = rw e (omega arith)
 
+  -- it is no longer than the places that it may have
+  pub run-within : (i n : ℕ) → runLength test i n ≤ n
+  unfolding runLength
+  run-within i zero = omega arith
+  run-within i (suc n) = go (truth (test i)) (run-within (i + 1) n)
+    where
+      go : EitherWay (test i) → runLength test (i + 1) n ≤ n → runLength test i (suc n) ≤ suc n
+      go (inl t) later = rw t (omega (arith, later))
+      go (inr t) later = rw t (omega arith)
+
   -- ---- What it is made of
 
   -- places that meet the test, as many as it is long

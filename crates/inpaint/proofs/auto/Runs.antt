@@ -1,7 +1,7 @@
 -- Dropout runs: what the code's tests tell of a word and of a run, the search for a run place by place, and what a run that is found is. Assumes
 -- nothing.
 use mathlib.Core.Path.{_≡_, refl, sym, ap, subst, _∙_}
-use mathlib.Core.Bool.{Bool, true, false, not, _&&_, _||_, and-false, true≢false}
+use mathlib.Core.Bool.{Bool, true, false, not, _&&_, _||_, and-false, or-false, true≢false}
 use mathlib.Core.List.{List}
 use mathlib.Core.Logic.{_⊎_, inl, inr}
 use Prim.Native.Nat.{ℕ, zero, suc, _+_, _-_, _≤_, _<_}
@@ -96,10 +96,6 @@ module _ (w len : ℕ) where
   pub enough-zeros : zeroOrNan w ≡ true → leb 2 len ≡ longEnough w len
   unfolding longEnough
   enough-zeros h = rw (h, zero-not-held w h) (sym (or-false (leb 2 len)))
-    where
-      or-false : (b : Bool) → b || false ≡ b
-      or-false true = refl
-      or-false false = refl
 
   pub enough-other : zeroOrNan w ≡ false → holdable w ≡ false → false ≡ longEnough w len
   unfolding longEnough
