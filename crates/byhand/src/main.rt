@@ -1,8 +1,9 @@
 // Runs rows of document 01's "Sums done by hand" on the compiled code and writes what each leaves: the
 // number and the value of the answer and used, then samples and journal in hexadecimal digits and the
-// marks and the counts of the blocks in decimal ones.
+// marks and the counts of the blocks in decimal ones; and of a gap the order of its model.
 ghost use Prim.Native.Nat.{_≤_};
 ghost use lib.ListN.{length};
+use inpaint::GapAnswer;
 use inpaint::gap::inpaint_gap;
 use leaves::words::word_of_f32;
 use recording::Answer;
@@ -92,6 +93,19 @@ fn show(
     print_words(b"  journal", journal, 1);
 }
 
+// Writes the order of a gap's model as a line.
+fn print_order(order: u32) {
+    print_number(b"  order ", order as u64);
+    io::write_all(1, b"\n");
+}
+
+// Writes how the repair of a gap ended, and the order of its model.
+fn print_gap(title: &[u8], filled: GapAnswer, used: usize) {
+    let answer = filled.answer;
+    print_answer(title, answer, used);
+    print_order(filled.order);
+}
+
 // Repairs a gap at 2 by 3 passes and shows the recording.
 fn gap_at_2(
     title: &[u8],
@@ -103,8 +117,10 @@ fn gap_at_2(
     len: usize,
 ) {
     let mut work = [1.5f64; 300];
-    let answer = inpaint_gap(samples, marks, counts, journal, used, 2, len, 3, &mut work);
+    let filled = inpaint_gap(samples, marks, counts, journal, used, 2, len, 3, &mut work);
+    let answer = filled.answer;
     show(title, answer, samples, marks, counts, journal, *used);
+    print_order(filled.order);
 }
 
 // Takes the last entry back and shows the recording.
@@ -209,6 +225,21 @@ fn marked(marks: &[u8], mark: u8) -> usize {
     count
 }
 
+// Opens a recording and repairs the gap of `len` samples from its second place on.
+fn open_and_fill(
+    samples: &mut [u32],
+    marks: &mut [u8],
+    counts: &mut [u16],
+    journal: &mut [u32],
+    used: &mut usize,
+    len: usize,
+    passes: u32,
+    work: &mut [f64],
+) -> GapAnswer {
+    open(samples, marks, counts, journal, used);
+    inpaint_gap(samples, marks, counts, journal, used, 1, len, passes, work)
+}
+
 // 4097 samples whose ends are 0 and 4096, with a gap between them.
 fn line(journal: &mut [u32], work: &mut [f64]) {
     let mut samples = [ONE; 4097];
@@ -217,19 +248,17 @@ fn line(journal: &mut [u32], work: &mut [f64]) {
     let mut used: usize = 0;
     samples[0] = 0;
     samples[4096] = LAST;
-    open(&samples, &mut marks, &mut counts, journal, &mut used);
-    let answer = inpaint_gap(
+    let filled = open_and_fill(
         &mut samples,
         &mut marks,
         &mut counts,
         journal,
         &mut used,
-        1,
         4095,
         3,
         work,
     );
-    print_answer(b"gap at 1 of 4095", answer, used);
+    print_gap(b"gap at 1 of 4095", filled, used);
     print_number(
         b"  samples that are their place: ",
         own_numbers(&samples) as u64,
@@ -245,19 +274,17 @@ fn boundary(title: &[u8], journal: &mut [u32], work: &mut [f64], len: usize) {
     let mut marks = [0u8; 2052];
     let mut counts = [LEFT_COUNT; 9];
     let mut used: usize = 0;
-    open(&samples, &mut marks, &mut counts, journal, &mut used);
-    let answer = inpaint_gap(
+    let filled = open_and_fill(
         &mut samples,
         &mut marks,
         &mut counts,
         journal,
         &mut used,
-        1,
         len,
         1,
         work,
     );
-    print_answer(title, answer, used);
+    print_gap(title, filled, used);
     print_number(b"  samples marked 1: ", marked(&marks, 1) as u64);
     print_number(b"\n  samples marked 2: ", marked(&marks, 2) as u64);
     io::write_all(1, b"\n");

@@ -3,12 +3,14 @@
 // is the whole program's, as in C.
 ghost use mathlib.Core.Path.{_≡_};
 ghost use mathlib.Core.List.{[], _∷_};
+ghost use lib.ListN.{length};
 ghost use Rattle.leaves.specs.Floats.{narrowed, rounded};
 ghost use Rattle.leaves.specs.Root.{Rooted};
 ghost use Rattle.cathar.specs.Calls.{gap, scan, declip, decrackle, dequantize, cosparse, undo};
 ghost use Rattle.cathar.specs.Calls.{none, doubles, words, outcome, ran};
 ghost use Rattle.cathar.specs.Calls.{asMeasured, asReceived, opening, framesTold, toldOf, spanTold, spanToldOf};
 ghost use Rattle.frames.specs.Frames.{framesRead};
+ghost use Rattle.inpaint.specs.Order.{gapOrder, scanOrders};
 ghost use Rattle.recording.specs.Lent.{left, lent, leftReading};
 ghost use Rattle.recording.specs.Question.{spanVerdict};
 use dequant::passes::dequantize;
@@ -75,7 +77,8 @@ pub extern "C" fn cathar_read_frames(
 
 // Repairs the gap of `len` samples from `start` on, by the model or, where it is longer than 2048, by
 // straight line. The number of the refusal, 1 to 3, 5 to 9 or 14, or 0; value becomes len, the place for 7
-// and 8, and 0 for the other refusals. Every number of passes gives the same.
+// and 8, and 0 for the other refusals; order the highest order that the model used, and 0 for a straight line
+// and for every refusal. Every number of passes gives the same.
 #[no_mangle]
 pub extern "C" fn cathar_inpaint_gap(
     samples: &mut [u32],
@@ -88,11 +91,13 @@ pub extern "C" fn cathar_inpaint_gap(
     passes: u32,
     work: &mut [f64],
     value: &mut usize,
+    order: &mut u32,
 ) -> u32
-    ensures { λ r. ⌜ outcome r (now (value .exit) ∷ []) (left samples marks counts journal used) (doubles (now (work .exit)))
-        ≡ ran (gap start len passes (now (work .entry))) (lent samples marks counts journal used) ⌝ }
+    ensures { λ r. ⌜ (outcome r (now (value .exit) ∷ []) (left samples marks counts journal used) (doubles (now (work .exit)))
+        ≡ ran (gap start len passes (now (work .entry))) (lent samples marks counts journal used))
+        × (now (order .exit) ≡ gapOrder start len passes (length (now (work .entry))) (lent samples marks counts journal used)) ⌝ }
 {
-    let answer = inpaint::gap::inpaint_gap(
+    let filled = inpaint::gap::inpaint_gap(
         samples,
         marks,
         counts,
@@ -103,13 +108,16 @@ pub extern "C" fn cathar_inpaint_gap(
         passes,
         work,
     );
+    let answer = filled.answer;
     *value = value_of(answer);
+    *order = filled.order;
     number_of(answer)
 }
 
 // Finds the dropout runs of at most `millis` milliseconds and repairs each as one gap. The number of the
 // first refusal, or 0; qualified and repaired become the numbers of such runs, and 0 where the scan
-// itself is refused, with 1 to 4 or 14.
+// itself is refused, with 1 to 4 or 14. At each place of `orders` where a sample was repaired by the model
+// the order of that model comes to stand, and every other place stays.
 #[no_mangle]
 pub extern "C" fn cathar_inpaint_auto(
     samples: &mut [u32],
@@ -120,11 +128,13 @@ pub extern "C" fn cathar_inpaint_auto(
     rate: u32,
     millis: f32,
     work: &mut [f64],
+    orders: &mut [u32],
     qualified: &mut usize,
     repaired: &mut usize,
 ) -> u32
-    ensures { λ r. ⌜ outcome r (now (qualified .exit) ∷ now (repaired .exit) ∷ []) (left samples marks counts journal used) (doubles (now (work .exit)))
-        ≡ ran (scan rate millis (now (work .entry))) (lent samples marks counts journal used) ⌝ }
+    ensures { λ r. ⌜ (outcome r (now (qualified .exit) ∷ now (repaired .exit) ∷ []) (left samples marks counts journal used) (doubles (now (work .exit)))
+        ≡ ran (scan rate millis (now (work .entry))) (lent samples marks counts journal used))
+        × (now (orders .exit) ≡ scanOrders rate millis (now (work .entry)) (lent samples marks counts journal used) (now (orders .entry))) ⌝ }
 {
     let scanned = inpaint::auto::inpaint_auto(
         samples,
@@ -135,6 +145,7 @@ pub extern "C" fn cathar_inpaint_auto(
         rate,
         millis,
         work,
+        orders,
     );
     *qualified = scanned.qualified;
     *repaired = scanned.repaired;

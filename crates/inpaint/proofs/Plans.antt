@@ -8,13 +8,15 @@ use native.Mathlib.Omega.{arith}
 use lib.ListN.{length, take, drop, set, length-map}
 use lib.Seq.{sets, length-sets, drop-set-add, take-set-lt}
 use lib.Dec.{ltb, eqb}
+use lib.Ieee.{Float}
 use borrow.Author.Tests.{eqb-false}
 use Rattle.leaves.specs.Arithmetic.{float}
 use Rattle.leaves.proofs.Lists.{read-before, read-after}
 use Rattle.leaves.proofs.Choice.{truth}
 use Rattle.model.specs.Model.{orderFor}
 use Rattle.leaves.proofs.Parts.{part-before-sets, part-behind-sets}
-use Rattle.model.proofs.Passes.{stored-same, solved-same, one-pass}
+use Rattle.model.proofs.Passes.{Same, stored-same, solved-same, order-same, one-pass}
+use Rattle.model.proofs.Orders.{every-pass-alike}
 use Rattle.inpaint.specs.Gap.{gapWrong, context, from, to, windowSize, window, narrowWord, needed}
 use Rattle.recording.specs.Recording.{Plan, refuse, unlessRead}
 use Rattle.leaves.specs.Choice.{if_then_else_}
@@ -22,6 +24,7 @@ use Rattle.recording.specs.declared.Reason.the-variants.{Gap, Workspace}
 use Rattle.recording.specs.declared.Answer.{Answer}
 use Rattle.inpaint.specs.Gap.{knownBefore, knownBehind, allReadable, leftOf, rightOf, line, model}
 use Rattle.inpaint.specs.Gap.{repaired, gapPlan}
+use Rattle.inpaint.specs.Order.{fillOrder}
 use Rattle.inpaint.proofs.window.Laws.{gap-right}
 use Rattle.inpaint.proofs.fill.Laws.{numbers, gap-within, model-passes}
 use Rattle.inpaint.specs.Consequences.{EveryCount, GapHasNoSay}
@@ -110,21 +113,39 @@ module _ (start len : ℕ) (samples words : List ℕ) (count : length words ≡ 
       lower : (c : ℕ) → start - c ≤ start
       lower c = omega arith
 
+  -- so it is the same outside the gap
+  abbrev g : ℕ
+  g = start - from start len
+
+  abbrev seg : List Float
+  seg = map float (window samples start len)
+
+  stored : map float (window (sets samples start words) start len) ≡ sets seg g (map float words)
+  stored = ap (map float) window-stores ∙ map-stores float (window samples start len) words g
+
+  outside : Same g len seg (sets seg g (map float words))
+  outside = stored-same g len seg (map float words) (length-map words float ∙ count)
+
+  within : g + len ≤ length seg
+  within = gap-within samples start len inside
+
   model-same : (passes : ℕ) → model passes (sets samples start words) start len ≡ model passes samples start len
   unfolding model
   model-same passes =
-      let g = start - from start len in
-      let seg = map float (window samples start len) in
-      let stored : map float (window (sets samples start words) start len) ≡ sets seg g (map float words) =
-      ap (map float) window-stores ∙ map-stores float (window samples start len) words g in
-      let many : length (map float words) ≡ len = length-map words float ∙ count in
-      let same = stored-same g len seg (map float words) many in
-      let within = gap-within samples start len inside in
       rw stored
       (ap (map narrowWord)
-      (one-pass passes (sets seg g (map float words)) g len (rw (same .count) within)
-      ∙ solved-same g len seg (sets seg g (map float words)) same (orderFor len)
+      (one-pass passes (sets seg g (map float words)) g len (rw (outside .count) within)
+      ∙ solved-same g len seg (sets seg g (map float words)) outside (orderFor len)
       ∙ sym (one-pass passes seg g len within)))
+
+  pub fill-order-same : (passes : ℕ) → fillOrder passes (sets samples start words) start len ≡ fillOrder passes samples start len
+  unfolding fillOrder
+  fill-order-same passes =
+      let p = orderFor len in
+      rw stored
+      (every-pass-alike passes (sets seg g (map float words)) g len p (rw (outside .count) within)
+      ∙ order-same g len seg (sets seg g (map float words)) outside p
+      ∙ sym (every-pass-alike passes seg g len p within))
 
   repaired-same : (passes : ℕ) → repaired passes (sets samples start words) start len ≡ repaired passes samples start len
   unfolding repaired

@@ -132,11 +132,11 @@ gap-left s start len passes room = go (ending s plan (gap-lawful start len passe
 -- ---- The runs of a scan
 
 -- runs that are found one behind the other, the first from place i on
-abbrev InTurn : List ℕ → ℕ → ℕ → List Stretch → Type 0
+abbrev pub InTurn : List ℕ → ℕ → ℕ → List Stretch → Type 0
 InTurn samples most i [] = Unit {0}
 InTurn samples most i (r ∷ rs) = Found samples most i i (r .start) (r .len) × InTurn samples most (r .start + r .len) rs
 
-runs-in-turn : (samples : List ℕ) (most k i : ℕ) → length samples ≤ i + k
+pub runs-in-turn : (samples : List ℕ) (most k i : ℕ) → length samples ≤ i + k
     → InTurn samples most i (runsAmong samples most i i (length samples - i))
 runs-in-turn samples most zero i h =
     let none : length samples - i ≡ 0 = omega arith in

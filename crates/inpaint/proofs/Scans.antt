@@ -192,7 +192,7 @@ runs-anew samples most from end n before new =
     runs-same samples samples most from end end n refl (λ j h. refl) (λ j h. begins-anew samples from end j before new h)
 
 -- a repair leaves those from its gap's end on
-behind-same : (samples t : List ℕ) (most end n : ℕ) → Behind end samples t
+pub behind-same : (samples t : List ℕ) (most end n : ℕ) → Behind end samples t
     → runsAmong t most end end n ≡ runsAmong samples most end end n
 behind-same samples t most end n b = runs-same samples t most end end end n (b .count) (b .same) begin
   where
@@ -347,7 +347,7 @@ first-of k j later = elim (truth (eqb k 0)) [ inl t ↦ rw t refl | inr t ↦ rw
 
 module _ (room : ℕ) (r : Stretch) (rs : List Stretch) (s : State) where
   -- the first of the calls is the repair of its run
-  run-first : run (gapCalls room rs) (gapRepair (r .start) (r .len) sourcePasses room s .after) ≡ run (gapCalls room (r ∷ rs)) s
+  pub run-first : run (gapCalls room rs) (gapRepair (r .start) (r .len) sourcePasses room s .after) ≡ run (gapCalls room (r ∷ rs)) s
   unfolding run did gapRepair
   run-first = refl
 

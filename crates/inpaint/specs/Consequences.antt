@@ -1,22 +1,26 @@
--- What follows from the rules of a gap and of the scan. Statements only, each proved under the same name, written small, in
--- Plans.antt, Lawful.antt, Scans.antt or Rooms.antt of proofs/, which nobody has to read.
-use Prim.Native.Nat.{ℕ, _+_, _-_, _*_, _≤_}
+-- What follows from the rules of a gap, of the scan and of the model's order. Statements only, each proved under the same name,
+-- written small, in Plans.antt, Lawful.antt, Scans.antt, Rooms.antt or Orders.antt of proofs/, which nobody has to read.
+use Prim.Native.Nat.{ℕ, _+_, _-_, _*_, _≤_, _<_}
 use mathlib.Core.Path.{_≡_}
 use mathlib.Core.Bool.{false}
 use mathlib.Core.Logic.{_⊎_}
-use mathlib.Core.List.{List, [], _∷_}
-use lib.ListN.{length}
+use mathlib.Core.List.{List, [], _∷_, _++_}
+use lib.ListN.{length, getD}
 use lib.Seq.{sets}
 use lib.Ieee.{Float}
 use Rattle.recording.specs.Answers.{number}
-use Rattle.recording.specs.Recording.{State, entrySize}
-use Rattle.recording.specs.History.{LawfulRepair, Lawful}
+use Rattle.leaves.specs.Choice.{if_then_else_}
+use Rattle.recording.specs.Recording.{State, state, entrySize}
+use Rattle.recording.specs.History.{LawfulRepair, Lawful, run}
+use Rattle.recording.specs.Consequences.{Among}
 use Rattle.recording.specs.declared.Reason.{Reason}
 use Rattle.recording.specs.declared.Answer.{Answer}
-use Rattle.recording.specs.declared.Answer.the-variants.{Refused}
-use Rattle.inpaint.specs.Gap.{byLine, needed, gapPlan}
-use Rattle.inpaint.specs.Auto.{limit, heldRun, scannable, automatic}
-use Rattle.inpaint.specs.Runs.{Stretch, gapCalls, runAnswers, OfEveryScan}
+use Rattle.recording.specs.declared.Answer.the-variants.{Done, Refused}
+use Rattle.model.specs.Model.{orderFor}
+use Rattle.inpaint.specs.Gap.{byLine, needed, gapPlan, gapRepair}
+use Rattle.inpaint.specs.Auto.{limit, heldRun, sourcePasses, scannable, automatic}
+use Rattle.inpaint.specs.Runs.{Stretch, runsOf, gapCalls, runAnswers, OfEveryScan}
+use Rattle.inpaint.specs.Order.{gapOrder, scanOrders}
 
 -- ---- Of a gap
 
@@ -84,3 +88,62 @@ WideSuffices =
     (rate : ℕ) (ms : Float) (work : List Float) (s : State)
     → ((start len : ℕ) → len ≤ limit ms rate → needed (length (s .samples)) start len ≤ length work)
     → NoneHas 6 (runAnswers rate ms work s)
+
+-- ---- Of the model's order
+
+-- it is at most p
+abbrev pub GapOrderAtMost : Type 0
+GapOrderAtMost = (start len passes room : ℕ) (s : State) → gapOrder start len passes room s ≤ orderFor len
+
+-- every count of passes gives the same
+abbrev pub OrderOfEveryCount : Type 0
+OrderOfEveryCount = (start len passes room : ℕ) (s : State) → gapOrder start len passes room s ≡ gapOrder start len 1 room s
+
+-- what stood in the gap has no say in it: with any other words in the gap the order is the same
+abbrev pub withWords : ℕ → List ℕ → State → State
+withWords start words s = state (sets (s .samples) start words) (s .marks) (s .counts) (s .journal) (s .used)
+
+abbrev pub GapHasNoSayInOrder : Type 0
+GapHasNoSayInOrder =
+    (start len passes room : ℕ) (s : State) (words : List ℕ) → length words ≡ len
+    → gapOrder start len passes room (withWords start words s) ≡ gapOrder start len passes room s
+
+-- ---- Of the list that a scan leaves the orders in
+
+-- it is as long as it was
+abbrev pub ListAsLong : Type 0
+ListAsLong =
+    (rate : ℕ) (ms : Float) (work : List Float) (s : State) (orders : List ℕ) → length (scanOrders rate ms work s orders) ≡ length orders
+
+-- "a refused scan writes nothing there"
+abbrev pub RefusedScanKeepsList : Type 0
+RefusedScanKeepsList =
+    (rate : ℕ) (ms : Float) (work : List Float) (s : State) (orders : List ℕ) (why : Reason) → scannable rate ms s ≡ Refused why
+    → scanOrders rate ms work s orders ≡ orders
+
+-- what stands at a place of a run's gap, where `old` stood before: "where the scan repaired a sample by the model, the order of that model"
+abbrev pub orderThere : ℕ → Stretch → State → ℕ → ℕ
+orderThere room r s old =
+    elim (gapRepair (r .start) (r .len) sourcePasses room s .answer) [
+      | Done m ↦ if byLine (r .len) then old else gapOrder (r .start) (r .len) sourcePasses room s
+      | Refused why ↦ old
+    ]
+
+-- so it is at each place of the gap of each run, which is repaired on what the runs before it left
+abbrev pub OrdersAtRuns : Type 0
+OrdersAtRuns =
+    OfEveryScan
+    (λ rate ms work s.
+    (orders : List ℕ) (before later : List Stretch) (r : Stretch) (j : ℕ) → runsOf (s .samples) (limit ms rate) ≡ before ++ (r ∷ later)
+    → r .start ≤ j → j < r .start + r .len → j < length orders
+    → getD (scanOrders rate ms work s orders) j 0
+    ≡ orderThere (length work) r (run (gapCalls (length work) before) s) (getD orders j 0))
+
+-- "every other place of it stays, and so does what lies behind the samples"
+abbrev pub OrdersElsewhere : Type 0
+OrdersElsewhere =
+    OfEveryScan
+    (λ rate ms work s.
+    (orders : List ℕ) (j : ℕ)
+    → ((r : Stretch) → Among r (runsOf (s .samples) (limit ms rate)) → r .start ≤ j → j < r .start + r .len → ⊥)
+    → getD (scanOrders rate ms work s orders) j 0 ≡ getD orders j 0)

@@ -1,16 +1,21 @@
 // The automatic scan for dropouts.
 ghost use mathlib.Core.Path.{_≡_};
 ghost use Prim.Native.Nat.{_+_, _≤_, _<_};
-ghost use lib.ListN.{length};
+ghost use lib.ListN.{length, replicate};
+ghost use lib.Seq.{sets};
 ghost use lib.Dec.{eqb};
 ghost use lib.Ieee.{toUnsigned};
 ghost use Rattle.leaves.specs.Choice.{if_then_else_};
 ghost use Rattle.inpaint.specs.Auto.{allowed, limit, zeroOrNan, holdable, continues, runBegins, longEnough, kept, gapAllowed, qualifies};
 ghost use Rattle.inpaint.specs.Auto.{nextRun, scan, scanFrom, scannable, automatic};
+ghost use Rattle.inpaint.specs.Order.{noted, ordersOver, scanOrders};
+ghost use Rattle.inpaint.specs.Runs.{stretch, runsOf};
 ghost use Rattle.recording.specs.Lent.{left, lent, seen};
+use super::GapAnswer;
 use super::Run;
 use super::Scanned;
 use super::gap::inpaint_gap;
+use super::window::MAX_SOLVE;
 use leaves::order::larger32;
 use leaves::words::count_as_f32;
 use leaves::words::f32_of_word;
@@ -234,8 +239,38 @@ fn first_of(number: u32, later: u32) -> u32
     if number == 0 { later } else { number }
 }
 
+// Writes an order at `len` places of a list from `start` on, as far as the list goes.
+fn write_order(orders: &mut [u32], start: usize, len: usize, order: u32)
+    ensures { λ _. ⌜ now (orders .exit) ≡ sets (now (orders .entry)) start (replicate len order) ⌝ }
+{
+    let mut at = start;
+    let mut i: usize = 0;
+    while i < len {
+        if orders.len() <= at {
+            return;
+        }
+        orders[at] = order;
+        at += 1;
+        i += 1;
+    }
+}
+
+// Notes the order of the model at the places of a gap that was repaired by one: neither a refused gap has a
+// model nor a straight line.
+fn note_order(orders: &mut [u32], start: usize, len: usize, filled: GapAnswer)
+    ensures { λ _. ⌜ now (orders .exit) ≡ noted (stretch start len) (filled .answer) (filled .order) (now (orders .entry)) ⌝ }
+{
+    let answer = filled.answer;
+    let Answer::Done(_) = answer else {
+        return;
+    };
+    if len <= MAX_SOLVE {
+        write_order(orders, start, len, filled.order);
+    }
+}
+
 // Finds the dropout runs that qualify, one behind the other, and repairs the gap of each, of at most `most`
-// samples; a refused one does not end the scan.
+// samples, with the order of its model noted at its places; a refused one does not end the scan.
 fn repair_runs(
     samples: &mut [u32],
     marks: &mut [u8],
@@ -244,9 +279,11 @@ fn repair_runs(
     used: &mut usize,
     most: usize,
     work: &mut [f64],
+    orders: &mut [u32],
 ) -> Scanned
-    ensures { λ r. ⌜ scan (r .qualified) (r .repaired) (r .refused) (left samples marks counts journal used) (now (work .exit))
-        ≡ scanFrom most 0 (length (now (samples .entry))) (scan 0 0 0 (lent samples marks counts journal used) (now (work .entry))) ⌝ }
+    ensures { λ r. ⌜ (scan (r .qualified) (r .repaired) (r .refused) (left samples marks counts journal used) (now (work .exit))
+        ≡ scanFrom most 0 (length (now (samples .entry))) (scan 0 0 0 (lent samples marks counts journal used) (now (work .entry))))
+        × (now (orders .exit) ≡ ordersOver (length (now (work .entry))) (runsOf (now (samples .entry)) most) (lent samples marks counts journal used) (now (orders .entry))) ⌝ }
 {
     let n = samples.len();
     let mut qualified: usize = 0;
@@ -258,7 +295,7 @@ fn repair_runs(
         let Run::At(start, len) = found else {
             break;
         };
-        let answer = inpaint_gap(
+        let filled = inpaint_gap(
             samples,
             marks,
             counts,
@@ -269,6 +306,8 @@ fn repair_runs(
             PASSES,
             work,
         );
+        note_order(orders, start, len, filled);
+        let answer = filled.answer;
         let number = number_of(answer);
         qualified += 1;
         repaired += accepted(number);
@@ -282,7 +321,8 @@ fn repair_runs(
     }
 }
 
-// Repairs the dropouts within the limit, or turns the scan away as a whole and changes nothing.
+// Repairs the dropouts within the limit and notes the orders of the models, or turns the scan away as a whole
+// and changes nothing.
 pub fn inpaint_auto(
     samples: &mut [u32],
     marks: &mut [u8],
@@ -292,9 +332,11 @@ pub fn inpaint_auto(
     rate: u32,
     millis: f32,
     work: &mut [f64],
+    orders: &mut [u32],
 ) -> Scanned
-    ensures { λ r. ⌜ scan (r .qualified) (r .repaired) (r .refused) (left samples marks counts journal used) (now (work .exit))
-        ≡ automatic rate millis (now (work .entry)) (lent samples marks counts journal used) ⌝ }
+    ensures { λ r. ⌜ (scan (r .qualified) (r .repaired) (r .refused) (left samples marks counts journal used) (now (work .exit))
+        ≡ automatic rate millis (now (work .entry)) (lent samples marks counts journal used))
+        × (now (orders .exit) ≡ scanOrders rate millis (now (work .entry)) (lent samples marks counts journal used) (now (orders .entry))) ⌝ }
 {
     let checked = check_scan(samples, marks, counts, journal, *used, rate, millis);
     let Answer::Done(_) = checked else {
@@ -305,5 +347,5 @@ pub fn inpaint_auto(
         };
     };
     let most = longest_run(millis, rate);
-    repair_runs(samples, marks, counts, journal, used, most, work)
+    repair_runs(samples, marks, counts, journal, used, most, work, orders)
 }

@@ -11,6 +11,8 @@ ghost use Rattle.recording.specs.Lent.{left, lent, given};
 ghost use Rattle.recording.specs.Marks.{gapByModel};
 ghost use Rattle.recording.specs.Inner.{Fits};
 ghost use Rattle.inpaint.specs.Gap.{narrowWord, needed, model};
+ghost use Rattle.inpaint.specs.Order.{orderBeside};
+use super::GapAnswer;
 use super::window::order_for;
 use super::window::window_from;
 use super::window::window_of;
@@ -73,8 +75,15 @@ fn model_fill(gap: &mut [u32], results: &[f64])
     }
 }
 
-// The repair of a gap by the model, from refusal 8 on. It makes one pass, which is what every number of
-// passes comes to. Of the workspace it leaves what is not needed.
+// An answer that no model stands beside.
+pub fn without_model(answer: Answer) -> GapAnswer
+    ensures { λ r. ⌜ (r .answer ≡ answer) × (r .order ≡ 0) ⌝ }
+{
+    GapAnswer { answer, order: 0 }
+}
+
+// The repair of a gap by the model, from refusal 8 on, and beside it the order of that model. It makes one
+// pass, which is what every number of passes comes to. Of the workspace it leaves what is not needed.
 pub fn repair_by_model(
     samples: &mut [u32],
     marks: &mut [u8],
@@ -84,24 +93,25 @@ pub fn repair_by_model(
     start: usize,
     len: usize,
     work: &mut [f64],
-) -> Answer
+) -> GapAnswer
     requires { ⌜ Fits (given samples marks counts journal used) × (start + len ≤ length (now samples))
         × (1 ≤ len) × (len ≤ 2048) × (needed (length (now samples)) start len ≤ length (now work)) ⌝ }
-    ensures { λ r. ⌜ (ended r (left samples marks counts journal used)
+    ensures { λ r. ⌜ (ended (r .answer) (left samples marks counts journal used)
         ≡ carried (lent samples marks counts journal used) (change gapByModel (span start (model 1 (now (samples .entry)) start len))))
         × (length (now (work .exit)) ≡ length (now (work .entry)))
         × (drop (needed (length (now (samples .entry))) start len) (now (work .exit))
-        ≡ drop (needed (length (now (samples .entry))) start len) (now (work .entry))) ⌝ }
+        ≡ drop (needed (length (now (samples .entry))) start len) (now (work .entry)))
+        × (r .order ≡ orderBeside start len 1 (now (samples .entry)) (r .answer)) ⌝ }
 {
     let known = window_of(samples, start, len);
     let size = known.len();
     widen_words(known, work);
     let p = order_for(len);
-    fill_by_model(work, size, start - window_from(start, len), len, p);
+    let order = fill_by_model(work, size, start - window_from(start, len), len, p) as u32;
     let at = results_at(size, len, p);
     let checked = check_results(&work[at..at + len], start);
     let Answer::Done(_) = checked else {
-        return checked;
+        return without_model(checked);
     };
     let entered = enter_span(
         samples,
@@ -114,8 +124,11 @@ pub fn repair_by_model(
         GAP_BY_MODEL,
     );
     let Answer::Done(_) = entered else {
-        return entered;
+        return without_model(entered);
     };
     model_fill(&mut samples[start..start + len], &work[at..at + len]);
-    entered
+    GapAnswer {
+        answer: entered,
+        order,
+    }
 }

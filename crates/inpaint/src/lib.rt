@@ -6,6 +6,15 @@ pub mod gap;
 mod line;
 mod window;
 
+use recording::Answer;
+
+// What the repair of a gap returns: its answer and, beside it, the highest order that its model used, which is
+// 0 for a straight line and for every refusal.
+pub struct GapAnswer {
+    pub answer: Answer,
+    pub order: u32,
+}
+
 // What the search for a dropout run answers: a run, by the start and the length of its gap, or that there is
 // none.
 pub enum Run {

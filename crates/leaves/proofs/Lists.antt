@@ -1,11 +1,11 @@
 -- Laws on lists, of any element, that the crates above cite: a part that was lent to be written and comes back is a run
 -- of stores (`sets`), and what a run of stores leaves at each place. Assumes nothing.
-use mathlib.Core.Path.{_≡_, refl, sym, _∙_}
+use mathlib.Core.Path.{_≡_, refl, sym, ap, _∙_}
 use mathlib.Core.List.{List, [], _∷_, append-assoc}
 use Prim.Native.Nat.{ℕ, zero, suc, _+_, _-_, _≤_, _<_}
 use native.Mathlib.Omega.{arith}
 use lib.ListN.{length, take, drop, set, getD, length-take, length-drop, length-set}
-use lib.Seq.{sets, sets-eq, drop-drop, getD-set-same, getD-set-other}
+use lib.Seq.{sets, sets-eq, drop-drop, set-out, getD-set-same, getD-set-other}
 use borrow.Rule.Slice.PartMut.{putMid}
 
 -- as many elements are lent by `&mut xs[start..start + len]` as it says
@@ -29,13 +29,24 @@ pub read-after : {A : Type 0} (xs ys : List A) (a i : ℕ) (d : A) → a + lengt
 read-after xs [] a i d h = refl
 read-after xs (y ∷ ys) a i d h = read-after (set xs a y) ys (suc a) i d (omega arith) ∙ getD-set-other xs a i y d (λ (e : i ≡ a). omega arith)
 
--- a place among them has what was stored there
-pub read-within : {A : Type 0} (xs ys : List A) (a j : ℕ) (d : A) → a + length ys ≤ length xs → j < length ys
+-- where the list has none of their places, nothing is stored
+pub none-stored : {A : Type 0} (xs ys : List A) (a : ℕ) → length xs ≤ a → sets xs a ys ≡ xs
+none-stored xs [] a h = refl
+none-stored {A = A} xs (y ∷ ys) a h =
+    ap (λ (l : List A). sets l (suc a) ys) (set-out xs a y h) ∙ none-stored xs ys (suc a) (omega arith)
+
+-- a place among them has what was stored there, where the list has that place
+pub read-there : {A : Type 0} (xs ys : List A) (a j : ℕ) (d : A) → a + j < length xs → j < length ys
     → getD (sets xs a ys) (a + j) d ≡ getD ys j d
-read-within xs [] a j d h k = absurd (omega arith)
-read-within xs (y ∷ ys) a zero d h k =
+read-there xs [] a j d h k = absurd (omega arith)
+read-there xs (y ∷ ys) a zero d h k =
     let here : a + 0 ≡ a = omega arith in
     rw here (read-before (set xs a y) ys (suc a) a d (omega arith) ∙ getD-set-same xs a y d (omega arith))
-read-within xs (y ∷ ys) a (suc j) d h k =
+read-there xs (y ∷ ys) a (suc j) d h k =
     let next : a + suc j ≡ suc a + j = omega arith in
-    rw next (read-within (set xs a y) ys (suc a) j d (simp length-set (omega arith)) (omega arith))
+    rw next (read-there (set xs a y) ys (suc a) j d (simp length-set (omega arith)) (omega arith))
+
+-- as it does where all are stored
+pub read-within : {A : Type 0} (xs ys : List A) (a j : ℕ) (d : A) → a + length ys ≤ length xs → j < length ys
+    → getD (sets xs a ys) (a + j) d ≡ getD ys j d
+read-within xs ys a j d h k = read-there xs ys a j d (omega arith) k

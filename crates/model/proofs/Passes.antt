@@ -15,6 +15,7 @@ use Rattle.leaves.proofs.Lists.{read-before, read-after}
 use Rattle.leaves.proofs.Choice.{truth, both-hold}
 use Rattle.model.specs.Model.{plus, plusWhere, known, lagSum, lags, estimateArKnown, coefAutocorr, rightSide, rightSides}
 use Rattle.model.specs.Model.{solveSpdBanded, backward, solved, pass, passes, orderFor, filled}
+use Rattle.model.specs.Order.{modelOrder}
 use Rattle.leaves.proofs.Parts.{part-of-sets}
 use Rattle.model.proofs.sums.Laws.{plus-agree, each-agree, known-before}
 
@@ -59,9 +60,17 @@ module _ (g len : ℕ) (seg seg' : List Float) (same : Same g len seg seg') wher
       lag (length seg - lag) nought
       (λ i h. let two = both-hold (known g len i) (known g len (i - lag)) h in rw (same .outside i (two .0), same .outside (i - lag) (two .1)) refl))
 
+  lags-same : (p : ℕ) → lags seg' g len p ≡ lags seg g len p
+  unfolding lags
+  lags-same p = each-agree (lagSum seg' g len) (lagSum seg g len) 0 (p + 1) (λ k l h. lag-same k)
+
   estimate-same : (p : ℕ) → estimateArKnown seg' g len p ≡ estimateArKnown seg g len p
-  unfolding estimateArKnown lags
-  estimate-same p = rw (each-agree (lagSum seg' g len) (lagSum seg g len) 0 (p + 1) (λ k l h. lag-same k)) refl
+  unfolding estimateArKnown
+  estimate-same p = rw (lags-same p) refl
+
+  pub order-same : (p : ℕ) → modelOrder seg' g len p ≡ modelOrder seg g len p
+  unfolding modelOrder
+  order-same p = rw (lags-same p) refl
 
   before-same : (b : List Float) (p c : ℕ) (s : Float)
       → plus (λ x. at b (c - x) *₆₄ at seg' x) (c - p) (g - (c - p)) s ≡ plus (λ x. at b (c - x) *₆₄ at seg x) (c - p) (g - (c - p)) s
@@ -102,7 +111,7 @@ solved-length seg g len p = backward-length _ _ p len len [] ∙ omega arith
 
 -- ---- A pass again
 
-pass-stores : (g len p : ℕ) (seg : List Float) → g + len ≤ length seg → pass g len p seg ≡ sets seg g (solved seg g len p)
+pub pass-stores : (g len p : ℕ) (seg : List Float) → g + len ≤ length seg → pass g len p seg ≡ sets seg g (solved seg g len p)
 unfolding pass
 pass-stores g len p seg h =
     let l = solved seg g len p in

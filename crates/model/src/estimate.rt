@@ -4,6 +4,7 @@ ghost use Prim.Native.Nat.{_+_, _*_, _≤_, _<_};
 ghost use lib.ListN.{length};
 ghost use lib.Seq.{sets};
 ghost use Rattle.model.specs.Model.{lags, unit, raisedAt, raised, levinson, estimateArKnown};
+ghost use Rattle.model.specs.Order.{levinsonOrder, modelOrder};
 ghost use Rattle.model.specs.Areas.{area, Only, Laid, coefsAt};
 use super::sums::lag_sum;
 use super::sums::order_shortfall;
@@ -73,11 +74,12 @@ fn copy_area(work: &mut [f64], copy: usize, a: usize, count: usize)
 
 // Levinson's recursion over the lags at r: the coefficients come to stand two lists behind them, and
 // the list between is where each order's are worked out. It stops where |e| is below 1e-12, before k is
-// used, and where e is not above 0, after it.
-fn levinson(work: &mut [f64], r: usize, p: usize)
+// used, and where e is not above 0, after it, and answers the highest order whose k it used.
+fn levinson(work: &mut [f64], r: usize, p: usize) -> usize
     requires { ⌜ (r + 3 * (p + 1) ≤ length (now work)) × (p ≤ 128) ⌝ }
-    ensures { λ _. ⌜ (area (now (work .exit)) (r + 2 * (p + 1)) (p + 1) ≡ levinson (area (now (work .entry)) r (p + 1)) p)
-        × Only (r + (p + 1)) (r + 3 * (p + 1)) (now (work .entry)) (now (work .exit)) ⌝ }
+    ensures { λ order. ⌜ (area (now (work .exit)) (r + 2 * (p + 1)) (p + 1) ≡ levinson (area (now (work .entry)) r (p + 1)) p)
+        × Only (r + (p + 1)) (r + 3 * (p + 1)) (now (work .entry)) (now (work .exit))
+        × (order ≡ levinsonOrder (area (now (work .entry)) r (p + 1)) p) ⌝ }
 {
     let copy = r + (p + 1);
     let a = r + 2 * (p + 1);
@@ -87,32 +89,34 @@ fn levinson(work: &mut [f64], r: usize, p: usize)
     while i <= p {
         let acc = order_shortfall(&work[a..a + (p + 1)], &work[r..r + (p + 1)], i);
         if magnitude64(e) < 1e-12 {
-            return;
+            return i - 1;
         }
         let k = -acc / e;
         raise_order(work, copy, a, p, i, k);
         copy_area(work, copy, a, p + 1);
         e = e * (1.0 - k * k);
         if e <= 0.0 {
-            return;
+            return i;
         }
         i += 1;
     }
+    p
 }
 
-// The coefficients of the model of what is known, for the window at the front of the workspace. Where the
-// known samples are all 0, so that r[0] is, the model is 1, 0, .., 0; else r[0] grows by 1e-6 of itself,
-// for stability.
-pub fn estimate_ar_known(work: &mut [f64], size: usize, g: usize, len: usize, p: usize)
+// The coefficients of the model of what is known, for the window at the front of the workspace, and the
+// highest order that was used. Where the known samples are all 0, so that r[0] is, the model is 1, 0, .., 0
+// and no order is used; else r[0] grows by 1e-6 of itself, for stability.
+pub fn estimate_ar_known(work: &mut [f64], size: usize, g: usize, len: usize, p: usize) -> usize
     requires { ⌜ Laid size g len p (now work) ⌝ }
-    ensures { λ _. ⌜ (area (now (work .exit)) (coefsAt size p) (p + 1) ≡ estimateArKnown (area (now (work .entry)) 0 size) g len p)
-        × Only size (size + 3 * (p + 1)) (now (work .entry)) (now (work .exit)) ⌝ }
+    ensures { λ order. ⌜ (area (now (work .exit)) (coefsAt size p) (p + 1) ≡ estimateArKnown (area (now (work .entry)) 0 size) g len p)
+        × Only size (size + 3 * (p + 1)) (now (work .entry)) (now (work .exit))
+        × (order ≡ modelOrder (area (now (work .entry)) 0 size) g len p) ⌝ }
 {
     correlate(work, size, g, len, p);
     if work[size] <= 0.0 {
         start_unit(work, size + 2 * (p + 1), p);
-        return;
+        return 0;
     }
     work[size] = work[size] * (1.0 + 1e-6);
-    levinson(work, size, p);
+    levinson(work, size, p)
 }

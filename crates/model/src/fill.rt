@@ -4,6 +4,7 @@ ghost use Prim.Native.Nat.{_+_, _*_, _≤_, _<_};
 ghost use lib.ListN.{length};
 ghost use lib.Seq.{sets};
 ghost use Rattle.model.specs.Model.{mostWindow, coefAutocorr, rightSides, solveSpdBanded, solved, doublesFor};
+ghost use Rattle.model.specs.Order.{modelOrder};
 ghost use Rattle.model.specs.Areas.{area, Only, Laid, bandAt, resultsAt};
 use super::banded::back_solve;
 use super::banded::factor;
@@ -71,13 +72,16 @@ pub fn results_at(size: usize, len: usize, p: usize) -> usize
     size + 4 * (p + 1) + len * (p + 1) + 2 * len
 }
 
-// The gap's doubles by one pass over the window at the front of the workspace, written at its end.
-pub fn fill_by_model(work: &mut [f64], size: usize, g: usize, len: usize, p: usize)
+// The gap's doubles by one pass over the window at the front of the workspace, written at its end; the answer
+// is the highest order that the model used.
+pub fn fill_by_model(work: &mut [f64], size: usize, g: usize, len: usize, p: usize) -> usize
     requires { ⌜ Laid size g len p (now work) ⌝ }
-    ensures { λ _. ⌜ (area (now (work .exit)) (resultsAt size len p) len ≡ solved (area (now (work .entry)) 0 size) g len p)
-        × Only size (doublesFor size len p) (now (work .entry)) (now (work .exit)) ⌝ }
+    ensures { λ order. ⌜ (area (now (work .exit)) (resultsAt size len p) len ≡ solved (area (now (work .entry)) 0 size) g len p)
+        × Only size (doublesFor size len p) (now (work .entry)) (now (work .exit))
+        × (order ≡ modelOrder (area (now (work .entry)) 0 size) g len p) ⌝ }
 {
-    estimate_ar_known(work, size, g, len, p);
+    let order = estimate_ar_known(work, size, g, len, p);
     coef_autocorr(work, size + 2 * (p + 1), size + 3 * (p + 1), p);
     solve_gap(work, size, g, len, p);
+    order
 }

@@ -12,18 +12,28 @@ use Rattle.recording.specs.Recording.{State, state, Ended, ended}
 use Rattle.recording.specs.Counts.{blocks}
 use Rattle.recording.specs.declared.Answer.{Answer}
 use Rattle.inpaint.specs.Auto.{Scan, automatic}
-use Rattle.monitor.specs.Scanning.{mostInput, rate, journalWords, mostBlocks, unopened, workspace, scanning}
+use Rattle.inpaint.specs.Order.{scanOrders}
+use Rattle.monitor.specs.Scanning.{mostInput, rate, journalWords, mostBlocks, unopened, workspace, scanning, scanningOrders}
 
--- a scan with the code's limit
-pub scanned-so : (s : State) (work : List Float) (scanned : Scan)
-    → scanned ≡ automatic rate (ofBits binary32 1065353216) work s → scanned ≡ scanning work s
-unfolding scanning
-scanned-so s work scanned h = h ∙ ap (λ (ms : Float). automatic rate ms work s) one-word
+-- a scan with the code's limit, and its list of orders
+pub scanned-so : (s : State) (work : List Float) (orders left : List ℕ) (scanned : Scan)
+    → (scanned ≡ automatic rate (ofBits binary32 1065353216) work s) × (left ≡ scanOrders rate (ofBits binary32 1065353216) work s orders)
+    → (scanned ≡ scanning work s) × (left ≡ scanningOrders work s orders)
+unfolding scanning scanningOrders
+scanned-so s work orders left scanned h = (
+  h .0 ∙ ap (λ (ms : Float). automatic rate ms work s) one-word,
+  h .1 ∙ ap (λ (ms : Float). scanOrders rate ms work s orders) one-word,
+)
 
 -- a scan of what an opening left
-pub opened-then : (opening : Ended) (a : Answer) (s : State) (work : List Float) (scanned : Scan) → ended a s ≡ opening
-    → scanned ≡ scanning work s → scanned ≡ scanning work (opening .after)
-opened-then opening a s work scanned e h = h ∙ ap (λ (c : Ended). scanning work (c .after)) e
+pub opened-then : (opening : Ended) (a : Answer) (s : State) (work : List Float) (orders left : List ℕ) (scanned : Scan)
+    → ended a s ≡ opening
+    → (scanned ≡ scanning work s) × (left ≡ scanningOrders work s orders)
+    → (scanned ≡ scanning work (opening .after)) × (left ≡ scanningOrders work (opening .after) orders)
+opened-then opening a s work orders left scanned e h = (
+  h .0 ∙ ap (λ (c : Ended). scanning work (c .after)) e,
+  h .1 ∙ ap (λ (c : Ended). scanningOrders work (c .after) orders) e,
+)
 
 -- a workspace of the code's 0.0 is one of +0
 pub empty-work : replicate workspace (ofBits binary64 0) ≡ replicate workspace nought

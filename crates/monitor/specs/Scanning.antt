@@ -11,6 +11,7 @@ use Rattle.recording.specs.Recording.{State, state}
 use Rattle.recording.specs.Counts.{blocks}
 use Rattle.recording.specs.History.{fresh}
 use Rattle.inpaint.specs.Auto.{Scan, limit, automatic}
+use Rattle.inpaint.specs.Order.{scanOrders}
 use Rattle.inpaint.specs.Runs.{runAnswers}
 use Rattle.inpaint.specs.Consequences.{NoneHas}
 
@@ -49,22 +50,29 @@ unfoldable pub scanning : List Float → State → Scan
 unfolding automatic
 scanning work s = automatic rate limitMs work s
 
+-- and what it leaves in the list of the models' orders (request P8 of document 02)
+unfoldable pub scanningOrders : List Float → State → List ℕ → List ℕ
+unfolding scanOrders
+scanningOrders work s orders = scanOrders rate limitMs work s orders
+
 -- ---- The report
 
--- what there is to report after a scan: "qualified", "repaired", "refused", and "place, mark, word" of each sample
+-- what there is to report after a scan: "qualified", "repaired", "refused", and "place, mark, word" of each sample, and its model's order,
+-- which "the program adds .. as a fourth number on lines with mark 1" (request P8)
 pub record Report : Type 0 where
   pub qualified : ℕ
   pub repaired : ℕ
   pub refused : ℕ
   pub samples : List ℕ
   pub marks : List ℕ
+  pub orders : List ℕ
 
--- from what is counted and left, and of a scan
-abbrev pub report : ℕ → ℕ → ℕ → List ℕ → List ℕ → Report
-report q r k s m = record { qualified = q; repaired = r; refused = k; samples = s; marks = m }
+-- from what is counted and left, and of a scan with its list of orders
+abbrev pub report : ℕ → ℕ → ℕ → List ℕ → List ℕ → List ℕ → Report
+report q r k s m o = record { qualified = q; repaired = r; refused = k; samples = s; marks = m; orders = o }
 
-abbrev pub reportOf : Scan → Report
-reportOf c = report (c .qualified) (c .repaired) (c .refused) (c .after .samples) (c .after .marks)
+abbrev pub reportOf : Scan → List ℕ → Report
+reportOf c orders = report (c .qualified) (c .repaired) (c .refused) (c .after .samples) (c .after .marks) orders
 
 -- ---- What suffices
 

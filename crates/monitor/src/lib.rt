@@ -4,10 +4,11 @@ ghost use mathlib.Core.Path.{_≡_};
 ghost use lib.ListN.{length};
 ghost use Rattle.inpaint.specs.Auto.{scan};
 ghost use Rattle.monitor.specs.Reading.{Within};
-ghost use Rattle.monitor.specs.Scanning.{scanning};
+ghost use Rattle.monitor.specs.Scanning.{scanning, scanningOrders};
 ghost use Rattle.recording.specs.Lent.{left, lent};
 use inpaint::Scanned;
 use inpaint::auto::inpaint_auto;
+use recording::marks::GAP_BY_MODEL;
 use recording::marks::MEASURED;
 
 // The most samples that are taken.
@@ -50,7 +51,7 @@ pub fn print_bad_input() {
     io::write_all(1, b"bad input\n");
 }
 
-// Repairs the dropouts within the limit of a recording that was opened.
+// Repairs the dropouts within the limit of a recording that was opened, and notes the orders of the models.
 pub fn scan_recording(
     samples: &mut [u32],
     marks: &mut [u8],
@@ -58,11 +59,23 @@ pub fn scan_recording(
     journal: &mut [u32],
     used: &mut usize,
     work: &mut [f64],
+    orders: &mut [u32],
 ) -> Scanned
-    ensures { λ r. ⌜ scan (r .qualified) (r .repaired) (r .refused) (left samples marks counts journal used) (now (work .exit))
-        ≡ scanning (now (work .entry)) (lent samples marks counts journal used) ⌝ }
+    ensures { λ r. ⌜ (scan (r .qualified) (r .repaired) (r .refused) (left samples marks counts journal used) (now (work .exit))
+        ≡ scanning (now (work .entry)) (lent samples marks counts journal used))
+        × (now (orders .exit) ≡ scanningOrders (now (work .entry)) (lent samples marks counts journal used) (now (orders .entry))) ⌝ }
 {
-    inpaint_auto(samples, marks, counts, journal, used, RATE, LIMIT_MS, work)
+    inpaint_auto(
+        samples,
+        marks,
+        counts,
+        journal,
+        used,
+        RATE,
+        LIMIT_MS,
+        work,
+        orders,
+    )
 }
 
 // Writes a name and a number.
@@ -71,32 +84,40 @@ pub fn print_number(name: &[u8], n: u64) {
     io::print_decimal(1, n);
 }
 
+// Writes the line of a sample: its place, its mark and its word, and the model's order where a model made it.
+fn print_sample(place: usize, mark: u8, word: u32, order: u32) {
+    print_number(b"", place as u64);
+    print_number(b" ", mark as u64);
+    io::write_all(1, b" ");
+    io::print_hex(1, word as u64, 8);
+    if mark == GAP_BY_MODEL {
+        print_number(b" ", order as u64);
+    }
+    io::write_all(1, b"\n");
+}
+
 // Writes a line for each sample that is not measured.
-fn print_made(samples: &[u32], marks: &[u8])
-    requires { ⌜ length (now marks) ≡ length (now samples) ⌝ }
+fn print_made(samples: &[u32], marks: &[u8], orders: &[u32])
+    requires { ⌜ (length (now marks) ≡ length (now samples)) × (length (now orders) ≡ length (now samples)) ⌝ }
 {
     let mut i: usize = 0;
     while i < samples.len() {
         let place = i;
         i += 1;
         if marks[place] != MEASURED {
-            print_number(b"", place as u64);
-            print_number(b" ", marks[place] as u64);
-            io::write_all(1, b" ");
-            io::print_hex(1, samples[place] as u64, 8);
-            io::write_all(1, b"\n");
+            print_sample(place, marks[place], samples[place], orders[place]);
         }
     }
 }
 
 // Writes what the scan gave, what it made, and that this is the end.
-pub fn print_scan(scanned: Scanned, samples: &[u32], marks: &[u8])
-    requires { ⌜ length (now marks) ≡ length (now samples) ⌝ }
+pub fn print_scan(scanned: Scanned, samples: &[u32], marks: &[u8], orders: &[u32])
+    requires { ⌜ (length (now marks) ≡ length (now samples)) × (length (now orders) ≡ length (now samples)) ⌝ }
 {
     print_number(b"qualified ", scanned.qualified as u64);
     print_number(b" repaired ", scanned.repaired as u64);
     print_number(b" refused ", scanned.refused as u64);
     io::write_all(1, b"\n");
-    print_made(samples, marks);
+    print_made(samples, marks, orders);
     io::write_all(1, b"end\n");
 }

@@ -9,7 +9,7 @@ use lib.Ieee.{Float}
 use Rattle.leaves.specs.Arithmetic.{nought}
 use Rattle.recording.specs.Recording.{State, opened}
 use Rattle.inpaint.specs.Auto.{Scan}
-use Rattle.monitor.specs.Scanning.{mostInput, unopened, workspace, scanning, Report, reportOf}
+use Rattle.monitor.specs.Scanning.{mostInput, unopened, workspace, scanning, scanningOrders, Report, reportOf}
 use Rattle.wire.specs.Wire.{decoded}
 
 -- "Input over 4,096 samples or not a multiple of 4 bytes"
@@ -21,10 +21,16 @@ unfoldable pub repairing : List Float → State → Scan
 unfolding opened scanning
 repairing work s = scanning work (opened s .after)
 
--- the report of an input, "little-endian f32 words", with lent marks for its samples, and counts, an empty journal and an empty
--- workspace of the program's own
-unfoldable pub reported : List ℕ → List ℕ → Report
-unfolding decoded repairing
-reported bytes marks =
+-- and what it leaves in the list of the models' orders
+unfoldable pub repairingOrders : List Float → State → List ℕ → List ℕ
+unfolding opened scanningOrders
+repairingOrders work s orders = scanningOrders work (opened s .after) orders
+
+-- the report of an input, "little-endian f32 words", with lent marks for its samples and a lent list for the orders, and counts, an empty
+-- journal and an empty workspace of the program's own
+unfoldable pub reported : List ℕ → List ℕ → List ℕ → Report
+unfolding decoded repairing repairingOrders
+reported bytes marks orders =
     let words = decoded bytes 0 (length marks) in
-    reportOf (repairing (replicate workspace nought) (unopened words marks))
+    let work = replicate workspace nought in
+    reportOf (repairing work (unopened words marks)) (repairingOrders work (unopened words marks) orders)

@@ -1,7 +1,7 @@
 // Replays a list of the original's answers for every repair, and compares: the answer of the call, the mark of
 // every sample and every sample. The list is text on standard input, a line for each case. Its parts are a
 // letter, words of eight hexadecimal digits in lower case and a row of marks, with a space between them.
-//   letter, three settings, number, value, qualified, n, m, n samples, n marks, m samples
+//   letter, three settings, number, value, beside, n, m, n samples, n marks, m samples
 // The letter says which repair it is, and what its settings are; those that are floats stand as their words.
 //   g start len passes                 one gap
 //   s rate limit 0                     the scan, with its limit in milliseconds
@@ -9,15 +9,17 @@
 //   c sensitivity 0 0                  decrackle
 //   q bits strength 0                  `dequantize`
 //   p bits strength iterations         `dequantize_cosparse`
-// Number and value are the answer's, and qualified is 0. Of a scan they are the number of the first refusal, or
-// 0, how many runs it repaired and how many qualified. A mark is one digit. The m samples are the new ones at
-// the places whose mark is not 0, in their order; all others are to be what they were.
+// Number and value are the answer's. Beside them stands the order of the model for a gap, and else 0. Of a scan
+// the three are the number of the first refusal, or 0, how many runs it repaired and how many qualified. A mark
+// is one digit. The m samples are the new ones at the places whose mark is not 0, in their order; all others are
+// to be what they were.
 ghost use Prim.Native.Nat.{_+_, _*_, _^_, _≤_, _<_};
 ghost use mathlib.Core.Path.{_≡_};
 ghost use lib.ListN.{length};
 ghost use Rattle.repairlist.specs.Layout.{wordBytes, headBytes, rowBytes};
 use dequant::cosparse::dequantize_cosparse;
 use dequant::passes::dequantize;
+use inpaint::GapAnswer;
 use inpaint::Scanned;
 use inpaint::auto::inpaint_auto;
 use inpaint::gap::inpaint_gap;
@@ -52,7 +54,7 @@ const NUMBER: usize = 3;
 
 const VALUE: usize = 4;
 
-const QUALIFIED: usize = 5;
+const BESIDE: usize = 5;
 
 const SAMPLES: usize = 6;
 
@@ -62,7 +64,7 @@ const RENEWED: usize = 7;
 struct Answered {
     number: u32,
     value: usize,
-    qualified: usize,
+    beside: usize,
 }
 
 // The number that an ASCII digit stands for; any other byte counts as 0.
@@ -175,24 +177,34 @@ fn same_answer(list: &[u8], at: usize, answered: Answered) -> bool
     if answered.value != told_count(list, at, VALUE) {
         return false;
     }
-    answered.qualified == told_count(list, at, QUALIFIED)
+    answered.beside == told_count(list, at, BESIDE)
 }
 
-// The answer of a repair, as the list has it.
+// The answer of a repair, as the list has it: nothing stands beside it.
 fn of_repair(answer: Answer) -> Answered {
     Answered {
         number: number_of(answer),
         value: value_of(answer),
-        qualified: 0,
+        beside: 0,
     }
 }
 
-// The answer of a scan, as the list has it.
+// The answer of a gap: beside it stands the order of its model.
+fn of_gap(filled: GapAnswer) -> Answered {
+    let answer = filled.answer;
+    Answered {
+        number: number_of(answer),
+        value: value_of(answer),
+        beside: filled.order as usize,
+    }
+}
+
+// The answer of a scan: beside the runs repaired stand those that qualified.
 fn of_scan(scanned: Scanned) -> Answered {
     Answered {
         number: scanned.refused,
         value: scanned.repaired,
-        qualified: scanned.qualified,
+        beside: scanned.qualified,
     }
 }
 
@@ -208,7 +220,7 @@ fn repair_gap(
 ) -> Answered {
     let mut work = [1.5f64; WORKSPACE];
     let mut used: usize = 0;
-    of_repair(inpaint_gap(
+    of_gap(inpaint_gap(
         samples,
         marks,
         counts,
@@ -231,6 +243,7 @@ fn scan(
     journal: &mut [u32],
 ) -> Answered {
     let mut work = [1.5f64; WORKSPACE];
+    let mut orders = [0u32; MOST];
     let mut used: usize = 0;
     let millis = f32_of_word(limit);
     of_scan(inpaint_auto(
@@ -242,6 +255,7 @@ fn scan(
         rate,
         millis,
         &mut work,
+        &mut orders,
     ))
 }
 

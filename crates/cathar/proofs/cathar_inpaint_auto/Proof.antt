@@ -1,4 +1,4 @@
--- `cathar::cathar_inpaint_auto` meets its contract: it tells what the scan counts and leaves. Assumes nothing.
+-- `cathar::cathar_inpaint_auto` meets its contract: it tells what the scan counts and leaves, and leaves the orders. Assumes nothing.
 use mathlib.Core.Path.{ap}
 use mathlib.Core.List.{[], _∷_}
 use borrow.Author.Needs.{needs}
@@ -25,10 +25,13 @@ same-length-4 c = search needs
 same-length-5 : tie.Need-same-length-5
 same-length-5 c = search needs
 
+same-length-6 : tie.Need-same-length-6
+same-length-6 c = search needs
+
 returns : tie.Need-returns
 returns c =
-    ap (λ (end : Scan). outcome (end .refused) (end .qualified ∷ end .repaired ∷ []) (end .after) (doubles (end .work)))
-    (c .before .before .before .before .before .before .before .before .before .before .inpaint-auto .ensures)
+    let e = c .before .before .before .before .before .before .before .before .before .before .before .before .inpaint-auto .ensures in
+    (ap (λ (end : Scan). outcome (end .refused) (end .qualified ∷ end .repaired ∷ []) (end .after) (doubles (end .work))) (e .0), e .1)
 
 pub cathar-inpaint-auto-spec : {M : Type 1} → statement M
 cathar-inpaint-auto-spec =
@@ -40,4 +43,5 @@ cathar-inpaint-auto-spec =
     same-length-3
     same-length-4
     same-length-5
+    same-length-6
     returns)

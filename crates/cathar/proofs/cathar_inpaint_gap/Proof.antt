@@ -1,5 +1,5 @@
--- `cathar::cathar_inpaint_gap` meets its contract: it tells what the repair of the gap ends in, and the workspace is left as
--- that answer says. Assumes nothing.
+-- `cathar::cathar_inpaint_gap` meets its contract: it tells what the repair of the gap ends in and the order of its model, and the
+-- workspace is left as that answer says. Assumes nothing.
 use borrow.Author.Needs.{needs}
 use lib.ListN.{length}
 use Rattle.leaves.specs.Arithmetic.{nought}
@@ -38,7 +38,8 @@ returns c =
     let call = c .before .before .before .before .before .before .before .before .before .before .before .before in
     let args = call .before .before .before .before .before .before .before .before .before .before .before .before .args in
     let n = needed (length (args .samples .now)) (args .start) (args .len) in
-    works doubles _ _ _ _ _ nought n (args .work .now) _ (call .inpaint-gap .ensures) (c .number-of .ensures) (c .before .value-of .ensures)
+    let e = call .inpaint-gap .ensures in
+    (works doubles _ _ _ _ _ nought n (args .work .now) _ (e .0, e .1) (c .number-of .ensures) (c .before .value-of .ensures), e .2)
 
 pub cathar-inpaint-gap-spec : {M : Type 1} → statement M
 cathar-inpaint-gap-spec =

@@ -8,11 +8,12 @@ use native.Mathlib.Omega.{arith}
 use native.Mathlib.Nat.{le-div-iff-mul-le}
 use lib.Dec.{T, leb, eqb}
 use lib.IntN.{pos}
-use lib.ListN.{length}
+use lib.ListN.{length, replicate}
+use lib.Seq.{sets}
 use lib.Ieee.{Float, nan, inf, fin, binary32, up, down, neg, div, mul, lt, eq, ne, toUnsigned, ofBits, ofInt}
 use lib.Ieee.Fits.{down-pos}
 use lib.Ieee.Scale.{finite}
-use borrow.Author.Tests.{lt-ltb, le-leb, lt-leb, eq-eqb, ne-eqb, ltb-false, leb-true}
+use borrow.Author.Tests.{lt-ltb, le-ltb, le-leb, lt-leb, eq-eqb, ne-eqb, ltb-false, leb-true}
 use Rattle.leaves.proofs.Literals.{unbounded, plus-infinity, one-word}
 use Rattle.leaves.specs.Arithmetic.{nought, one, count}
 use Rattle.leaves.specs.Floats.{larger}
@@ -27,6 +28,8 @@ use Rattle.recording.specs.declared.Answer.the-variants.{Done, Refused}
 use Rattle.leaves.proofs.Choice.{truth, EitherWay}
 use Rattle.inpaint.specs.Gap.{needed, gapRepair}
 use Rattle.inpaint.specs.Auto.{allowed, limit, nextRun, Scan, scan, repairAt, scanFrom, scannable, automatic}
+use Rattle.inpaint.specs.Runs.{stretch}
+use Rattle.inpaint.specs.Order.{noted}
 use Rattle.inpaint.specs.declared.Run.{Run}
 use Rattle.inpaint.specs.declared.Run.the-variants.{At, Nowhere}
 use Rattle.inpaint.proofs.auto.Runs.{both}
@@ -203,6 +206,18 @@ scan-turn most i start len n q r k s t w v a number' done first whole h found en
     ∙ sym (scan-takes most i (n - (q + 1)) start len c found)
     ∙ sym (ap (λ (m : ℕ). scanFrom most i m c) left)
     ∙ rest
+
+-- ---- the order of a run's model
+
+module _ (start len m order : ℕ) (orders : List ℕ) (a : Answer) (accepted : a ≡ Done m) where
+  -- it is noted at the places of a gap by the model,
+  pub noted-model : (left : List ℕ) → len ≤ 2048 → left ≡ sets orders start (replicate len order)
+      → left ≡ noted (stretch start len) a order orders
+  noted-model left short e = e ∙ rw (accepted, le-ltb 2048 len short) refl
+
+  -- and nowhere for a straight line
+  pub noted-line : 2048 < len → orders ≡ noted (stretch start len) a order orders
+  noted-line long = rw (accepted, lt-ltb 2048 len long) refl
 
 -- ---- the whole call
 

@@ -6,6 +6,7 @@ use mathlib.Core.List.{List, map}
 use Prim.Native.Nat.{ℕ, _+_, _-_, _≤_, _<_, min}
 use native.Mathlib.Omega.{arith}
 use native.Mathlib.Numerals.{add-one}
+use borrow.Author.Tests.{le-ltb}
 use borrow.Rule.Slice.PartMut.{putMid}
 use lib.ListN.{length, getD, take, drop, length-map, drop-of-length-le}
 use lib.Seq.{sets, drop-cons, length-sets}
@@ -14,15 +15,20 @@ use Rattle.leaves.specs.Arithmetic.{float}
 use Rattle.leaves.specs.Floats.{inRange, narrowed}
 use Rattle.leaves.proofs.Lists.{lent-count, lent-back}
 use Rattle.model.specs.Model.{mostWindow, orderFor, filled, solved, doublesFor}
+use Rattle.model.specs.Order.{modelOrder}
 use Rattle.model.specs.Areas.{area, Only, Laid, resultsAt}
-use Rattle.recording.specs.Recording.{span, ranged}
+use Rattle.recording.specs.Recording.{State, Ended, ended, span, ranged}
+use Rattle.recording.specs.declared.Reason.{Reason}
 use Rattle.recording.specs.declared.Reason.the-variants.{Result}
+use Rattle.recording.specs.declared.Answer.{Answer}
 use Rattle.recording.specs.declared.Answer.the-variants.{Done, Refused}
 use Rattle.inpaint.specs.Gap.{context, from, to, windowSize, window, needed, narrowWord, model}
+use Rattle.inpaint.specs.Order.{fillOrder, orderBeside}
 use Rattle.inpaint.proofs.window.Laws.{context-most, size-most, needed-model}
 use Rattle.leaves.proofs.Parts.{part-length, part-of-sets, drop-sets}
 use Rattle.model.proofs.Parts.{band-most}
 use Rattle.model.proofs.Passes.{one-pass, filled-length}
+use Rattle.model.proofs.Orders.{order-at-most, every-pass-alike}
 
 -- ---- Words and doubles
 
@@ -89,6 +95,14 @@ module _ (samples : List ℕ) (start len : ℕ) (inside : start + len ≤ length
       ap (map narrowWord)
       (one-pass 1 (map float (window samples start len)) (start - from start len) len gap-within
       ∙ sym (one-pass n (map float (window samples start len)) (start - from start len) len gap-within))
+
+  -- and the same order of the model
+  pub order-passes : (n : ℕ) → fillOrder 1 samples start len ≡ fillOrder n samples start len
+  unfolding fillOrder
+  order-passes n =
+      let seg = map float (window samples start len) in
+      let g = start - from start len in
+      every-pass-alike 1 seg g len (orderFor len) gap-within ∙ sym (every-pass-alike n seg g len (orderFor len) gap-within)
 
 -- ---- The model in its workspace
 
@@ -188,6 +202,37 @@ module _ (samples known : List ℕ) (start len : ℕ) (w : List Float) (inside :
             → Only (length known) (doublesFor (length known) len p) u v
             → Modelled samples start len at w v
         modelled v at there e o = rw there (modelled-there v e o)
+
+        -- the order of the model is the rule's, and a number of 32 bits
+        pub modelled-order : (order : ℕ) → order ≡ modelOrder (area u 0 (length known)) (start - f) len p
+            → order ≡ fillOrder 1 samples start len
+        unfolding fillOrder
+        modelled-order order e =
+            let seg = map float (window samples start len) in
+            e
+            ∙ ap (λ (z : List Float). modelOrder z (start - f) len p) front
+            ∙ rw (ef, ep) (sym (every-pass-alike 1 seg (start - from start len) len (orderFor len) (gap-within samples start len inside)))
+
+        pub small-order : (order : ℕ) → order ≡ modelOrder (area u 0 (length known)) (start - f) len p → order ≤ 128
+        small-order order e = let most = order-at-most (area u 0 (length known)) (start - f) len p in omega (arith, e, most, ep)
+
+-- ---- The order beside the answer
+
+-- the answer is handed on
+pub handed-on : (a b : Answer) (s : State) (e : Ended) → a ≡ b → ended b s ≡ e → ended a s ≡ e
+handed-on a b s e same h = ap (λ (r : Answer). ended r s) same ∙ h
+
+-- a refusal has none
+pub refused-order : (start len passes : ℕ) (samples : List ℕ) (a : Answer) (why : Reason) → a ≡ Refused why
+    → 0 ≡ orderBeside start len passes samples a
+refused-order start len passes samples a why e = sym (ap (orderBeside start len passes samples) e)
+
+-- an acceptance has the model's
+pub accepted-order : (start len passes : ℕ) (samples : List ℕ) (a : Answer) (m order : ℕ) → a ≡ Done m → len ≤ 2048
+    → order ≡ fillOrder passes samples start len → order ≡ orderBeside start len passes samples a
+accepted-order start len passes samples a m order e short h =
+    let model : orderBeside start len passes samples (Done m) ≡ fillOrder passes samples start len = rw (le-ltb 2048 len short) refl in
+    h ∙ sym (ap (orderBeside start len passes samples) e ∙ model)
 
 -- ---- In its place
 

@@ -9,6 +9,8 @@ use native.Mathlib.Omega.{arith}
 use borrow.Author.Tests.{lt-ltb, le-ltb}
 use lib.Dec.{ltb}
 use lib.ListN.{length}
+use lib.Ieee.{Float}
+use Rattle.leaves.specs.Arithmetic.{nought}
 use Rattle.recording.specs.Recording.{State, Ended, ended, refused, Plan, refuse, change, span, fitting, carried}
 use Rattle.recording.specs.Recording.{clears, workAfter}
 use Rattle.recording.specs.Marks.{gapByModel, gapByLine}
@@ -22,7 +24,8 @@ use Rattle.recording.proofs.Performing.{unfit, fit}
 use Rattle.inpaint.specs.Gap.{gapWrong, needed, allReadable, from, knownBefore, knownBehind}
 use Rattle.inpaint.specs.Gap.{line, model, repaired, gapPlan, gapRepair}
 use Rattle.inpaint.proofs.window.Laws.{gap-right}
-use Rattle.inpaint.proofs.fill.Laws.{model-passes}
+use Rattle.inpaint.specs.Order.{orderBeside, gapOrder}
+use Rattle.inpaint.proofs.fill.Laws.{model-passes, order-passes, handed-on}
 
 -- ---- The plan
 
@@ -87,6 +90,32 @@ module _ (s : State) (start len passes room : ℕ) (a : Answer) (sized : a ≡ f
 pub refused-as : (s : State) (why : Reason) → refused s why ≡ carried s (refuse why)
 unfolding carried
 refused-as s why = refl
+
+-- ---- The order beside the answer
+
+-- a straight line has none, however it ends
+pub line-order : (start len passes : ℕ) (samples : List ℕ) (a : Answer) → 2048 < len → 0 ≡ orderBeside start len passes samples a
+line-order start len passes samples (Done m) h = rw (lt-ltb 2048 len h) refl
+line-order start len passes samples (Refused why) h = refl
+
+-- that of the model, and one pass does for all
+pub model-order : (start len passes : ℕ) (samples : List ℕ) (a : Answer) → start + len ≤ length samples
+    → orderBeside start len 1 samples a ≡ orderBeside start len passes samples a
+model-order start len passes samples (Done m) inside =
+    ap (λ (k : ℕ). if ltb 2048 len then 0 else k) (order-passes samples start len inside passes)
+model-order start len passes samples (Refused why) inside = refl
+
+-- the whole call: the answer that it hands on, the workspace and the order
+pub whole-call : (s t : State) (start len passes room n : ℕ) (r a : Answer) (order : ℕ) (work next : List Float)
+    → r ≡ a → ended a t ≡ gapRepair start len passes room s → next ≡ workAfter nought n a work
+    → order ≡ orderBeside start len passes (s .samples) a
+    → (ended r t ≡ gapRepair start len passes room s) × (next ≡ workAfter nought n r work) × (order ≡ gapOrder start len passes room s)
+unfolding gapOrder
+whole-call s t start len passes room n r a order work next same ends works beside = (
+  handed-on r a t _ same ends,
+  rw same works,
+  beside ∙ ap (λ (e : Ended). orderBeside start len passes (s .samples) (e .answer)) ends,
+)
 
 -- ---- The workspace
 

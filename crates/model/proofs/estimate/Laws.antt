@@ -15,6 +15,7 @@ use Rattle.leaves.specs.Arithmetic.{_+₆₄_, _-₆₄_, _*₆₄_, _/₆₄_,
 use Rattle.leaves.specs.Floats.{magnitude}
 use Rattle.model.specs.Model.{micro, each, unit, lagSum, lags, raisedAt, raised, shortfall, orders}
 use Rattle.model.specs.Model.{levinson, estimateArKnown}
+use Rattle.model.specs.Order.{highestUsed, levinsonOrder, modelOrder}
 use Rattle.model.specs.Areas.{area, Only, coefsAt}
 use Rattle.leaves.proofs.Parts.{take-sets, store-next, part-of-sets, part-before-sets, part-behind-sets}
 use Rattle.leaves.proofs.Parts.{part-length}
@@ -97,7 +98,7 @@ lag-done w₀ w size g len p lag h e = fill-done w₀ w size lag (p + 1) (lagSum
 
 -- ---- The coefficients 1, 0, .., 0
 
-length-unit : (p : ℕ) → length (unit p) ≡ p + 1
+pub length-unit : (p : ℕ) → length (unit p) ≡ p + 1
 length-unit p = ap suc (length-replicate p nought) ∙ sym (add-one p)
 
 pub unit-stored : (w v : List Float) (a p : ℕ)
@@ -233,56 +234,89 @@ shortfall-here w₀ w r copy a p end m n i acc em en h o e =
     ∙ ap (λ (l : List Float). shortfall (area w a (p + 1)) l i)
     (ap (area w r) en ∙ only-before copy end r (p + 1) w₀ w o h)
 
+-- where the recursion stops: with which coefficients, and with which order
+pub record Stop : Type 0 where
+  pub coefs : List Float
+  pub order : ℕ
+
+abbrev pub stop : List Float → ℕ → Stop
+stop a i = record { coefs = a; order = i }
+
+-- by its two rules, of the orders from i on, n of them
+abbrev pub stopOf : List Float → List Float → Float → ℕ → ℕ → Stop
+stopOf r a e i n = stop (orders r a e i n) (highestUsed r a e i n)
+
+-- both rules choose by the same test
+pub choose-both : (b : Bool) (a a' : List Float) (i i' : ℕ) → stop (cond b a a') (cond b i i') ≡ cond b (stop a i) (stop a' i')
+choose-both true a a' i i' = refl
+choose-both false a a' i i' = refl
+
 -- the orders from i on, by the tests of a turn: none is left, e is too small, e ends it, or one order more
-module _ (r a : List Float) (e : Float) (i p : ℕ) (whole : List Float) (rest : orders r a e i (p + 1 - i) ≡ whole) where
-  pub orders-done : p < i → a ≡ whole
-  unfolding orders
-  orders-done h = let none : p + 1 - i ≡ 0 = omega arith in sym (ap (orders r a e i) none) ∙ rest
+module _ (r a : List Float) (e : Float) (i p : ℕ) (whole : Stop) (rest : stopOf r a e i (p + 1 - i) ≡ whole) where
+  pub orders-done : i ≡ p + 1 → stop a p ≡ whole
+  unfolding orders highestUsed
+  orders-done h =
+      let none : p + 1 - i ≡ 0 = omega arith in
+      let last : p ≡ i - 1 = omega arith in
+      ap (stop a) last ∙ sym (ap (stopOf r a e i) none) ∙ rest
 
   module _ (acc size k next : Float) (h : i ≤ p) (es : size ≡ magnitude e) (ea : acc ≡ shortfall a r i)
       (ek : k ≡ neg acc /₆₄ e) (en : next ≡ e *₆₄ (ofBits binary64 4607182418800017408 -₆₄ k *₆₄ k)) where
-    one-order : orders r a e i (p + 1 - i)
-        ≡ cond (lt size (ofBits binary64 4427486594234968593)) a
-        (cond (le next (ofBits binary64 0)) (raised a i k) (orders r (raised a i k) next (i + 1) (p + 1 - (i + 1))))
-    unfolding orders
+    one-order : stopOf r a e i (p + 1 - i)
+        ≡ cond (lt size (ofBits binary64 4427486594234968593)) (stop a (i - 1))
+        (cond (le next (ofBits binary64 0)) (stop (raised a i k) i) (stopOf r (raised a i k) next (i + 1) (p + 1 - (i + 1))))
+    unfolding orders highestUsed
     one-order =
         let left : p + 1 - i ≡ suc (p + 1 - (i + 1)) = omega arith in
-        rw (left, en, ek, ea, es, one-double, pico-word, nought-double) refl
+        let small = lt size (ofBits binary64 4427486594234968593) in
+        let ends = le next (ofBits binary64 0) in
+        let on = p + 1 - (i + 1) in
+        let both : stopOf r a e i (p + 1 - i)
+        ≡ stop (cond small a (cond ends (raised a i k) (orders r (raised a i k) next (i + 1) on)))
+        (cond small (i - 1) (cond ends i (highestUsed r (raised a i k) next (i + 1) on))) =
+        rw (left, en, ek, ea, es, one-double, pico-word, nought-double) refl in
+        both
+        ∙ choose-both small _ _ _ _
+        ∙ ap (cond small (stop a (i - 1))) (choose-both ends _ _ _ _)
 
-    pub orders-small : lt size (ofBits binary64 4427486594234968593) ≡ true → a ≡ whole
+    pub orders-small : lt size (ofBits binary64 4427486594234968593) ≡ true → stop a (i - 1) ≡ whole
     orders-small small = sym (one-order ∙ choose-true _ _ _ small) ∙ rest
 
     module _ (large : lt size (ofBits binary64 4427486594234968593) ≡ false) where
-      pub orders-ended : le next (ofBits binary64 0) ≡ true → raised a i k ≡ whole
+      pub orders-ended : le next (ofBits binary64 0) ≡ true → stop (raised a i k) i ≡ whole
       orders-ended ends = sym (one-order ∙ choose-false _ _ _ large ∙ choose-true _ _ _ ends) ∙ rest
 
       pub orders-next : le next (ofBits binary64 0) ≡ false
-          → orders r (raised a i k) next (i + 1) (p + 1 - (i + 1)) ≡ whole
+          → stopOf r (raised a i k) next (i + 1) (p + 1 - (i + 1)) ≡ whole
       orders-next on = sym (one-order ∙ choose-false _ _ _ large ∙ choose-false _ _ _ on) ∙ rest
 
--- the coefficients that the orders left, from 1, 0, .., 0 on, are the model of the lags
-pub levinson-ends : (w w₁ w₂ : List Float) (r p : ℕ) → r + 3 * (p + 1) ≤ length w
+-- the coefficients that the orders left, from 1, 0, .., 0 on, are the model of the lags, and the order is the highest of them
+pub levinson-ends : (w w₁ w₂ : List Float) (r p order : ℕ) → r + 3 * (p + 1) ≤ length w
     → w₁ ≡ sets w (r + 2 * (p + 1)) (unit p)
     → Only (r + (p + 1)) (r + 3 * (p + 1)) w₁ w₂
-    → area w₂ (r + 2 * (p + 1)) (p + 1)
-    ≡ orders (area w₁ r (p + 1)) (area w₁ (r + 2 * (p + 1)) (p + 1)) (at w₁ r) 1 p
+    → stop (area w₂ (r + 2 * (p + 1)) (p + 1)) order
+    ≡ stopOf (area w₁ r (p + 1)) (area w₁ (r + 2 * (p + 1)) (p + 1)) (at w₁ r) 1 p
     → (area w₂ (r + 2 * (p + 1)) (p + 1) ≡ levinson (area w r (p + 1)) p)
     × Only (r + (p + 1)) (r + 3 * (p + 1)) w w₂
-unfolding levinson
-levinson-ends w w₁ w₂ r p room e o whole =
+    × (order ≡ levinsonOrder (area w r (p + 1)) p)
+unfolding levinson levinsonOrder
+levinson-ends w w₁ w₂ r p order room e o whole =
     let a = r + 2 * (p + 1) in
     let count : length (unit p) ≡ p + 1 = length-unit p in
     let lags-kept : area w₁ r (p + 1) ≡ area w r (p + 1) = run-before w w₁ (unit p) a r (p + 1) e (omega arith) in
     let start : area w₁ a (p + 1) ≡ unit p = run-stands w w₁ (unit p) a (p + 1) e count (omega arith) in
     let first : at w₁ r ≡ at (area w r (p + 1)) 0 =
-    fill-at w w₁ (unit p) a r e (omega arith) ∙ sym (area-first w r (p + 1) (omega arith)) in (
-      whole
-          ∙ ap (λ (l : List Float). orders l (area w₁ a (p + 1)) (at w₁ r) 1 p) lags-kept
-          ∙ ap (λ (l : List Float). orders (area w r (p + 1)) l (at w₁ r) 1 p) start
-          ∙ ap (λ (x : Float). orders (area w r (p + 1)) (unit p) x 1 p) first,
+    fill-at w w₁ (unit p) a r e (omega arith) ∙ sym (area-first w r (p + 1) (omega arith)) in
+    let ended : stop (area w₂ a (p + 1)) order ≡ stopOf (area w r (p + 1)) (unit p) (at (area w r (p + 1)) 0) 1 p =
+    whole
+    ∙ ap (λ (l : List Float). stopOf l (area w₁ a (p + 1)) (at w₁ r) 1 p) lags-kept
+    ∙ ap (λ (l : List Float). stopOf (area w r (p + 1)) l (at w₁ r) 1 p) start
+    ∙ ap (λ (x : Float). stopOf (area w r (p + 1)) (unit p) x 1 p) first in (
+      ap (λ (s : Stop). s .coefs) ended,
       only-then (r + (p + 1)) (r + 3 * (p + 1)) w w₁ w₂
           (run-only w w₁ (unit p) a (p + 1) (r + (p + 1)) (r + 3 * (p + 1)) e count (omega arith) (omega arith))
           o,
+      ap (λ (s : Stop). s .order) ended,
     )
 
 -- ---- The coefficients of the model of what is known, from the lags behind the window
@@ -320,8 +354,10 @@ module _ (w w₁ : List Float) (size g len p : ℕ) (room : size + 3 * (p + 1) �
   -- the first lag is not above 0
   pub estimate-unit : (w₂ : List Float) → le (at w₁ size) (ofBits binary64 0) ≡ true
       → w₂ ≡ sets w₁ (coefsAt size p) (unit p)
-      → (area w₂ (coefsAt size p) (p + 1) ≡ estimateArKnown (area w 0 size) g len p) × Only size (size + 3 * (p + 1)) w w₂
-  unfolding estimateArKnown
+      → (area w₂ (coefsAt size p) (p + 1) ≡ estimateArKnown (area w 0 size) g len p)
+      × Only size (size + 3 * (p + 1)) w w₂
+      × (0 ≡ modelOrder (area w 0 size) g len p)
+  unfolding estimateArKnown modelOrder
   estimate-unit w₂ none e₂ =
       let test : le (at (lags (area w 0 size) g len p) 0) nought ≡ true =
       sym (ap (λ (x : Float). le x nought) first-lag) ∙ ap (le (at w₁ size)) (sym nought-double) ∙ none in
@@ -333,16 +369,20 @@ module _ (w w₁ : List Float) (size g len p : ℕ) (room : size + 3 * (p + 1) �
         run-stands w₁ w₂ (unit p) (coefsAt size p) (p + 1) e₂ count there
             ∙ sym (choose-true _ _ _ test),
         only-then size (size + 3 * (p + 1)) w w₁ w₂ lags-only wrote,
+        sym (choose-true _ _ _ test),
       )
 
   -- it is, and is raised a little
-  pub estimate-model : (v : Float) (w₃ : List Float) → le (at w₁ size) (ofBits binary64 0) ≡ false
+  pub estimate-model : (v : Float) (w₃ : List Float) (order : ℕ) → le (at w₁ size) (ofBits binary64 0) ≡ false
       → v ≡ at w₁ size *₆₄ (ofBits binary64 4607182418800017408 +₆₄ ofBits binary64 4517329193108106637)
-      → area w₃ (coefsAt size p) (p + 1) ≡ levinson (area (set w₁ size v) size (p + 1)) p
-      → Only (size + (p + 1)) (size + 3 * (p + 1)) (set w₁ size v) w₃
-      → (area w₃ (coefsAt size p) (p + 1) ≡ estimateArKnown (area w 0 size) g len p) × Only size (size + 3 * (p + 1)) w w₃
-  unfolding estimateArKnown
-  estimate-model v w₃ some ev model o =
+      → (area w₃ (coefsAt size p) (p + 1) ≡ levinson (area (set w₁ size v) size (p + 1)) p)
+      × Only (size + (p + 1)) (size + 3 * (p + 1)) (set w₁ size v) w₃
+      × (order ≡ levinsonOrder (area (set w₁ size v) size (p + 1)) p)
+      → (area w₃ (coefsAt size p) (p + 1) ≡ estimateArKnown (area w 0 size) g len p)
+      × Only size (size + 3 * (p + 1)) w w₃
+      × (order ≡ modelOrder (area w 0 size) g len p)
+  unfolding estimateArKnown modelOrder
+  estimate-model v w₃ order some ev model =
       let r = lags (area w 0 size) g len p in
       let test : le (at r 0) nought ≡ false =
       sym (ap (λ (x : Float). le x nought) first-lag) ∙ ap (le (at w₁ size)) (sym nought-double) ∙ some in
@@ -357,11 +397,15 @@ module _ (w w₁ : List Float) (size g len p : ℕ) (room : size + 3 * (p + 1) �
       only-sets w₁ (v ∷ []) size size (size + 3 * (p + 1)) (omega arith) (omega arith) in
       let rest : Only size (size + 3 * (p + 1)) (set w₁ size v) w₃ =
       only-wider (size + (p + 1)) (size + 3 * (p + 1)) size (size + 3 * (p + 1)) (set w₁ size v) w₃ (omega arith)
-      (omega arith) o in (
-        model
-            ∙ ap (λ (l : List Float). levinson l p) (stands ∙ ap (set r 0) value)
+      (omega arith) (model .1) in
+      let raised-lags : area (set w₁ size v) size (p + 1) ≡ set r 0 (at r 0 *₆₄ (one +₆₄ micro)) = stands ∙ ap (set r 0) value in (
+        model .0
+            ∙ ap (λ (l : List Float). levinson l p) raised-lags
             ∙ sym (choose-false _ _ _ test),
         only-then size (size + 3 * (p + 1)) w (set w₁ size v) w₃
             (only-then size (size + 3 * (p + 1)) w w₁ (set w₁ size v) lags-only wrote)
             rest,
+        model .2
+            ∙ ap (λ (l : List Float). levinsonOrder l p) raised-lags
+            ∙ sym (choose-false _ _ _ test),
       )

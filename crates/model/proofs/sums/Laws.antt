@@ -37,6 +37,15 @@ unfolding each
 length-each f i zero = refl
 length-each f i (suc n) = ap suc (length-each f (i + 1) n)
 
+-- one of them
+pub at-each : (f : ℕ → Float) (i n j : ℕ) → j < n → at (each f i n) j ≡ f (i + j)
+unfolding each
+at-each f i zero j h = absurd (omega (arith, h))
+at-each f i (suc n) zero h = let here : i ≡ i + 0 = omega arith in ap f here
+at-each f i (suc n) (suc j) h =
+    let next : i + 1 + j ≡ i + suc j = omega arith in
+    at-each f (i + 1) n j (omega (arith, h)) ∙ ap f next
+
 -- lists agree where the functions agree on their places
 pub each-agree : (f f' : ℕ → Float) (i n : ℕ) → ((k : ℕ) → i ≤ k → k < i + n → f k ≡ f' k)
     → each f i n ≡ each f' i n

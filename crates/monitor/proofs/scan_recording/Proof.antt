@@ -22,10 +22,13 @@ same-length-4 c = search needs
 same-length-5 : tie.Need-same-length-5
 same-length-5 c = search needs
 
+same-length-6 : tie.Need-same-length-6
+same-length-6 c = search needs
+
 returns : tie.Need-returns
 returns c =
-    let scanned = c .before .before .before .before .before .before .before .before .before .before in
-    scanned-so _ _ _ (scanned .inpaint-auto .ensures)
+    let scanned = c .before .before .before .before .before .before .before .before .before .before .before .before in
+    scanned-so _ _ _ _ _ (scanned .inpaint-auto .ensures)
 
 pub scan-recording-spec : {M : Type 1} → statement M
 scan-recording-spec =
@@ -37,4 +40,5 @@ scan-recording-spec =
     same-length-3
     same-length-4
     same-length-5
+    same-length-6
     returns)

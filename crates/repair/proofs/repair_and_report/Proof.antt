@@ -17,11 +17,14 @@ same-length c = search needs
 same-length-2 : tie.Need-same-length-2
 same-length-2 c = search needs
 
+same-length-3 : tie.Need-same-length-3
+same-length-3 c = search needs
+
 returns : tie.Need-returns
 returns c =
-    let made = c .before .before .before .before .before .before .before .repair-bytes .ensures in
-    (ap (λ (r : Report). r .samples) made, ap (λ (r : Report). r .marks) made)
+    let made = c .before .before .before .before .before .before .before .before .before .before .repair-bytes .ensures in
+    (ap (λ (r : Report). r .samples) made, ap (λ (r : Report). r .marks) made, ap (λ (r : Report). r .orders) made)
 
 pub repair-and-report-spec : {M : Type 1} → statement M
 repair-and-report-spec =
-    tie.close (tie.spec repair-bytes-requires print-report-requires same-length same-length-2 returns)
+    tie.close (tie.spec repair-bytes-requires print-report-requires same-length same-length-2 same-length-3 returns)

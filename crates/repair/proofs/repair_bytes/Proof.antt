@@ -18,7 +18,7 @@ array-borrow-prefix-counts : tie.Need-array-borrow-prefix-counts
 array-borrow-prefix-counts c =
     let samples = c .before .before .before .before in
     few-blocks _ _ (c .before .before .block-count .ensures)
-    (omega (arith, samples .samples .given, samples .before .before .before .before .before .before .pre .2))
+    (omega (arith, samples .samples .given, samples .before .before .before .before .before .before .before .pre .2))
 
 slice-aggregate-repair-recording : tie.Need-slice-aggregate-repair-recording
 slice-aggregate-repair-recording c = sym (length-take-le _ _ (array-borrow-prefix-counts (c .before)))
@@ -38,13 +38,16 @@ same-length c = search needs
 same-length-2 : tie.Need-same-length-2
 same-length-2 c = search needs
 
+same-length-3 : tie.Need-same-length-3
+same-length-3 c = search needs
+
 returns : tie.Need-returns
 returns c =
-    let scanned = c .before .before .before .before .before .before .before in
-    let blocks = scanned .before .before .before .before .before .before .before in
+    let scanned = c .before .before .before .before .before .before .before .before .before in
+    let blocks = scanned .before .before .before .before .before .before .before .before in
     let read = blocks .before .before .before in
-    let start = read .before .before .before .before .before in
-    reports _ (start .args .samples .now) _ _ _ _ (start .pre .1) (start .pre .2) (read .decode .ensures) (blocks .block-count .ensures)
+    let start = read .before .before .before .before .before .before in
+    reports _ (start .args .samples .now) _ _ _ _ _ _ (start .pre .1) (start .pre .2) (read .decode .ensures) (blocks .block-count .ensures)
     (scanned .repair-recording .ensures)
 
 pub repair-bytes-spec : {M : Type 1} → statement M
@@ -60,4 +63,5 @@ repair-bytes-spec =
     repair-recording-requires
     same-length
     same-length-2
+    same-length-3
     returns)

@@ -1,5 +1,6 @@
 -- `inpaint::fill::repair_by_model` meets its contract: the model's doubles are those of the rule, and the call is
--- refused by the range test, refused by the entry, or entered and written. Assumes nothing.
+-- refused by the range test, refused by the entry, or entered and written, with the order of the model beside it. Assumes
+-- nothing.
 use borrow.Author.Needs.{needs}
 use mathlib.Core.Path.{_≡_, refl, ap, _∙_}
 use mathlib.Core.List.{List}
@@ -9,7 +10,9 @@ use lib.ListN.{length}
 use Rattle.recording.specs.Recording.{State, state, mostSamples, ranged, span}
 use Rattle.recording.proofs.commit.Laws.{carried-out, span-refused, span-written}
 use Rattle.inpaint.specs.Gap.{model}
-use Rattle.inpaint.proofs.fill.Laws.{length-model, Modelled, widen-room, laid, modelled, fill-count, model-back}
+use Rattle.inpaint.specs.Order.{fillOrder}
+use Rattle.inpaint.proofs.fill.Laws.{length-model, Modelled, widen-room, laid, modelled, modelled-order, small-order, fill-count}
+use Rattle.inpaint.proofs.fill.Laws.{model-back, handed-on, refused-order, accepted-order}
 use Rattle.inpaint.proofs.fill.repair_by_model.Statement.{statement}
 use Rattle.inpaint.proofs.fill.repair_by_model.Tie as tie
 
@@ -42,6 +45,9 @@ entering c = c .before .before .before .before .before .before .before .before
 abbrev testing : tie.After-enum-told3 → tie.After-check-results
 testing c = tested (entering c) .before .before
 
+abbrev refusing : tie.After-without-model2 → tie.After-enter-span
+refusing c = c .before .before .before .before .before .before .before .before .before
+
 -- the recording before the call, and the gap within it
 abbrev recording : tie.After-check-results → State
 recording c =
@@ -67,6 +73,22 @@ gave c =
     (windowed (fill .before) .window-of .ensures) _ _ _ (widening (fill .before) .widen-words .ensures)
     (fill .before .window-from .ensures) (fill .before .before .before .order-for .ensures)
     _ _ (c .results-at .ensures) (fill .fill-by-model .ensures .0) (fill .fill-by-model .ensures .1)
+
+-- and of which order it was
+ordered : (c : tie.After-fill-by-model)
+    → let a = start (c .before) .args in
+    (c .fill-by-model .result ≡ fillOrder 1 (a .samples .now) (a .start) (a .len)) × (c .fill-by-model .result ≤ 128)
+ordered c =
+    let s = start (c .before) in
+    let a = s .args in
+    let same = c .fill-by-model .ensures .2 in (
+      modelled-order (a .samples .now) _ (a .start) (a .len) (a .work .now) (s .pre .1) (s .pre .2) (s .pre .3) (s .pre .4)
+          (windowed (c .before) .window-of .ensures) _ _ _ (widening (c .before) .widen-words .ensures) (c .before .window-from .ensures)
+          (c .before .before .before .order-for .ensures) _ same,
+      small-order (a .samples .now) _ (a .start) (a .len) (a .work .now) (s .pre .1) (s .pre .2) (s .pre .3) (s .pre .4)
+          (windowed (c .before) .window-of .ensures) _ _ _ (widening (c .before) .widen-words .ensures) (c .before .window-from .ensures)
+          (c .before .before .before .order-for .ensures) _ same,
+    )
 
 -- the test of the results' range
 ranging : (c : tie.After-check-results)
@@ -103,6 +125,9 @@ fill-by-model-requires c κs =
     (windowed c .window-of .ensures) _ _ _ (widening c .widen-words .ensures) (c .window-from .ensures)
     (c .before .before .order-for .ensures)
 
+cast-order : tie.Need-cast-order
+cast-order c = omega (arith, ordered (c .before .before))
+
 results-at-requires : tie.Need-results-at-requires
 results-at-requires c κs =
     let fill = c .before .before in
@@ -137,17 +162,28 @@ enum-told c = search needs
 enum-told-2 : tie.Need-enum-told-2
 enum-told-2 c = search needs
 
+without-model-requires : tie.Need-without-model-requires
+without-model-requires c κs = search needs
+
 same-length : tie.Need-same-length
 same-length c = refl
 
 same-length-2 : tie.Need-same-length-2
-same-length-2 c = gave (placing (c .before .before)) .count
+same-length-2 c = gave (placing (c .before .before .before)) .count
 
 returns : tie.Need-returns
 returns c =
-    let call = c .before .before in
+    let told = c .before in
+    let call = told .before .before in
+    let a = start (filling call .before) .args in
     let m = gave (placing call) in
-    (carried-out _ _ _ _ _ (ranging call) (c .enum-told2 .given .1), m .count, m .kept)
+    let out = told .enum-told2 .given .1 in
+    let alone = c .without-model .ensures in (
+      handed-on _ _ _ _ (alone .0) (carried-out _ _ _ _ _ (ranging call) out),
+      m .count,
+      m .kept,
+      alone .1 ∙ refused-order (a .start) (a .len) 1 (a .samples .now) _ _ (alone .0 ∙ out),
+    )
 
 enter-span-requires : tie.Need-enter-span-requires
 enter-span-requires c κs = search needs
@@ -158,33 +194,40 @@ enum-told-3 c = search needs
 enum-told-4 : tie.Need-enum-told-4
 enum-told-4 c = search needs
 
+without-model-requires-2 : tie.Need-without-model-requires-2
+without-model-requires-2 c κs = search needs
+
 same-length-3 : tie.Need-same-length-3
 same-length-3 c = refl
 
 same-length-4 : tie.Need-same-length-4
-same-length-4 c = c .before .before .before .before .before .before .before .before .enter-span .kept .1 .0
+same-length-4 c = refusing c .enter-span .kept .1 .0
 
 same-length-5 : tie.Need-same-length-5
-same-length-5 c = c .before .before .before .before .before .before .before .before .enter-span .kept .1 .1 .0
+same-length-5 c = refusing c .enter-span .kept .1 .1 .0
 
 same-length-6 : tie.Need-same-length-6
-same-length-6 c = c .before .before .before .before .before .before .before .before .enter-span .kept .1 .1 .1 .0
+same-length-6 c = refusing c .enter-span .kept .1 .1 .1 .0
 
 same-length-7 : tie.Need-same-length-7
-same-length-7 c = gave (placing (tested (c .before .before .before .before .before .before .before .before) .before .before)) .count
+same-length-7 c = gave (placing (tested (refusing c) .before .before)) .count
 
 returns-2 : tie.Need-returns-2
 returns-2 c =
-    let entering = c .before .before .before .before .before .before .before .before in
+    let entering = refusing c in
     let told = tested entering in
     let call = told .before .before in
     let a = start (filling call .before) .args in
     let count = length-model (a .samples .now) (a .start) (a .len) (inside call) 1 in
-    let m = gave (placing call) in (
-      span-refused (recording call) _ _ _ _ count _ _ _ _ _ _ _ (ranging call) (told .enum-told .given .1)
-          _ (c .enum-told4 .given .1) (entering .enter-span .ensures _ count),
+    let m = gave (placing call) in
+    let out = c .before .enum-told4 .given .1 in
+    let alone = c .without-model2 .ensures in (
+      handed-on _ _ _ _ (alone .0)
+          (span-refused (recording call) _ _ _ _ count _ _ _ _ _ _ _ (ranging call) (told .enum-told .given .1)
+          _ out (entering .enter-span .ensures _ count)),
       m .count,
       m .kept,
+      alone .1 ∙ refused-order (a .start) (a .len) 1 (a .samples .now) _ _ (alone .0 ∙ out),
     )
 
 add-model-fill : tie.Need-add-model-fill
@@ -251,6 +294,8 @@ returns-3 c =
           _ _ (done .enum-told3 .given .1) back (entering .enter-span .ensures _ count),
       m .count,
       m .kept,
+      accepted-order (a .start) (a .len) 1 (a .samples .now) _ _ _ (done .enum-told3 .given .1) (start (filling call .before) .pre .3)
+          (ordered (filling call) .0),
     )
 
 pub repair-by-model-spec : {M : Type 1} → statement M
@@ -263,6 +308,7 @@ repair-by-model-spec =
     window-from-requires
     sub-fill-by-model
     fill-by-model-requires
+    cast-order
     results-at-requires
     add-check-results
     mul-check-results
@@ -272,12 +318,14 @@ repair-by-model-spec =
     check-results-requires
     enum-told
     enum-told-2
+    without-model-requires
     same-length
     same-length-2
     returns
     enter-span-requires
     enum-told-3
     enum-told-4
+    without-model-requires-2
     same-length-3
     same-length-4
     same-length-5

@@ -1,5 +1,5 @@
--- `model::estimate::estimate_ar_known` meets its contract: the model is 1, 0, .., 0, or that of the lags with the first
--- raised. Assumes nothing.
+-- `model::estimate::estimate_ar_known` meets its contract: the model is 1, 0, .., 0, of order 0, or that of the lags with
+-- the first raised. Assumes nothing.
 use Prim.Native.Nat.{_+_, _*_, _≤_}
 use native.Mathlib.Omega.{arith}
 use mathlib.Core.Path.{_≡_, refl}
@@ -73,8 +73,8 @@ returns-2 c =
     let lagged = tested .before .before .before .before in
     let a = lagged .before .before .before .args in
     let room : a .size + 3 * (a .p + 1) ≤ length (a .work .now) = omega arith in
-    estimate-model (a .work .now) _ (a .size) (a .g) (a .len) (a .p) room (lagged .correlate .ensures) _ _
-    (tested .if1 .left) refl (solved .levinson .ensures .0) (solved .levinson .ensures .1)
+    estimate-model (a .work .now) _ (a .size) (a .g) (a .len) (a .p) room (lagged .correlate .ensures) _ _ _
+    (tested .if1 .left) refl (solved .levinson .ensures)
 
 pub estimate-ar-known-spec : {M : Type 1} → statement M
 estimate-ar-known-spec =

@@ -1,17 +1,18 @@
 -- `model::estimate::levinson` meets its contract. The loop's invariant: the orders that are left, from the coefficients
--- as they stand, give the whole, and nothing but the copy and the coefficients was written. The measure is how many
--- orders are left. Assumes nothing.
+-- as they stand, give the coefficients and the order of the whole, and nothing but the copy and the coefficients was
+-- written. The measure is how many orders are left. Assumes nothing.
 use Prim.Native.Nat.{ℕ, _+_, _-_, _*_, _≤_}
 use native.Mathlib.Omega.{arith}
 use borrow.Author.Needs.{needs}
-use mathlib.Core.Path.{_≡_, refl, _∙_}
+use mathlib.Core.Path.{_≡_, refl, ap, _∙_}
+use mathlib.Core.List.{List}
 use lib.ListN.{length, length-take, length-drop}
-use lib.Ieee.{neg}
+use lib.Ieee.{Float, neg}
 use Rattle.leaves.specs.Arithmetic.{_/₆₄_}
-use Rattle.model.specs.Model.{shortfall, raised, orders}
+use Rattle.model.specs.Model.{shortfall, raised}
 use Rattle.model.specs.Areas.{area, Only}
 use Rattle.model.proofs.Parts.{only-then}
-use Rattle.model.proofs.estimate.Laws.{order-stands, shortfall-here, orders-done, orders-small}
+use Rattle.model.proofs.estimate.Laws.{order-stands, shortfall-here, stop, stopOf, orders-done, orders-small}
 use Rattle.model.proofs.estimate.Laws.{orders-ended, orders-next, levinson-ends}
 use Rattle.model.proofs.estimate.levinson.Statement.{statement}
 use Rattle.model.proofs.estimate.levinson.Tie as tie
@@ -19,8 +20,8 @@ use Rattle.model.proofs.estimate.levinson.Tie as tie
 abbrev Inv-loop : tie.InvT-loop
 Inv-loop work₀ r p copy a e₀ i₀ work e i =
     (1 ≤ i) × (i ≤ p + 1) × (length work ≡ length work₀) × Only copy (r + 3 * (p + 1)) work₀ work
-    × (orders (area work₀ r (p + 1)) (area work a (p + 1)) e i (p + 1 - i)
-    ≡ orders (area work₀ r (p + 1)) (area work₀ a (p + 1)) e₀ 1 p)
+    × (stopOf (area work₀ r (p + 1)) (area work a (p + 1)) e i (p + 1 - i)
+    ≡ stopOf (area work₀ r (p + 1)) (area work₀ a (p + 1)) e₀ 1 p)
 
 abbrev μ-loop : tie.MeasureT-loop
 μ-loop work₀ r p copy a e₀ i₀ work e i = p + 1 - i
@@ -156,6 +157,9 @@ order-shortfall-requires c κs = simp (length-take, length-drop) (omega arith)
 magnitude64-requires : tie.Need-magnitude64-requires Inv-loop μ-loop
 magnitude64-requires c κs = search needs
 
+sub-result : tie.Need-sub-result Inv-loop μ-loop
+sub-result c = omega arith
+
 same-length : tie.Need-same-length Inv-loop μ-loop
 same-length c = search needs
 
@@ -166,7 +170,7 @@ returns c =
     let stopped =
     orders-small _ _ _ _ _ _ (l .loop .inv .4) _ _ _ _ (turn short .loop-test .taken) (c .before .magnitude64 .ensures)
     (made-up short) refl refl (c .if1 .taken) in
-    levinson-ends (entry l .args .work .now) _ _ (lags l) (entry l .args .p) (entry l .pre .0)
+    levinson-ends (entry l .args .work .now) _ _ (lags l) (entry l .args .p) _ (entry l .pre .0)
     (begun l .start-unit .ensures) (l .loop .inv .3) stopped
 
 raise-order-requires : tie.Need-raise-order-requires Inv-loop μ-loop
@@ -190,8 +194,8 @@ returns-2 c =
     let ended =
     orders-ended _ _ _ _ _ _ (l .loop .inv .4) _ _ _ _ (turn (sized .before) .loop-test .taken)
     (sized .magnitude64 .ensures) (made-up (sized .before)) refl refl (large copied .if1 .left) (c .if2 .taken) in
-    levinson-ends (entry l .args .work .now) _ _ (lags l) (entry l .args .p) (entry l .pre .0)
-    (begun l .start-unit .ensures) (only-then _ _ _ _ _ (l .loop .inv .3) (done .1)) (done .0 ∙ ended)
+    levinson-ends (entry l .args .work .now) _ _ (lags l) (entry l .args .p) _ (entry l .pre .0)
+    (begun l .start-unit .ensures) (only-then _ _ _ _ _ (l .loop .inv .3) (done .1)) (ap (λ (a : List Float). stop a (l .loop .i)) (done .0) ∙ ended)
 
 add-i : tie.Need-add-i Inv-loop μ-loop
 add-i c = omega arith
@@ -221,8 +225,8 @@ same-length-3 c = search needs
 returns-3 : tie.Need-returns-3 Inv-loop μ-loop
 returns-3 c =
     let l = c .before in
-    levinson-ends (entry l .args .work .now) _ _ (lags l) (entry l .args .p) (entry l .pre .0)
-    (begun l .start-unit .ensures) (l .loop .inv .3) (orders-done _ _ _ _ _ _ (l .loop .inv .4) (c .loop-test .left))
+    levinson-ends (entry l .args .work .now) _ _ (lags l) (entry l .args .p) _ (entry l .pre .0)
+    (begun l .start-unit .ensures) (l .loop .inv .3) (orders-done _ _ _ _ _ _ (l .loop .inv .4) (omega (arith, c .loop-test .left, l .loop .inv .1)))
 
 pub levinson-spec : {M : Type 1} → statement M
 levinson-spec =
@@ -253,6 +257,7 @@ levinson-spec =
     part-order-shortfall-end-2
     order-shortfall-requires
     magnitude64-requires
+    sub-result
     same-length
     returns
     raise-order-requires

@@ -1,5 +1,5 @@
--- `model::fill::fill_by_model` meets its contract: the coefficients, their sums, and the gap that they solve. Assumes
--- nothing.
+-- `model::fill::fill_by_model` meets its contract: the coefficients, their sums, and the gap that they solve; the order is
+-- that of the coefficients. Assumes nothing.
 use Rattle.model.proofs.fill.Laws.{pass-solved}
 use borrow.Author.Needs.{needs}
 use Rattle.model.proofs.fill.fill_by_model.Statement.{statement}
@@ -42,9 +42,11 @@ returns c =
     let model = sums .before .before .before .before in
     let start = model .before .before .before in
     let a = start .args in
+    let filled =
     pass-solved (a .work .now) (model .estimate-ar-known .last .0) (sums .coef-autocorr .last .0) _ (a .size) (a .g)
     (a .len) (a .p) (start .pre .room) (model .estimate-ar-known .ensures .0) (model .estimate-ar-known .ensures .1)
-    (sums .coef-autocorr .ensures) (gap .solve-gap .ensures .0) (gap .solve-gap .ensures .1)
+    (sums .coef-autocorr .ensures) (gap .solve-gap .ensures .0) (gap .solve-gap .ensures .1) in
+    (filled .0, filled .1, model .estimate-ar-known .ensures .2)
 
 pub fill-by-model-spec : {M : Type 1} → statement M
 fill-by-model-spec =
