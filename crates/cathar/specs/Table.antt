@@ -15,6 +15,7 @@ use Rattle.recording.specs.Marks.{measured}
 use Rattle.recording.specs.Counts.{counted}
 use Rattle.recording.specs.History.{fresh}
 use Rattle.inpaint.specs.Gap.{gapRepair}
+use Rattle.inpaint.specs.Order.{gapOrder}
 use Rattle.declip.specs.Declip.{declipRepair}
 use Rattle.dequant.specs.Dequant.{dequantizeRepair}
 
@@ -82,7 +83,7 @@ spike = partsOf 32 (0 ∷ 0 ∷ 4 ∷ 0 ∷ 0 ∷ [])
 -- ---- The table
 
 unfoldable pub table : List Row
-unfolding neg roots wholes narrows shown partsOf quietGap undone declipRepair dequantizeRepair
+unfolding neg roots wholes narrows shown partsOf quietGap gapOrder undone declipRepair dequantizeRepair
 table =
     let repaired = quietGap 2 8 in
     let back = undone (repaired .after) in
@@ -108,6 +109,8 @@ table =
           leaving 0 2 8 (0x30800000 ∷ 0x30800000 ∷ 0x80000000 ∷ 0 ∷ 0x30800000 ∷ 0x30800000 ∷ []) (0 ∷ 0 ∷ 1 ∷ 1 ∷ 0 ∷ 0 ∷ []) 2
           (2 ∷ 0 ∷ 0 ∷ 3 ∷ 0 ∷ 0 ∷ 2 ∷ 1 ∷ []);
     }
+    -- the order of its model: "0 in *quiet*" (request P8 of document 02)
+    ∷ record { given = (gapOrder 2 2 3 210 (recorded quiet 8) ∷ []) ∷ []; should = (0 ∷ []) ∷ [] }
     -- *quiet* then undo: raw words, marks 0, used 0, journal 0
     ∷ record { given = shown back; should = leaving 0 2 0 quiet (replicate 6 0) 0 (replicate 8 0) }
     -- a further undo: 10

@@ -1,3 +1,4 @@
 pub mod Model
 pub mod Order
+pub mod Examples
 pub mod Areas

@@ -100,7 +100,7 @@ fn levinson(work: &mut [f64], r: usize, p: usize) -> usize
         }
         i += 1;
     }
-    p
+    i - 1
 }
 
 // The coefficients of the model of what is known, for the window at the front of the workspace, and the

@@ -253,12 +253,9 @@ choose-both false a a' i i' = refl
 
 -- the orders from i on, by the tests of a turn: none is left, e is too small, e ends it, or one order more
 module _ (r a : List Float) (e : Float) (i p : ℕ) (whole : Stop) (rest : stopOf r a e i (p + 1 - i) ≡ whole) where
-  pub orders-done : i ≡ p + 1 → stop a p ≡ whole
+  pub orders-done : p < i → stop a (i - 1) ≡ whole
   unfolding orders highestUsed
-  orders-done h =
-      let none : p + 1 - i ≡ 0 = omega arith in
-      let last : p ≡ i - 1 = omega arith in
-      ap (stop a) last ∙ sym (ap (stopOf r a e i) none) ∙ rest
+  orders-done h = let none : p + 1 - i ≡ 0 = omega arith in sym (ap (stopOf r a e i) none) ∙ rest
 
   module _ (acc size k next : Float) (h : i ≤ p) (es : size ≡ magnitude e) (ea : acc ≡ shortfall a r i)
       (ek : k ≡ neg acc /₆₄ e) (en : next ≡ e *₆₄ (ofBits binary64 4607182418800017408 -₆₄ k *₆₄ k)) where

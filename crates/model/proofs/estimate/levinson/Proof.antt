@@ -219,6 +219,9 @@ loop-again c =
       rw (done .0) on,
     )
 
+sub-result-2 : tie.Need-sub-result-2 Inv-loop μ-loop
+sub-result-2 c = omega arith
+
 same-length-3 : tie.Need-same-length-3 Inv-loop μ-loop
 same-length-3 c = search needs
 
@@ -226,7 +229,7 @@ returns-3 : tie.Need-returns-3 Inv-loop μ-loop
 returns-3 c =
     let l = c .before in
     levinson-ends (entry l .args .work .now) _ _ (lags l) (entry l .args .p) _ (entry l .pre .0)
-    (begun l .start-unit .ensures) (l .loop .inv .3) (orders-done _ _ _ _ _ _ (l .loop .inv .4) (omega (arith, c .loop-test .left, l .loop .inv .1)))
+    (begun l .start-unit .ensures) (l .loop .inv .3) (orders-done _ _ _ _ _ _ (l .loop .inv .4) (c .loop-test .left))
 
 pub levinson-spec : {M : Type 1} → statement M
 levinson-spec =
@@ -268,5 +271,6 @@ levinson-spec =
     add-i
     loop-less
     loop-again
+    sub-result-2
     same-length-3
     returns-3)
