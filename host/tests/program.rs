@@ -1,5 +1,6 @@
 //! What the programs are to write for each of the inputs in `samples`, `repair` for a recording and `receive` for a stream
-//! of frames: from the models of the reader and of the scan, whose new samples are the original's. The files `.out`
+//! of frames: from the models of the reader and of the scan, whose new samples are the original's and whose orders the host
+//! works out. The files `.out`
 //! beside the inputs are held to that, and `samples/check` holds the programs to the files. With `CATHAR_WRITE=1`
 //! recordings and files are written anew; the streams are taken as they are.
 use cathar_host::draw::{Draw, SEED};
@@ -72,13 +73,16 @@ fn received(input: &[u8]) -> String {
     format!("frames {frames} samples {n} missing {missing} dropped {dropped}\n") + &scanned(recording)
 }
 
-/// What both print of a recording that is open: what a scan of it counts, and then each sample that is not measured.
+/// What both print of a recording that is open: what a scan of it counts, and then each sample that is not measured. Request P8
+/// of document 02: "the program adds it as a fourth number on lines with mark 1".
 fn scanned(mut recording: Recording) -> String {
-    let scan = inpaint_auto(&mut recording, RATE, LIMIT, &mut vec![0; 10_000]);
+    let mut orders = vec![0; recording.samples.len()];
+    let scan = inpaint_auto(&mut recording, RATE, LIMIT, &mut vec![0; 10_000], &mut orders);
     let counts = (scan.qualified(), scan.repaired(), scan.number());
     let mut text = format!("qualified {} repaired {} refused {}\n", counts.0, counts.1, counts.2);
     for (place, mark) in recording.marks.iter().enumerate().filter(|(_, mark)| **mark != 0) {
-        text += &format!("{place} {mark} {:08x}\n", recording.samples[place]);
+        let order = if *mark == 1 { format!(" {}", orders[place]) } else { String::new() };
+        text += &format!("{place} {mark} {:08x}{order}\n", recording.samples[place]);
     }
     text + "end\n"
 }
