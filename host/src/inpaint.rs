@@ -1,7 +1,8 @@
 //! The repair of a gap and the automatic scan as document 01 has them, with the dropouts of request P1 of document 02,
-//! over the model of the recording. What they turn away and what they leave is written from the documents' text. The new
-//! samples are those that the original Rust computes, from its own files. The original answers no order, which request P8
-//! asks for: that is worked out by a prediction step of the host's own, whose fill has to be the original's.
+//! over the model of the recording. What they turn away and what they leave is written from the documents' text. The
+//! new samples are those that the original Rust computes, from its own files. The original answers no order, which
+//! request P8 asks for: that is worked out by a prediction step of the host's own, whose fill has to be the
+//! original's.
 use crate::original;
 use crate::prediction::{Reach, Window};
 use crate::recording::{in_range, Answer, Recording};
@@ -94,11 +95,11 @@ impl Gap {
 
     /// Its window of these samples, widened. For a gap that is not outside.
     pub fn widened(self, samples: &[u32]) -> Window {
-        self.within(samples, self.window(samples.len()))
+        self.widened_in(samples, self.window(samples.len()))
     }
 
     /// Likewise with this part of the samples for a window, in which the gap lies.
-    pub(crate) fn within(self, samples: &[u32], part: Range<usize>) -> Window {
+    pub(crate) fn widened_in(self, samples: &[u32], part: Range<usize>) -> Window {
         let gap = self.start - part.start..self.end() - part.start;
         let doubles = samples[part].iter().map(|word| f32::from_bits(*word).into()).collect();
         Window { doubles, gap, p: self.most_order() }
@@ -113,8 +114,8 @@ impl Gap {
         (words, reach)
     }
 
-    /// How far the model of a gap got that is filled by one, with these words by the original: the host's own fill has to be
-    /// the same.
+    /// How far the model of a gap got that is filled by one, with these words by the original: the host's own fill has
+    /// to be the same.
     fn reach(self, samples: &[u32], words: &[u32]) -> Reach {
         let window = self.widened(samples);
         let model = window.model();

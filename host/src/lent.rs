@@ -120,9 +120,9 @@ pub(crate) fn counts(counts: &[u16]) -> Part<u16> {
     Part::new(counts, 0x5a5a)
 }
 
-/// A recording; two numbers that a call hands back, of which most calls have one or none; what the question hands back;
-/// the two workspaces, of which a call has one or none; the order that the repair of a gap hands back, and the list that
-/// a scan is lent for orders.
+/// A recording; two numbers that a call hands back, of which most calls have one or none; what the question hands
+/// back; the two workspaces, of which a call has one or none; the order that the repair of a gap hands back, and the
+/// list that a scan is lent for orders.
 pub struct Lent {
     pub(crate) samples: Part<u32>,
     pub(crate) marks: Part<u8>,
@@ -138,8 +138,8 @@ pub struct Lent {
 }
 
 impl Lent {
-    /// The same words as the recording has, no workspace, and an empty list for orders. Around the journal stands 1, which could be an entry's
-    /// place, m or mark, so that a call that takes it for the journal's is found out too.
+    /// The same words as the recording has, no workspace, and an empty list for orders. Around the journal stands 1,
+    /// which could be an entry's place, m or mark, so that a call that takes it for the journal's is found out too.
     pub fn new(recording: &Recording) -> Lent {
         Lent {
             samples: Part::new(&recording.samples, 0x5a5a_5a5a),

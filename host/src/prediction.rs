@@ -1,6 +1,7 @@
-//! The prediction step of a gap's repair and the fill that rests on it, as document 01 has them from "r[lag]" to "narrowed
-//! to f32", written from the document's text. The original answers no order: by request P8 of document 02 this step does.
-//! Wherever the model of the calls fills a gap, these fills have to be the original's, bit for bit (`inpaint.rs`).
+//! The prediction step of a gap's repair and the fill that rests on it, as document 01 has them from "r[lag]" to
+//! "narrowed to f32", written from the document's text. The original answers no order: by request P8 of document 02
+//! this step does. Wherever the model of the calls fills a gap, these fills have to be the original's, bit for bit
+//! (`inpaint.rs`).
 use crate::wrong;
 use std::ops::Range;
 
@@ -34,18 +35,19 @@ pub struct Reach {
     pub nonzero: u32,
 }
 
-/// The coefficients 1, a[1], .., a[p], and how far the model got.
+/// The coefficients 1, a[1], .., a[p], how far the model got, and what e was then.
 #[derive(Clone, Debug)]
 pub struct Model {
     pub coefficients: Vec<f64>,
     pub reach: Reach,
+    pub e: f64,
 }
 
 impl Model {
-    fn new(coefficients: Vec<f64>, order: usize, stop: Stop) -> Model {
+    fn new(coefficients: Vec<f64>, order: usize, stop: Stop, e: f64) -> Model {
         let p = coefficients.len() as u32 - 1;
         let nonzero = coefficients[1..].iter().filter(|a| **a != 0.0).count() as u32;
-        Model { coefficients, reach: Reach { order: order as u32, p, stop, nonzero } }
+        Model { coefficients, reach: Reach { order: order as u32, p, stop, nonzero }, e }
     }
 
     /// b[j]: the sum of a[k]*a[k+j].
@@ -69,7 +71,7 @@ pub fn levinson(r: &[f64]) -> Model {
     for i in 1..=p {
         let missing = (1..i).fold(r[i], |sum, j| sum + a[j] * r[i - j]);
         if e.abs() < BOUND {
-            return Model::new(a, i - 1, Stop::BeforeK);
+            return Model::new(a, i - 1, Stop::BeforeK, e);
         }
         let k = -missing / e;
         let before = a.clone();
@@ -79,10 +81,10 @@ pub fn levinson(r: &[f64]) -> Model {
         a[i] = k;
         e *= 1.0 - k * k;
         if e <= 0.0 {
-            return Model::new(a, i, Stop::AfterK);
+            return Model::new(a, i, Stop::AfterK, e);
         }
     }
-    Model::new(a, p, Stop::Nowhere)
+    Model::new(a, p, Stop::Nowhere, e)
 }
 
 /// The doubles of a window, the places of its gap, and p.
@@ -109,7 +111,7 @@ impl Window {
     pub fn model(&self) -> Model {
         let mut r = self.lags();
         if r[0] <= 0.0 {
-            return Model::new(unit(self.p), 0, Stop::AtOnce);
+            return Model::new(unit(self.p), 0, Stop::AtOnce, r[0]);
         }
         r[0] *= 1.0 + SHARE;
         wrong::lags(&mut r);

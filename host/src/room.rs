@@ -1,5 +1,5 @@
-//! What a call is lent beside the samples: marks, counts, a journal, a workspace and a list for orders, all of any words,
-//! and just long enough or not.
+//! What a call is lent beside the samples: marks, counts, a journal, a workspace and a list for orders, all of any
+//! words, and just long enough or not.
 use crate::draw::Draw;
 use crate::recording::{blocks, Recording, BLOCK};
 

@@ -1,5 +1,5 @@
-//! Recordings around a gap in which the model stops at once, early, or not at all. Nothing but sums, products, quotients and
-//! square roots make them, so that they are the same on every machine.
+//! Recordings around a gap in which the model stops at once, early, or not at all. Nothing but sums, products,
+//! quotients and square roots make them, so that they are the same on every machine.
 use crate::draw::Draw;
 use crate::prediction::{BOUND, SHARE};
 use crate::shapes::{part, tone};

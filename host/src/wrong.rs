@@ -1,7 +1,8 @@
 //! Wrong stand-ins, with which the comparisons are themselves tried. Each is wrong in one way: in what it leaves or
-//! answers in the place of the library, of the model, of both alike, of the host's own prediction step or of the second
-//! process, or in what a test keeps account of. With none of them a comparison finds no difference; with any one of them it has to find one.
-//! `CATHAR_WRONG` names the one that stands in, and `host/wrong` runs each and says which are found.
+//! answers in the place of the library, of the model, of both alike, of the host's own prediction step or of the
+//! second process, or in what a test keeps account of. With none of them a comparison finds no difference; with any
+//! one of them it has to find one. `CATHAR_WRONG` names the one that stands in, and `host/wrong` runs each and says
+//! which are found.
 mod counts;
 mod frames;
 mod gaps;

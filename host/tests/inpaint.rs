@@ -1,5 +1,6 @@
-//! The repair of a gap and the automatic scan against the model of the recording and the original Rust: every
-//! answer and value, and every byte of the lent memory, with what stands around each part of it.
+//! The repair of a gap and the automatic scan against the model of the recording and the original Rust: every answer
+//! and value, the order of every gap's model, and every byte of the lent memory, a scan's list of orders among it,
+//! with what stands around each part of it.
 //!
 //! `CATHAR_SEED` sets the seed.
 mod inpaint {
@@ -337,8 +338,8 @@ fn orders_of_scans() {
     count.close(seed);
 }
 
-/// The library repairs one gap of an opened recording with enough room, by a model of this order or by line, for which the
-/// order is 0. What it leaves: samples and marks.
+/// The library repairs one gap of an opened recording with enough room, by a model of this order or by line, for which
+/// the order is 0. What it leaves: samples and marks.
 fn repaired(samples: Vec<u32>, gap: Gap, order: u32) -> (Vec<u32>, Vec<u8>) {
     let n = samples.len();
     let model = Recording::new(samples, vec![0; n], vec![0; 3 * gap.len + 2], 0);
@@ -348,8 +349,8 @@ fn repaired(samples: Vec<u32>, gap: Gap, order: u32) -> (Vec<u32>, Vec<u8>) {
     (both.model.samples, both.model.marks)
 }
 
-/// The document's sums: *quiet*, with "0 in *quiet*" for the order; 4097 samples with ends 0 and 4096, whose places become
-/// their numbers; and the marks and orders of gaps of 2048 and 2049.
+/// The document's sums: *quiet*, with "0 in *quiet*" for the order; 4097 samples with ends 0 and 4096, whose places
+/// become their numbers; and the marks and orders of gaps of 2048 and 2049.
 #[test]
 fn sums() {
     let tiny = 0x3080_0000;

@@ -6,11 +6,12 @@
 //!
 //!     letter settings.. number value beside n m before.. marks after..
 //!
-//! with three settings, and then what the model answers: number and value of a repair, and beside them the order of the
-//! model for a gap, and else 0. For a scan number is that of the first refusal, or 0, value is how many runs are repaired,
-//! and beside them stands how many qualified. Each of the n samples before the call stands in `before`. The part `marks` is a row of n digits, the marks that the model has
-//! after the call. The m words of `after` are those that the original writes, at each place whose mark is not 0. All
-//! other samples the original leaves as they were. The settings, 0 where there are fewer, are by letter:
+//! with three settings, and then what the model answers: number and value of a repair, and beside them the order of
+//! the model for a gap, and else 0. For a scan number is that of the first refusal, or 0, value is how many runs are
+//! repaired, and beside them stands how many qualified. Each of the n samples before the call stands in `before`. The
+//! part `marks` is a row of n digits, the marks that the model has after the call. The m words of `after` are those
+//! that the original writes, at each place whose mark is not 0. All other samples the original leaves as they were.
+//! The settings, 0 where there are fewer, are by letter:
 //!
 //!     g start len passes              one gap, by `inpaint_gap`
 //!     s rate limit 0                  a scan, by `inpaint_auto`; with held words, by `inpaint_gap` at each gap

@@ -309,7 +309,8 @@ fn by_model(number: u32, lent: &Lent, call: Call) -> Option<Gap> {
     within(lent, call).filter(|gap| number == 0 && !gap.is_line())
 }
 
-/// Of an accepted repair by model the order is what this makes of the model. (What the repair writes has no say in that.)
+/// Of an accepted repair by model the order is what this makes of the model. (What the repair writes has no say in
+/// that.)
 fn telling(lent: &mut Lent, call: Call, of: fn(Model) -> u32) -> u32 {
     let number = lent.call(call);
     if let Some(gap) = by_model(number, lent, call) {
@@ -342,7 +343,7 @@ fn order_of_all_samples(lent: &mut Lent, call: Call) -> u32 {
     let number = lent.call(call);
     if let Some(gap) = by_model(number, lent, call) {
         let samples = lent.samples();
-        *order(lent) = gap.within(samples, 0..samples.len()).model().reach.order;
+        *order(lent) = gap.widened_in(samples, 0..samples.len()).model().reach.order;
     }
     number
 }
@@ -461,7 +462,7 @@ fn list_first_order(lent: &mut Lent, call: Call) -> u32 {
 fn list_last_order(lent: &mut Lent, call: Call) -> u32 {
     let (number, runs) = run_by_run(lent, call, |_, _| ());
     let by_model = runs.into_iter().filter(|run| run.is_by_model());
-    if let Some(last) = by_model.clone().last() {
+    if let Some(last) = by_model.clone().next_back() {
         by_model.for_each(|run| write(lent, run.places(), last.order));
     }
     number
@@ -477,7 +478,7 @@ fn list_of_8_bits(lent: &mut Lent, call: Call) -> u32 {
 
 fn list_marked_1(lent: &mut Lent, call: Call) -> u32 {
     let (number, runs) = run_by_run(lent, call, |lent, run| run.note(lent));
-    if let Some(last) = runs.iter().filter(|run| run.is_by_model()).last() {
+    if let Some(last) = runs.iter().rev().find(|run| run.is_by_model()) {
         let marks = lent.marks.lent().to_vec();
         let marked = lent.orders.lend().iter_mut().zip(marks).filter(|(_, mark)| *mark == 1);
         marked.for_each(|(at, _)| *at = last.order);

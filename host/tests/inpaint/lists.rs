@@ -5,7 +5,7 @@ use cathar_host::both::Both;
 use cathar_host::count::{Class, Count};
 use cathar_host::damage;
 use cathar_host::draw::Draw;
-use cathar_host::inpaint::{qualified, Gap, GapAnswer, Scan};
+use cathar_host::inpaint::{held, qualified, Gap, GapAnswer, Scan, HELD_RUN};
 use cathar_host::room;
 use cathar_host::settings::{self, OfScan, UNLIMITED, USUAL};
 use cathar_host::shapes::Shape;
@@ -24,8 +24,9 @@ pub struct Call {
     pub samples: usize,
     /// How long the list is.
     pub list: usize,
-    pub before: Vec<u32>,
     pub scan: Scan,
+    /// The gaps of held words.
+    pub held: Vec<Gap>,
 }
 
 impl Call {
@@ -98,7 +99,7 @@ pub const CLASSES: &[Class<Call>] = &[
     Class { name: "order 0", least: 800, holds: |c| c.has_order(|order| order == 0) },
     Class { name: "an order from 1 to 31", least: 400, holds: |c| c.has_order(|order| 0 < order && order < 32) },
     Class { name: "an order from 32 on", least: 2_000, holds: |c| c.has_order(|order| order >= 32) },
-    Class { name: "of a held word", least: 200, holds: |c| c.by_model().any(|(run, _)| run.is_held(&c.before)) },
+    Class { name: "of a held word", least: 200, holds: |c| c.by_model().any(|(run, _)| c.held.contains(&run)) },
     Class {
         name: "and one by line",
         least: 10,
@@ -117,9 +118,9 @@ pub const CLASSES: &[Class<Call>] = &[
 
 /// Both sides scan, and the original too.
 fn scan(count: &mut Lists, both: &mut Both, settings: OfScan, work: Vec<u64>, orders: Vec<u32>) {
-    let (before, list) = (both.model.samples.clone(), orders.len());
+    let (samples, list, held) = (both.model.samples.len(), orders.len(), held(&both.model.samples, HELD_RUN));
     let (scan, wrong) = scanned(both, settings, work, orders);
-    count.take(&Call { samples: before.len(), list, before, scan }, &wrong);
+    count.take(&Call { samples, list, scan, held }, &wrong);
 }
 
 /// A list for a scan of these samples: as long, longer or empty, or with an end within, directly before or directly
@@ -174,7 +175,7 @@ pub fn loudest(count: &mut Lists, draw: &mut Draw) {
     }
     for _ in 0..LOUDEST / 20 {
         let mut samples = LOUD.to_vec();
-        samples.extend((0..1_030).map(|place| 0x0d80_0000 | place % 2 << 31));
+        samples.extend((0..1_030).map(|place| 0x0d80_0000 | (place % 2) << 31));
         samples.extend(with_dropouts(draw, Sound::Noise, 60));
         scan_any(count, draw, &samples, USUAL);
     }

@@ -92,8 +92,8 @@ pub const CLASSES: &[Class<Call>] = &[
     Class { name: "refused by two numbers", least: 100, holds: Call::differs },
 ];
 
-/// Both sides scan in a workspace of these patterns, with a list of these words for the orders, and the original too where
-/// nothing is refused. The answer is the model's.
+/// Both sides scan in a workspace of these patterns, with a list of these words for the orders, and the original too
+/// where nothing is refused. The answer is the model's.
 pub fn scan(count: &mut Scans, both: &mut Both, settings: OfScan, work: Vec<u64>, orders: Vec<u32>) -> Scan {
     let (samples, list) = (both.model.samples.len(), orders.len());
     let (scan, wrong) = scanned(both, settings, work, orders);
