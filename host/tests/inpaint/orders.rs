@@ -14,7 +14,7 @@ use cathar_host::sounds::{self, Sound};
 
 /// How many gaps there are of each sound, beside the bound, with results that may not be in range, with samples that no
 /// window reaches, and by line.
-const EACH: u64 = 11_500;
+const EACH: u64 = 15_000;
 const BESIDE: u64 = 400;
 const LOUDEST: u64 = 4_000;
 const FAR: u64 = 400;
@@ -108,8 +108,8 @@ fn before_k(reach: Reach, order: u32) -> bool {
 /// What the repairs have to be, all of them together. None stops after a k, with e at most 0, and none is known that
 /// does: `e_keeps_its_share` of `tests/prediction.rs` has the reason, and sought for one.
 pub const CLASSES: &[Class<Call>] = &[
-    Class { name: "gaps", least: 100_000, holds: |_| true },
-    Class { name: "filled by a model", least: 70_000, holds: |c| c.reach().is_some() },
+    Class { name: "gaps", least: 140_000, holds: |_| true },
+    Class { name: "filled by a model", least: 100_000, holds: |c| c.reach().is_some() },
     Class { name: "stopped at once, r[0] at most 0", least: 5_000, holds: |c| c.is(|r| r.stop == Stop::AtOnce) },
     Class { name: "stopped before the first k", least: 5_000, holds: |c| c.is(|r| before_k(r, 0)) },
     Class { name: "stopped before the second k", least: 5_000, holds: |c| c.is(|r| before_k(r, 1)) },
