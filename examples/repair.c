@@ -4,18 +4,19 @@
  *     cc -I include examples/repair.c target/staticlib/libcathar.a -o repair
  *     ./repair
  *
- * It prints a line for each of three calls: the answer, the value, and each sample's word and mark, in hex; and after
- * each whether all samples are measured, and whether the first two are.
+ * It prints a line for each of three calls: the answer, the value, and each sample's word and mark, in hex; after each
+ * whether all samples are measured, and whether the first two are; and of the repair how far its model got.
  *
  *     open: answer 0, value 0, 30800000:0 30800000:0 00000000:0 00000000:0 30800000:0 30800000:0
  *     all measured: yes, the first two: yes
  *     gap:  answer 0, value 2, 30800000:0 30800000:0 80000000:1 00000000:1 30800000:0 30800000:0
  *     all measured: no, the first two: yes
+ *     order of the model: 0 of 32
  *     undo: answer 0, value 2, 30800000:0 30800000:0 00000000:0 00000000:0 30800000:0 30800000:0
  *     all measured: yes, the first two: yes
  *
  * The two samples of the gap became -0 and +0 and are marked 1, CATHAR_MARK_GAP_BY_MODEL; the others are as measured.
- * After the undo all are. */
+ * These are so quiet that the model broke off at once: its order is 0. After the undo all samples are as measured. */
 #include "cathar.h"
 
 #include <inttypes.h>
@@ -53,6 +54,7 @@ int main(void)
     uint16_t counts[COUNTS];
     uint32_t journal[JOURNAL];
     size_t used, value;
+    uint32_t order;
     static double work[WORK];
 
     if (COUNTS != cathar_counts(N) || JOURNAL != cathar_journal_words(N, 1) || WORK != cathar_gap_work(N, 2, 2))
@@ -67,8 +69,10 @@ int main(void)
 
     /* The gap of 2 samples from place 2 on, in 1 pass. A refusal would leave samples, marks and counts as they are. */
     answer = cathar_inpaint_gap(samples, N, marks, N, counts, COUNTS, journal, JOURNAL, &used, 2, 2, 1, work, WORK,
-                                &value);
+                                &value, &order);
     show("gap: ", answer, value, samples, marks, counts);
+    /* For a gap of up to 32 samples the highest order is 32. */
+    printf("order of the model: %" PRIu32 " of 32\n", order);
 
     answer = cathar_undo(samples, N, marks, N, counts, COUNTS, journal, JOURNAL, &used, &value);
     show("undo:", answer, value, samples, marks, counts);

@@ -11,6 +11,7 @@
 //!     all measured: yes, the first two: yes
 //!     gap:  answer 0, value 2, 30800000:0 30800000:0 80000000:1 00000000:1 30800000:0 30800000:0
 //!     all measured: no, the first two: yes
+//!     order of the model: 0 of 32
 //!     undo: answer 0, value 2, 30800000:0 30800000:0 00000000:0 00000000:0 30800000:0 30800000:0
 //!     all measured: yes, the first two: yes
 
@@ -23,7 +24,7 @@ extern "C" {
     fn cathar_inpaint_gap(samples: *mut u32, n: usize, marks: *mut u8, marks_n: usize,
                           counts: *mut u16, counts_n: usize, journal: *mut u32, journal_n: usize, used: *mut usize,
                           start: usize, len: usize, passes: u32,
-                          work: *mut f64, work_n: usize, value: *mut usize) -> u32;
+                          work: *mut f64, work_n: usize, value: *mut usize, order: *mut u32) -> u32;
     fn cathar_undo(samples: *mut u32, n: usize, marks: *mut u8, marks_n: usize,
                    counts: *mut u16, counts_n: usize, journal: *mut u32, journal_n: usize, used: *mut usize,
                    value: *mut usize) -> u32;
@@ -61,7 +62,7 @@ fn main() {
     // One count is enough for up to 256 samples; 20 journal words are for one repair, whatever it names, and 210
     // doubles for this gap.
     let (mut marks, mut counts, mut journal, mut work) = ([0; 6], [0; 1], [0; 20], [0.0; 210]);
-    let (mut used, mut value) = (0, 0);
+    let (mut used, mut value, mut order) = (0, 0, 0);
     // Open raw samples, and once: a second opening would mark made samples as measured.
     // All that is unsafe: each area goes with its own length, no two overlap, and nothing else is asked.
     unsafe {
@@ -70,8 +71,9 @@ fn main() {
         show("open:", answer, value, &samples, &marks, &counts);
         let answer = cathar_inpaint_gap(samples.as_mut_ptr(), samples.len(), marks.as_mut_ptr(), marks.len(),
                                         counts.as_mut_ptr(), counts.len(), journal.as_mut_ptr(), journal.len(),
-                                        &mut used, 2, 2, 1, work.as_mut_ptr(), work.len(), &mut value);
+                                        &mut used, 2, 2, 1, work.as_mut_ptr(), work.len(), &mut value, &mut order);
         show("gap: ", answer, value, &samples, &marks, &counts);
+        println!("order of the model: {order} of 32");
         let answer = cathar_undo(samples.as_mut_ptr(), samples.len(), marks.as_mut_ptr(), marks.len(),
                                  counts.as_mut_ptr(), counts.len(), journal.as_mut_ptr(), journal.len(),
                                  &mut used, &mut value);

@@ -55,7 +55,7 @@ float cathar_round(float x);
  *   used      one number: how many of the journal's words are taken, from its start on
  * An area and its length, in elements, follow each other. Each area has at least the length given for it. No
  * pointer is null, not even that of an area of length 0; each is aligned for its type; and no two areas
- * overlap, used, value and yes among them, nor a workspace, qualified or repaired.
+ * overlap, used, value, order and yes among them, nor a workspace, a list of orders, qualified or repaired.
  *
  * A sample is in range if it is finite and its magnitude is at most CATHAR_LOUDEST. */
 #define CATHAR_MOST_SAMPLES 1048576     /* the most samples of a recording */
@@ -225,11 +225,14 @@ uint32_t cathar_measured(const uint8_t *marks, size_t n, const uint16_t *counts,
  * they stay. All others stay.
  * value receives len where it was accepted, for refusals 7 and 8 the lowest place whose sample or result is
  * not in range, and 0 for the others; what it held has no say.
+ * order receives the highest order that the model used: how far it got. All coefficients behind it are +0. An order
+ * below p, which is min(max(len, 32), 128), says that the model broke off early, and 0 that it did so at once, as where
+ * all that is read is silent or next to it. A straight line and every refusal give 0, too; what it held has no say.
  * Refusals: 1, 14, 2, 3, 5, 6, 7, 8, 9. */
 uint32_t cathar_inpaint_gap(uint32_t *samples, size_t n, uint8_t *marks, size_t marks_n,
                             uint16_t *counts, size_t counts_n, uint32_t *journal, size_t journal_n, size_t *used,
                             size_t start, size_t len, uint32_t passes,
-                            double *work, size_t work_n, size_t *value);
+                            double *work, size_t work_n, size_t *value, uint32_t *order);
 
 /* How many doubles that workspace needs:
  *   len       for the straight line
@@ -273,17 +276,22 @@ static inline size_t cathar_longest_gap_work(size_t n, size_t longest)
  * work is lent to the repair of one run after the other, and left by each as cathar_inpaint_gap says; a run
  * for which it is too short has refusal 6. cathar_longest_gap_work(n, limit) doubles are enough for every run: at
  * most 4,788 where the limit is 48 samples.
+ * orders is a list of orders_n words, of any contents. At each place of it where the scan repaired a sample by the
+ * model it receives the order of that model, as cathar_inpaint_gap gives it. Every other place of it stays: of a sample
+ * that was not repaired, of a run that was refused or became a straight line, and what lies behind the samples. Any
+ * length is allowed, 0 among them: n words are for all samples, and a shorter list is written as far as it goes.
  * qualified receives the number of runs that qualify, and repaired that of those repaired; both receive 0
  * where refusal 1, 14, 2, 3 or 4 was given. What they held has no say. The answer is 0, or the number of the first
- * refusal: 1, 14, 2, 3 or 4 for the whole scan, which then changes nothing, work among it, or 6 to 9 for a run, beside
- * which others may have been repaired.
+ * refusal: 1, 14, 2, 3 or 4 for the whole scan, which then changes nothing, work and orders among it, or 6 to 9 for a
+ * run, beside which others may have been repaired.
  * Refusals: 1, 14, 2, 3, 4, 6, 7, 8, 9. Refusal 4 is given where
  *   rate exceeds CATHAR_MOST_RATE, or
  *   max_gap_ms is an infinity or a NaN. */
 uint32_t cathar_inpaint_auto(uint32_t *samples, size_t n, uint8_t *marks, size_t marks_n,
                              uint16_t *counts, size_t counts_n, uint32_t *journal, size_t journal_n, size_t *used,
                              uint32_t rate, float max_gap_ms,
-                             double *work, size_t work_n, size_t *qualified, size_t *repaired);
+                             double *work, size_t work_n, uint32_t *orders, size_t orders_n,
+                             size_t *qualified, size_t *repaired);
 
 /* The four repairs that follow are over the whole recording. Each reads every sample, whatever its settings,
  * and works its results out in a workspace of words before it writes any. To name no sample is no refusal, and

@@ -2,7 +2,7 @@
 //! what is then not the same is told.
 use crate::call::Call;
 use crate::frames::{Read, Rooms};
-use crate::inpaint::{self, Gap, Scan};
+use crate::inpaint::{self, Gap, GapAnswer, Scan};
 use crate::lent::frames::Frames;
 use crate::lent::{Lent, VALUE_BEFORE};
 use crate::question::{Span, Told};
@@ -53,24 +53,31 @@ impl Both {
     }
 
     /// Both sides repair the gap in a workspace of these patterns.
-    pub fn inpaint_gap(&mut self, gap: Gap, passes: u32, mut work: Vec<u64>) -> (Answer, Wrong) {
+    pub fn inpaint_gap(&mut self, gap: Gap, passes: u32, mut work: Vec<u64>) -> (GapAnswer, Wrong) {
         self.lent.lend_doubles(&work);
         let call = Call::Gap { gap, passes };
         let answer = self.by_model(call, |model| inpaint::inpaint_gap(model, gap, passes, &mut work));
         let number = self.lent.make(call);
         let wrong = with_answer(self.lent.wrong(&self.model, answer.value()), number, answer.number());
-        (answer, with_work(wrong, self.lent.holds_doubles(&work)))
+        let wrong = with_part(wrong, "workspace", self.lent.holds_doubles(&work));
+        (answer, with_part(wrong, "order", self.lent.holds_order(answer.order())))
     }
 
-    /// Both sides scan in a workspace of these patterns.
-    pub fn inpaint_auto(&mut self, (rate, max_gap_ms): OfScan, mut work: Vec<u64>) -> (Scan, Wrong) {
+    /// Both sides scan in a workspace of these patterns, with a list of these words for the orders.
+    pub fn inpaint_auto(
+        &mut self,
+        (rate, max_gap_ms): OfScan,
+        mut work: Vec<u64>,
+        mut orders: Vec<u32>,
+    ) -> (Scan, Wrong) {
         self.lent.lend_doubles(&work);
+        self.lent.lend_orders(&orders);
         let call = Call::Scan { rate, max_gap_ms };
-        let scan = self.by_model(call, |model| inpaint::inpaint_auto(model, rate, max_gap_ms, &mut work));
+        let scan = self.by_model(call, |model| inpaint::inpaint_auto(model, rate, max_gap_ms, &mut work, &mut orders));
         let number = self.lent.make(call);
         let wrong = self.lent.wrong_after_scan(&self.model, [scan.qualified(), scan.repaired()]);
-        let wrong = with_work(with_answer(wrong, number, scan.number()), self.lent.holds_doubles(&work));
-        (scan, wrong)
+        let wrong = with_part(with_answer(wrong, number, scan.number()), "workspace", self.lent.holds_doubles(&work));
+        (scan, with_part(wrong, "orders", self.lent.holds_orders(&orders)))
     }
 
     /// Both sides make a repair over the whole recording in a workspace of these words.
@@ -80,7 +87,7 @@ impl Both {
         let answer = self.by_model(call, |model| whole::repair(model, repair, &mut work));
         let number = self.lent.make(call);
         let wrong = with_answer(self.lent.wrong(&self.model, answer.value()), number, answer.number());
-        (answer, with_work(wrong, self.lent.holds_words(&work)))
+        (answer, with_part(wrong, "workspace", self.lent.holds_words(&work)))
     }
 
     /// Both sides are asked of a span.
@@ -116,10 +123,10 @@ fn with_answer(mut wrong: Wrong, library: u32, model: u32) -> Wrong {
     wrong
 }
 
-/// The workspace is, where it is not as the model leaves it.
-fn with_work(mut wrong: Wrong, right: bool) -> Wrong {
+/// A part of what is lent beside the recording is, where it is not as the model leaves it.
+fn with_part(mut wrong: Wrong, name: &'static str, right: bool) -> Wrong {
     if !right {
-        wrong.push("workspace");
+        wrong.push(name);
     }
     wrong
 }

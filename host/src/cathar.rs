@@ -76,6 +76,7 @@ mod exports {
             work: *mut f64,
             work_n: usize,
             value: *mut usize,
+            order: *mut u32,
         ) -> u32;
         pub fn cathar_inpaint_auto(
             samples: *mut u32,
@@ -91,6 +92,8 @@ mod exports {
             max_gap_ms: f32,
             work: *mut f64,
             work_n: usize,
+            orders: *mut u32,
+            orders_n: usize,
             qualified: *mut usize,
             repaired: *mut usize,
         ) -> u32;
@@ -282,7 +285,8 @@ pub fn measured(marks: &[u8], counts: &[u16], start: usize, len: usize, yes: &mu
 }
 
 /// Repairs the gap of `len` samples from `start` on. Answers 0, with `len` in `value`, or the number of the
-/// refusal, with the place there for 7 and 8 and 0 for the others.
+/// refusal, with the place there for 7 and 8 and 0 for the others. `order` receives the highest order that the model
+/// used, and 0 for a straight line and for every refusal.
 // The arguments are those of the C function.
 #[allow(clippy::too_many_arguments)]
 pub fn inpaint_gap(
@@ -296,6 +300,7 @@ pub fn inpaint_gap(
     passes: u32,
     work: &mut [f64],
     value: &mut usize,
+    order: &mut u32,
 ) -> u32 {
     // As above.
     unsafe {
@@ -315,12 +320,14 @@ pub fn inpaint_gap(
             work.as_mut_ptr(),
             work.len(),
             value,
+            order,
         )
     }
 }
 
 /// Finds the dropouts and repairs each. Answers 0, or the number of the first refusal; `qualified` receives
-/// how many runs were found, and `repaired` how many of them were repaired.
+/// how many runs were found, and `repaired` how many of them were repaired. `orders` receives, at each place where a
+/// sample was repaired by the model, the order of that model, as far as the list goes.
 // The arguments are those of the C function.
 #[allow(clippy::too_many_arguments)]
 pub fn inpaint_auto(
@@ -332,6 +339,7 @@ pub fn inpaint_auto(
     rate: u32,
     max_gap_ms: f32,
     work: &mut [f64],
+    orders: &mut [u32],
     qualified: &mut usize,
     repaired: &mut usize,
 ) -> u32 {
@@ -351,6 +359,8 @@ pub fn inpaint_auto(
             max_gap_ms,
             work.as_mut_ptr(),
             work.len(),
+            orders.as_mut_ptr(),
+            orders.len(),
             qualified,
             repaired,
         )

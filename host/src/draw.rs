@@ -40,6 +40,12 @@ impl Draw {
         Draw(seed)
     }
 
+    /// A generator of its own. This one goes on as if nothing had been drawn, so that what is drawn aside leaves all
+    /// else as it was.
+    pub fn aside(&self) -> Draw {
+        Draw(self.0 ^ 0x6a09_e667_f3bc_c908)
+    }
+
     /// Any word.
     pub fn word(&mut self) -> u64 {
         self.0 = self.0.wrapping_add(0x9e37_79b9_7f4a_7c15);

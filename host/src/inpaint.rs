@@ -1,8 +1,13 @@
 //! The repair of a gap and the automatic scan as document 01 has them, with the dropouts of request P1 of document 02,
-//! over the model of the recording. What they turn away and what they leave is written from the documents' text. The new
-//! samples are those that the original Rust computes, from its own files.
+//! over the model of the recording. What they turn away and what they leave is written from the documents' text. The
+//! new samples are those that the original Rust computes, from its own files. The original answers no order, which
+//! request P8 asks for: that is worked out by a prediction step of the host's own, whose fill has to be the
+//! original's.
 use crate::original;
+use crate::prediction::{Reach, Window};
 use crate::recording::{in_range, Answer, Recording};
+use crate::wrong;
+use std::cell::Cell;
 use std::ops::Range;
 
 /// The longest gap that is not filled by a straight line.
@@ -20,6 +25,11 @@ pub const SCAN_PASSES: u32 = 3;
 /// From how many samples on a run of zeros and NaN is a dropout, and from how many on one of equal words.
 pub const LOST_RUN: usize = 2;
 pub const HELD_RUN: usize = 16;
+
+thread_local! {
+    /// How many gaps were filled by the host's own prediction step too.
+    static FILLED: Cell<u64> = Cell::new(0);
+}
 
 /// The samples from `start` on, `len` of them.
 #[derive(Clone, Copy, Debug, PartialEq, Eq)]
@@ -60,13 +70,18 @@ impl Gap {
         self.start.saturating_sub(context)..(self.end() + context).min(n)
     }
 
+    /// "p is len held to 32..128."
+    pub fn most_order(self) -> usize {
+        self.len.clamp(32, 128)
+    }
+
     /// How many doubles of the workspace it needs: "len doubles" for the line, and else "window + len*(p+1) +
-    /// 3*len + 4*(p+1)", where "p is len held to 32..128". For a gap that is not outside.
+    /// 3*len + 4*(p+1)". For a gap that is not outside.
     pub fn needed(self, n: usize) -> usize {
         if self.is_line() {
             return self.len;
         }
-        let p = self.len.clamp(32, 128);
+        let p = self.most_order();
         self.window(n).len() + self.len * (p + 1) + 3 * self.len + 4 * (p + 1)
     }
 
@@ -78,11 +93,40 @@ impl Gap {
         (near.start..start).chain(start + len..near.end)
     }
 
-    /// Its places with the words that the original writes there.
-    fn filled(self, samples: &[u32], passes: u32) -> Vec<(usize, u32)> {
+    /// Its window of these samples, widened. For a gap that is not outside.
+    pub fn widened(self, samples: &[u32]) -> Window {
+        self.widened_in(samples, self.window(samples.len()))
+    }
+
+    /// Likewise with this part of the samples for a window, in which the gap lies.
+    pub(crate) fn widened_in(self, samples: &[u32], part: Range<usize>) -> Window {
+        let gap = self.start - part.start..self.end() - part.start;
+        let doubles = samples[part].iter().map(|word| f32::from_bits(*word).into()).collect();
+        Window { doubles, gap, p: self.most_order() }
+    }
+
+    /// The words that the original writes to its places, and how far its model got, if it has one.
+    fn filled(self, samples: &[u32], passes: u32) -> (Vec<u32>, Option<Reach>) {
         let floats: Vec<f32> = samples.iter().map(|word| f32::from_bits(*word)).collect();
         let filled = original::inpaint_gap(&floats, self.start, self.len, passes.min(MOST_PASSES));
-        self.places().map(|place| (place, filled[place].to_bits())).collect()
+        let words: Vec<u32> = filled[self.places()].iter().map(|x| x.to_bits()).collect();
+        let reach = (!self.is_line()).then(|| self.reach(samples, &words));
+        (words, reach)
+    }
+
+    /// How far the model of a gap got that is filled by one, with these words by the original: the host's own fill has
+    /// to be the same.
+    fn reach(self, samples: &[u32], words: &[u32]) -> Reach {
+        let window = self.widened(samples);
+        let model = window.model();
+        let own: Vec<u32> = window.fill(&model).iter().map(|x| x.to_bits()).collect();
+        FILLED.with(|filled| filled.set(filled.get() + 1));
+        if own != words {
+            let told = || format!("the host's own fill of {self:?} is {own:08x?}, and the original's {words:08x?}");
+            wrong::found(FILLED.with(Cell::get), told);
+            panic!("{}", told());
+        }
+        model.reach
     }
 
     /// "Under the same length limit; the gap must touch neither end."
@@ -96,31 +140,67 @@ impl Gap {
     }
 }
 
+/// What the repair of a gap answers.
+#[derive(Clone, Copy, Debug, PartialEq, Eq)]
+pub struct GapAnswer {
+    pub answer: Answer,
+    /// How far the model got, where one was worked out: also where 8 or 9 was given then.
+    pub reach: Option<Reach>,
+}
+
+impl GapAnswer {
+    /// The number of the refusal, or 0.
+    pub fn number(self) -> u32 {
+        self.answer.number()
+    }
+
+    /// m, or the place, or 0.
+    pub fn value(self) -> usize {
+        self.answer.value()
+    }
+
+    /// What is handed back beside m: "the highest order it used". "Straight-line fills return 0", and so does every
+    /// refusal.
+    pub fn order(self) -> u32 {
+        match (self.answer, self.reach) {
+            (Answer::Accepted(_), Some(reach)) => reach.order,
+            _ => 0,
+        }
+    }
+
+    /// Whether the gap was repaired by the model.
+    pub fn is_by_model(self) -> bool {
+        self.number() == 0 && self.reach.is_some()
+    }
+}
+
 /// The repair of a gap. Its workspace is given by the patterns of its doubles.
-pub fn inpaint_gap(recording: &mut Recording, gap: Gap, passes: u32, work: &mut [u64]) -> Answer {
+pub fn inpaint_gap(recording: &mut Recording, gap: Gap, passes: u32, work: &mut [u64]) -> GapAnswer {
     match recording.refused_by_any_call() {
-        Some(number) => Answer::Refused(number),
+        Some(number) => GapAnswer { answer: Answer::Refused(number), reach: None },
         None => repair(recording, gap, passes, work),
     }
 }
 
 /// The repair of a gap in a recording that refusals 1 to 3 do not turn away. "The needed part of the workspace
 /// is all +0 after an acceptance or after 8 or 9; after any other refusal it keeps its contents."
-fn repair(recording: &mut Recording, gap: Gap, passes: u32, work: &mut [u64]) -> Answer {
+fn repair(recording: &mut Recording, gap: Gap, passes: u32, work: &mut [u64]) -> GapAnswer {
     let n = recording.samples.len();
+    let refused = |answer: Answer| GapAnswer { answer, reach: None };
     if gap.is_outside(n) {
-        return Answer::Refused(5);
+        return refused(Answer::Refused(5));
     }
     let needed = gap.needed(n);
     if work.len() < needed {
-        return Answer::Refused(6);
+        return refused(Answer::Refused(6));
     }
     if let Some(place) = gap.read(n).find(|place| !in_range(recording.samples[*place])) {
-        return Answer::RefusedAt(7, place);
+        return refused(Answer::RefusedAt(7, place));
     }
-    let named = gap.filled(&recording.samples, passes);
+    let (words, reach) = gap.filled(&recording.samples, passes);
     work[..needed].fill(0);
-    recording.commit(gap.mark(), &named)
+    let named: Vec<(usize, u32)> = gap.places().zip(words).collect();
+    GapAnswer { answer: recording.commit(gap.mark(), &named), reach }
 }
 
 /// What a scan answers.
@@ -129,7 +209,7 @@ pub enum Scan {
     /// Refused as a whole, by the number in the document's table: 1 to 4.
     Refused(u32),
     /// Each run that qualified, in order, and the answer of its repair.
-    Ran(Vec<(Gap, Answer)>),
+    Ran(Vec<(Gap, GapAnswer)>),
 }
 
 impl Scan {
@@ -139,7 +219,7 @@ impl Scan {
     }
 
     /// The runs that qualified, with their answers; none, where the scan was refused.
-    pub fn runs(&self) -> &[(Gap, Answer)] {
+    pub fn runs(&self) -> &[(Gap, GapAnswer)] {
         match self {
             Scan::Refused(_) => &[],
             Scan::Ran(runs) => runs,
@@ -164,14 +244,36 @@ impl Scan {
 }
 
 /// The automatic scan. "Each run is one gap repair with its own answer from 6 to 9; the scan goes on after a
-/// refused one." "Runs of both kinds are those of the recording as the call began."
-pub fn inpaint_auto(recording: &mut Recording, rate: u32, max_gap_ms: f32, work: &mut [u64]) -> Scan {
+/// refused one." "Runs of both kinds are those of the recording as the call began." A lent list gets the orders of the
+/// models, place by place.
+pub fn inpaint_auto(
+    recording: &mut Recording,
+    rate: u32,
+    max_gap_ms: f32,
+    work: &mut [u64],
+    orders: &mut [u32],
+) -> Scan {
     if let Some(number) = recording.refused_by_any_call() {
         return Scan::Refused(number);
     }
     match qualified(&recording.samples, rate, max_gap_ms) {
         None => Scan::Refused(4),
-        Some(runs) => Scan::Ran(runs.into_iter().map(|run| (run, repair(recording, run, SCAN_PASSES, work))).collect()),
+        Some(runs) => {
+            let each = |run: Gap| {
+                let answer = repair(recording, run, SCAN_PASSES, work);
+                note(orders, run, answer);
+                (run, answer)
+            };
+            Scan::Ran(runs.into_iter().map(each).collect())
+        }
+    }
+}
+
+/// "At each place of it where the scan repaired a sample by the model, the order of that model; every other place of it
+/// stays." "A shorter list is written as far as it goes."
+fn note(orders: &mut [u32], run: Gap, answer: GapAnswer) {
+    if answer.is_by_model() {
+        orders.iter_mut().take(run.end()).skip(run.start).for_each(|order| *order = answer.order());
     }
 }
 

@@ -4,6 +4,7 @@ pub mod frames;
 
 use crate::call::Call;
 use crate::cathar;
+use crate::inpaint::Gap;
 use crate::question::{Span, Told};
 use crate::recording::Recording;
 use crate::whole::Repair;
@@ -14,6 +15,9 @@ pub(crate) const GUARDS: usize = 3;
 
 /// What stands in each number that a call hands back, before the call: no answer's value.
 pub const VALUE_BEFORE: usize = 0x0123_4567_89ab_cdef;
+
+/// What stands where the order of a gap's model comes, before its repair: no model's order.
+pub const ORDER_BEFORE: u32 = 0x7654_3210;
 
 /// What stands where the question's yes or no comes, before it is asked: neither.
 pub const YES_BEFORE: u32 = 0x89ab_cdef;
@@ -106,13 +110,19 @@ fn words(words: &[u32]) -> Part<u32> {
     Part::new(words, 0x8000_0000)
 }
 
+/// A list for the orders of a scan's models. What stands around it is none of them.
+fn list(words: &[u32]) -> Part<u32> {
+    Part::new(words, 0x5a5a_a5a5)
+}
+
 /// Counts. What stands around them is no block's.
 pub(crate) fn counts(counts: &[u16]) -> Part<u16> {
     Part::new(counts, 0x5a5a)
 }
 
-/// A recording; two numbers that a call hands back, of which most calls have one or none; what the question hands back;
-/// and the two workspaces, of which a call has one or none.
+/// A recording; two numbers that a call hands back, of which most calls have one or none; what the question hands
+/// back; the two workspaces, of which a call has one or none; the order that the repair of a gap hands back, and the
+/// list that a scan is lent for orders.
 pub struct Lent {
     pub(crate) samples: Part<u32>,
     pub(crate) marks: Part<u8>,
@@ -123,11 +133,13 @@ pub struct Lent {
     pub(crate) yes: Part<u32>,
     pub(crate) doubles: Part<f64>,
     pub(crate) words: Part<u32>,
+    pub(crate) order: Part<u32>,
+    pub(crate) orders: Part<u32>,
 }
 
 impl Lent {
-    /// The same words as the recording has, and no workspace. Around the journal stands 1, which could be an entry's
-    /// place, m or mark, so that a call that takes it for the journal's is found out too.
+    /// The same words as the recording has, no workspace, and an empty list for orders. Around the journal stands 1,
+    /// which could be an entry's place, m or mark, so that a call that takes it for the journal's is found out too.
     pub fn new(recording: &Recording) -> Lent {
         Lent {
             samples: Part::new(&recording.samples, 0x5a5a_5a5a),
@@ -139,6 +151,8 @@ impl Lent {
             yes: Part::new(&[YES_BEFORE], 0xa5a5_a5a5),
             doubles: doubles(&[]),
             words: words(&[]),
+            order: Part::new(&[ORDER_BEFORE], 0xa5a5_a5a5),
+            orders: list(&[]),
         }
     }
 
@@ -150,6 +164,21 @@ impl Lent {
     /// From here on a workspace of these words is lent.
     pub fn lend_words(&mut self, of: &[u32]) {
         self.words = words(of);
+    }
+
+    /// From here on a list of these words is lent to a scan for its orders.
+    pub fn lend_orders(&mut self, of: &[u32]) {
+        self.orders = list(of);
+    }
+
+    /// Whether this order was handed back, and the guards around it stand.
+    pub fn holds_order(&self, order: u32) -> bool {
+        self.order.holds(patterns(&[order]))
+    }
+
+    /// Whether the list for orders has these words, and the guards around it stand.
+    pub fn holds_orders(&self, words: &[u32]) -> bool {
+        self.orders.holds(patterns(words))
     }
 
     /// Whether the workspace of doubles has these patterns, and the guards around it stand.
@@ -193,6 +222,7 @@ impl Lent {
         for number in &mut self.numbers {
             number.lend()[0] = VALUE_BEFORE;
         }
+        self.order.lend()[0] = ORDER_BEFORE;
         wrong::library(self, call)
     }
 
@@ -202,16 +232,16 @@ impl Lent {
         let (journal, used) = (self.journal.lend(), &mut self.used.lend()[0]);
         let [first, second] = &mut self.numbers;
         let (value, other) = (&mut first.lend()[0], &mut second.lend()[0]);
-        let doubles = self.doubles.lend();
+        let (work, order, orders) = (self.doubles.lend(), &mut self.order.lend()[0], self.orders.lend());
         match call {
             Call::Open => cathar::open(samples, marks, counts, journal, used),
             Call::OpenReceived => cathar::open_received(samples, marks, counts, journal, used),
             Call::Undo => cathar::undo(samples, marks, counts, journal, used, value),
-            Call::Gap { gap, passes } => {
-                cathar::inpaint_gap(samples, marks, counts, journal, used, gap.start, gap.len, passes, doubles, value)
+            Call::Gap { gap: Gap { start, len }, passes } => {
+                cathar::inpaint_gap(samples, marks, counts, journal, used, start, len, passes, work, value, order)
             }
-            Call::Scan { rate, max_gap_ms } => {
-                cathar::inpaint_auto(samples, marks, counts, journal, used, rate, max_gap_ms, doubles, value, other)
+            Call::Scan { rate, max_gap_ms: ms } => {
+                cathar::inpaint_auto(samples, marks, counts, journal, used, rate, ms, work, orders, value, other)
             }
             Call::Whole(repair) => self.repair(repair),
         }

@@ -1,6 +1,6 @@
-//! The functions of the static library, and what the tests hold them to: Rust's own operations for the
-//! float leaves, a model for the recording, one for the question whether a span was measured and one for the bus's
-//! frames, and for the samples that a repair writes the original Rust.
+//! The functions of the static library, and what the tests hold them to: Rust's own operations for the float leaves, a
+//! model for the recording, one for the question whether a span was measured and one for the bus's frames, for the
+//! samples that a repair writes the original Rust, and for the order of a gap's model a prediction step of the host's.
 pub mod both;
 pub mod call;
 pub mod cathar;
@@ -13,11 +13,13 @@ pub mod inpaint;
 pub mod lent;
 pub mod machine;
 pub mod original;
+pub mod prediction;
 pub mod question;
 pub mod recording;
 pub mod room;
 pub mod settings;
 pub mod shapes;
+pub mod sounds;
 pub mod tally;
 pub mod whole;
 pub mod wrong;

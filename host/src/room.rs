@@ -1,5 +1,5 @@
-//! What a call is lent beside the samples: marks, counts, a journal and a workspace, all of any words, and just long
-//! enough or not.
+//! What a call is lent beside the samples: marks, counts, a journal, a workspace and a list for orders, all of any
+//! words, and just long enough or not.
 use crate::draw::Draw;
 use crate::recording::{blocks, Recording, BLOCK};
 
@@ -86,4 +86,16 @@ pub fn work(draw: &mut Draw, length: usize) -> Vec<u64> {
 /// The words of a workspace of so many: any, and one in four a NaN.
 pub fn words(draw: &mut Draw, length: usize) -> Vec<u32> {
     work(draw, length).into_iter().map(|pattern| (pattern >> 32) as u32).collect()
+}
+
+/// A list for the orders of a scan of n samples: mostly as long, and else empty, shorter, one shorter or longer.
+pub fn orders(draw: &mut Draw, n: usize) -> Vec<u32> {
+    let length = match draw.below(8) {
+        0 => 0,
+        1 => draw.below(n as u64 + 1) as usize,
+        2 => n.saturating_sub(1),
+        3 => n + 1 + draw.below(9) as usize,
+        _ => n,
+    };
+    words(draw, length)
 }

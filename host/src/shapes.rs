@@ -67,12 +67,12 @@ pub fn words(draw: &mut Draw, n: usize, first: usize) -> Vec<u32> {
 }
 
 /// A number from 0 to 1.
-fn part(draw: &mut Draw) -> f64 {
+pub(crate) fn part(draw: &mut Draw) -> f64 {
     draw.digits(24) as f64 / 16_777_215.0
 }
 
 /// A tone: each number from the two before it, x[i+1] = c*x[i] - x[i-1].
-fn tone(draw: &mut Draw) -> impl FnMut() -> f64 {
+pub(crate) fn tone(draw: &mut Draw) -> impl FnMut() -> f64 {
     let c = 3.8 * part(draw) - 1.9;
     let mut last = 0.25 * part(draw);
     let mut before = 0.25 * part(draw);

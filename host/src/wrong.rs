@@ -1,12 +1,14 @@
 //! Wrong stand-ins, with which the comparisons are themselves tried. Each is wrong in one way: in what it leaves or
-//! answers in the place of the library, of the model, of both alike or of the second process, or in what a test keeps
-//! account of. With none of them a comparison finds no difference; with any one of them it has to find one.
-//! `CATHAR_WRONG` names the one that stands in, and `host/wrong` runs each and says which are found.
+//! answers in the place of the library, of the model, of both alike, of the host's own prediction step or of the
+//! second process, or in what a test keeps account of. With none of them a comparison finds no difference; with any
+//! one of them it has to find one. `CATHAR_WRONG` names the one that stands in, and `host/wrong` runs each and says
+//! which are found.
 mod counts;
 mod frames;
 mod gaps;
 mod held;
 mod leaves;
+mod orders;
 mod question;
 mod received;
 mod recording;
@@ -56,6 +58,8 @@ enum How {
     Root(fn(f64) -> f64),
     Narrow(fn(f64) -> f32),
     Round(fn(f32) -> f32),
+    /// In the place of the lags that the host's own prediction step works on: it alters them.
+    Lags(fn(&mut [f64])),
     /// In the place of the second process: it alters the patterns that this answered.
     There(fn(&mut [u64])),
 }
@@ -82,13 +86,14 @@ pub enum Finds {
 }
 
 /// All of them.
-pub const TABLES: [&[Table]; 12] = [
+pub const TABLES: [&[Table]; 13] = [
     leaves::TABLES,
     recording::TABLES,
     received::TABLES,
     gaps::TABLES,
     scans::TABLES,
     held::TABLES,
+    orders::TABLES,
     whole::TABLES,
     sequences::TABLES,
     counts::TABLES,
@@ -227,6 +232,13 @@ pub fn round(x: f32) -> f32 {
     match how() {
         Some(How::Round(of)) => of(x),
         _ => cathar::round(x),
+    }
+}
+
+/// The lags that the host's own prediction step works on, or what stands in for them.
+pub(crate) fn lags(r: &mut [f64]) {
+    if let Some(How::Lags(alters)) = how() {
+        alters(r);
     }
 }
 

@@ -1,5 +1,6 @@
-//! The repair of a gap and the automatic scan against the model of the recording and the original Rust: every
-//! answer and value, and every byte of the lent memory, with what stands around each part of it.
+//! The repair of a gap and the automatic scan against the model of the recording and the original Rust: every answer
+//! and value, the order of every gap's model, and every byte of the lent memory, a scan's list of orders among it,
+//! with what stands around each part of it.
 //!
 //! `CATHAR_SEED` sets the seed.
 mod inpaint {
@@ -7,6 +8,8 @@ mod inpaint {
     pub mod held;
     pub mod lengths;
     pub mod limits;
+    pub mod lists;
+    pub mod orders;
     pub mod scans;
     pub mod short;
 }
@@ -15,16 +18,18 @@ use cathar_host::both::Both;
 use cathar_host::count::Count;
 use cathar_host::damage;
 use cathar_host::draw::{self, Draw};
-use cathar_host::inpaint::{Gap, Scan, MOST_RATE};
+use cathar_host::inpaint::{Gap, GapAnswer, Scan, MOST_RATE};
 use cathar_host::original;
 use cathar_host::recording::{Answer, Recording};
 use cathar_host::room::{self, Room};
 use cathar_host::settings::{self, OfScan};
 use cathar_host::shapes::Shape;
+use cathar_host::sounds::Sound;
 use inpaint::gaps::{self, repair, repair_with, Gaps};
 use inpaint::limits::{self, louder, Faults, LOUD, LOUDER_GAP, LOUD_GAP};
+use inpaint::orders::{self, Orders};
 use inpaint::scans::{self, dropped, scan, scan_any, Scans};
-use inpaint::{held, lengths, short};
+use inpaint::{held, lengths, lists, short};
 
 /// How many gaps are tried: in random short recordings over the alphabet, in short ones of each shape, by
 /// model and longer than 500, and by line.
@@ -46,9 +51,9 @@ fn any_gap(draw: &mut Draw, n: usize) -> Gap {
     Gap { start, len: 1 + draw.below(most as u64) as usize }
 }
 
-fn repair_any(count: &mut Gaps, draw: &mut Draw, samples: &[u32], gap: Gap, passes: u32) -> Answer {
+fn repair_any(count: &mut Gaps, draw: &mut Draw, samples: &[u32], gap: Gap, passes: u32) {
     let room = [Room::any(draw), Room::any(draw)];
-    repair_with(count, draw, samples, gap, passes, room)
+    repair_with(count, draw, samples, gap, passes, room);
 }
 
 /// All gaps of all recordings of up to five samples over the alphabet, most of them with one pass, since the
@@ -104,8 +109,8 @@ fn repair_refused(count: &mut Gaps, draw: &mut Draw) {
         let (model, work) = (room::recording(draw, LOUD.to_vec(), 0), room::work(draw, 1000));
         repair(count, &mut Both::new(model), gap, 1, work);
     }
-    let answer = repair_with(count, &mut Draw::new(1), &louder(), LOUDER_GAP, 1, [Room::Exact, Room::Exact]);
-    assert_eq!(answer, Answer::RefusedAt(8, 10), "of two results not in range the place of the lowest");
+    let told = repair_with(count, &mut Draw::new(1), &louder(), LOUDER_GAP, 1, [Room::Exact, Room::Exact]);
+    assert_eq!(told.answer, Answer::RefusedAt(8, 10), "of two results not in range the place of the lowest");
 }
 
 #[test]
@@ -197,7 +202,8 @@ fn scan_refused(count: &mut Scans, draw: &mut Draw) {
     for faults in Faults::each() {
         let (model, work) = faults.made(draw);
         let settings = if faults.of_gap() { settings::NO_SCANS[draw.below(3) as usize] } else { settings::USUAL };
-        scan(count, &mut Both::new(model), settings, work);
+        let orders = room::orders(&mut draw.aside(), model.samples.len());
+        scan(count, &mut Both::new(model), settings, work, orders);
     }
 }
 
@@ -239,8 +245,10 @@ fn scanned() {
     scan_refused(&mut count, &mut draw);
     count.begin("each number of counts");
     let work = room::work(&mut draw, 2_000);
+    let mut lists = draw.aside();
     limits::counts(&mut draw, &mut |model| {
-        scan(&mut count, &mut Both::new(model), settings::USUAL, work.clone());
+        let orders = room::orders(&mut lists, model.samples.len());
+        scan(&mut count, &mut Both::new(model), settings::USUAL, work.clone(), orders);
     });
     count.begin("random ones of 6 to 60 samples");
     for _ in 0..RANDOM_SCANS {
@@ -260,7 +268,8 @@ fn scanned() {
     count.begin("beside the most samples");
     let works: Vec<u64> = room::work(&mut draw, 5000);
     limits::large(&mut draw, &mut |model| {
-        scan(&mut count, &mut Both::new(model), settings::USUAL, works.clone());
+        let orders = room::orders(&mut lists, model.samples.len());
+        scan(&mut count, &mut Both::new(model), settings::USUAL, works.clone(), orders);
     });
     count.begin("all recordings of up to 5 samples");
     short::each(&mut |samples| {
@@ -289,31 +298,73 @@ fn held_words() {
     count.close(seed);
 }
 
-/// The library repairs one gap of an opened recording with enough room. What it leaves: samples and marks.
-fn repaired(samples: Vec<u32>, gap: Gap) -> (Vec<u32>, Vec<u8>) {
+#[test]
+fn orders_of_gaps() {
+    let seed = draw::seed();
+    let mut draw = Draw::new(seed);
+    let mut count = Orders::new();
+    for sound in Sound::ALL {
+        count.begin(sound.name());
+        orders::in_sound(&mut count, &mut draw, sound);
+    }
+    count.begin("r[0] raised to just 1e-12, and beside it");
+    orders::beside_bound(&mut count, &mut draw);
+    count.begin("65,536 and its negative");
+    orders::loudest(&mut count, &mut draw);
+    count.begin("loud samples that the window does not reach");
+    orders::far(&mut count, &mut draw);
+    count.begin("longer than 2048");
+    orders::lines(&mut count, &mut draw);
+    count.close(seed);
+}
+
+#[test]
+fn orders_of_scans() {
+    let seed = draw::seed();
+    let mut draw = Draw::new(seed);
+    let mut count = Count::new("the orders of cathar_inpaint_auto against the host's own step", &[lists::CLASSES]);
+    count.begin("refused, or several refusals apply");
+    lists::refused(&mut count, &mut draw);
+    for sound in Sound::ALL {
+        count.begin(sound.name());
+        lists::in_sound(&mut count, &mut draw, sound);
+    }
+    count.begin("65,536 and its negative");
+    lists::loudest(&mut count, &mut draw);
+    count.begin("a NaN that some windows hold");
+    lists::far(&mut count, &mut draw);
+    count.begin("with a run by line");
+    lists::lines(&mut count, &mut draw);
+    count.close(seed);
+}
+
+/// The library repairs one gap of an opened recording with enough room, by a model of this order or by line, for which
+/// the order is 0. What it leaves: samples and marks.
+fn repaired(samples: Vec<u32>, gap: Gap, order: u32) -> (Vec<u32>, Vec<u8>) {
     let n = samples.len();
     let model = Recording::new(samples, vec![0; n], vec![0; 3 * gap.len + 2], 0);
     let mut both = Both::new(model);
-    assert_eq!(both.inpaint_gap(gap, 3, vec![u64::MAX; gap.needed(n)]), (Answer::Accepted(gap.len), vec![]));
+    let (told, wrong) = both.inpaint_gap(gap, 3, vec![u64::MAX; gap.needed(n)]);
+    assert_eq!((told.answer, told.order(), wrong), (Answer::Accepted(gap.len), order, vec![]));
     (both.model.samples, both.model.marks)
 }
 
-/// The document's sums: *quiet*; 4097 samples with ends 0 and 4096, whose places become their numbers; and the
-/// marks of gaps of 2048 and 2049.
+/// The document's sums: *quiet*, with "0 in *quiet*" for the order; 4097 samples with ends 0 and 4096, whose places
+/// become their numbers; and the marks and orders of gaps of 2048 and 2049.
 #[test]
 fn sums() {
     let tiny = 0x3080_0000;
-    let (samples, marks) = repaired(vec![tiny, tiny, 0, 0, tiny, tiny], Gap { start: 2, len: 2 });
+    let (samples, marks) = repaired(vec![tiny, tiny, 0, 0, tiny, tiny], Gap { start: 2, len: 2 }, 0);
     assert_eq!(samples, [tiny, tiny, 0x8000_0000, 0, tiny, tiny]);
     assert_eq!(marks, [0, 0, 1, 1, 0, 0]);
     let mut line = vec![0x7fc0_0000; 4097];
     line[0] = 0;
     line[4096] = 4096.0f32.to_bits();
-    let (samples, marks) = repaired(line, Gap { start: 1, len: 4095 });
+    let (samples, marks) = repaired(line, Gap { start: 1, len: 4095 }, 0);
     assert!((0..4097).all(|place| samples[place] == (place as f32).to_bits()), "place i becomes i");
     assert!((1..4096).all(|place| marks[place] == 2) && marks[0] == 0 && marks[4096] == 0);
-    for (len, mark) in [(2048, 1), (2049, 2)] {
-        let (_, marks) = repaired(vec![0x3f80_0000; 2060], Gap { start: 5, len });
+    for (len, mark, order) in [(2048, 1, 128), (2049, 2, 0)] {
+        let (_, marks) = repaired(vec![0x3f80_0000; 2060], Gap { start: 5, len }, order);
         assert!((0..2060).all(|place| marks[place] == if (5..5 + len).contains(&place) { mark } else { 0 }));
     }
 }
@@ -323,8 +374,8 @@ fn sums() {
 fn a_result_not_in_range() {
     let mut count = Count::new("a result not in range", &[]);
     count.begin("14 samples");
-    let answer = repair_with(&mut count, &mut Draw::new(1), &LOUD, LOUD_GAP, 3, [Room::Exact, Room::Exact]);
-    assert_eq!(answer, Answer::RefusedAt(8, 7));
+    let told = repair_with(&mut count, &mut Draw::new(1), &LOUD, LOUD_GAP, 3, [Room::Exact, Room::Exact]);
+    assert_eq!((told.answer, told.order()), (Answer::RefusedAt(8, 7), 0));
     count.close(1);
 }
 
@@ -342,7 +393,8 @@ fn where_the_original_writes_nan() {
             let after = original::inpaint_auto(&before, 48_000, 1.0);
             if before.iter().zip(&after).any(|(x, y)| !x.is_nan() && y.is_nan()) {
                 let model = room::recording(&mut Draw::new(1), samples, 100);
-                let scan = scan(&mut count, &mut Both::new(model), settings::USUAL, vec![1; 1000]);
+                let list = vec![7; n as usize];
+                let scan = scan(&mut count, &mut Both::new(model), settings::USUAL, vec![1; 1000], list);
                 found.push((before, after, scan));
             }
         }
@@ -350,7 +402,8 @@ fn where_the_original_writes_nan() {
     for (before, after, scan) in &found {
         println!("the original makes {after:?} of {before:?}, and the rules give {:?}", scan.runs());
         assert_eq!(before.len(), 5);
-        assert!(matches!(scan, Scan::Ran(runs) if matches!(runs[..], [(_, Answer::RefusedAt(7, _))])));
+        let is_7 = |told: &GapAnswer| matches!(told.answer, Answer::RefusedAt(7, _));
+        assert!(matches!(scan.runs(), [(_, told)] if is_7(told)));
     }
     assert!(!found.is_empty());
     count.close(1);
@@ -376,7 +429,7 @@ fn where_the_original_takes_any_setting() {
         let words = |samples: &[f32]| samples.iter().map(|x| x.to_bits()).collect::<Vec<u32>>();
         assert_eq!(words(&after) != words(&samples), within, "rate {rate}, {max_gap_ms} ms: {after:?}");
         let model = room::recording(&mut Draw::new(1), words(&samples), 100);
-        let scan = scan(&mut count, &mut Both::new(model), (rate, max_gap_ms), vec![1; 1000]);
+        let scan = scan(&mut count, &mut Both::new(model), (rate, max_gap_ms), vec![1; 1000], vec![7; 4]);
         assert_eq!(scan, Scan::Refused(4));
     }
     count.close(1);

@@ -1,13 +1,15 @@
-//! What the programs are to write for each of the inputs in `samples`, `repair` for a recording and `receive` for a stream
-//! of frames: from the models of the reader and of the scan, whose new samples are the original's. The files `.out`
-//! beside the inputs are held to that, and `samples/check` holds the programs to the files. With `CATHAR_WRITE=1`
-//! recordings and files are written anew; the streams are taken as they are.
+//! What the programs are to write for each of the inputs in `samples`, `repair` for a recording and `receive` for a
+//! stream of frames: from the models of the reader and of the scan, whose new samples are the original's and whose
+//! orders the host works out. The files `.out` beside the inputs are held to that, and `samples/check` holds the
+//! programs to the files. With `CATHAR_WRITE=1` recordings and files are written anew; the streams are taken as they
+//! are.
 use cathar_host::draw::{Draw, SEED};
 use cathar_host::frames::{read_frames, Rooms, FRAME_BYTES};
 use cathar_host::inpaint::{inpaint_auto, HELD_RUN, LOST_RUN};
 use cathar_host::machine;
 use cathar_host::recording::{Answer, Recording};
 use cathar_host::shapes::Shape;
+use cathar_host::sounds::Sound;
 use std::env;
 use std::fs;
 use std::path::PathBuf;
@@ -31,6 +33,9 @@ const PUMP: [(usize, usize); 8] = [(0, 2), (137, 5), (410, 2), (600, 1), (801, 4
 const HELD: [(usize, usize); 8] =
     [(0, 17), (150, 15), (200, 16), (300, 49), (400, 50), (520, 20), (543, 24), (980, 20)];
 const HELD_ZEROS: (usize, usize) = (540, 3);
+
+/// How many samples each of the soft sounds has.
+const SOFT: usize = 250;
 
 fn bytes(samples: &[u32]) -> Vec<u8> {
     samples.iter().flat_map(|word| word.to_le_bytes()).collect()
@@ -73,12 +78,15 @@ fn received(input: &[u8]) -> String {
 }
 
 /// What both print of a recording that is open: what a scan of it counts, and then each sample that is not measured.
+/// Request P8 of document 02: "the program adds it as a fourth number on lines with mark 1".
 fn scanned(mut recording: Recording) -> String {
-    let scan = inpaint_auto(&mut recording, RATE, LIMIT, &mut vec![0; 10_000]);
+    let mut orders = vec![0; recording.samples.len()];
+    let scan = inpaint_auto(&mut recording, RATE, LIMIT, &mut vec![0; 10_000], &mut orders);
     let counts = (scan.qualified(), scan.repaired(), scan.number());
     let mut text = format!("qualified {} repaired {} refused {}\n", counts.0, counts.1, counts.2);
     for (place, mark) in recording.marks.iter().enumerate().filter(|(_, mark)| **mark != 0) {
-        text += &format!("{place} {mark} {:08x}\n", recording.samples[place]);
+        let order = if *mark == 1 { format!(" {}", orders[place]) } else { String::new() };
+        text += &format!("{place} {mark} {:08x}{order}\n", recording.samples[place]);
     }
     text + "end\n"
 }
@@ -118,9 +126,24 @@ fn dense(draw: &mut Draw) -> Vec<u8> {
     bytes(&samples)
 }
 
+/// Sounds so soft that most of their models stop early: each with two dropouts, and so far from the next that no window
+/// reaches it, with next to nothing between them.
+fn soft_sounds(draw: &mut Draw) -> Vec<u8> {
+    let mut samples = Vec::new();
+    for (sound, energy) in [(Sound::Noise, 1.3e-12), (Sound::Turns, 2e-12), (Sound::TwoTones, 1e-9)] {
+        let mut part = sound.samples(draw, SOFT, 0..SOFT, energy);
+        part[40..42].fill(0);
+        part[150..190].fill(0);
+        samples.extend(part);
+        samples.extend((0..1_100).map(|place| 0x0d80_0000 | (place % 2) << 31));
+    }
+    samples.truncate(3 * SOFT + 2 * 1_100);
+    bytes(&samples)
+}
+
 /// The recordings: a pump's tone with dropouts; *quiet*; the longest input, with a run at every third place
 /// but one; a NaN that one window holds and another does not; inputs of no sample, of 3 bytes and of one
-/// sample too many; a bus that holds its word; and the longest input with the densest runs.
+/// sample too many; a bus that holds its word; the longest input with the densest runs; and soft sounds.
 fn recordings() -> Vec<(&'static str, Vec<u8>)> {
     let mut draw = Draw::new(SEED);
     let often: Vec<(usize, usize)> = (0..1364).map(|k| (1 + 3 * k, 2)).collect();
@@ -137,6 +160,7 @@ fn recordings() -> Vec<(&'static str, Vec<u8>)> {
         ("over", vec![0; 4 * MOST + 4]),
         ("held", held(&mut draw)),
         ("dense", dense(&mut draw)),
+        ("soft", soft_sounds(&mut draw)),
     ]
 }
 

@@ -4,13 +4,14 @@
 //! Each line is one call. It ends in a newline, and its parts are separated by one space. The first is a letter, and
 //! all others but one are words of eight hexadecimal digits in lower case. All samples are words of f32.
 //!
-//!     letter settings.. number value qualified n m before.. marks after..
+//!     letter settings.. number value beside n m before.. marks after..
 //!
-//! with three settings, and then what the model answers: number and value of a repair, and 0. For a scan number is
-//! that of the first refusal, or 0, and value is how many runs are repaired of those that qualified. Each of the n
-//! samples before the call stands in `before`. The part `marks` is a row of n digits, the marks that the model has
-//! after the call. The m words of `after` are those that the original writes, at each place whose mark is not 0. All
-//! other samples the original leaves as they were. The settings, 0 where there are fewer, are by letter:
+//! with three settings, and then what the model answers: number and value of a repair, and beside them the order of
+//! the model for a gap, and else 0. For a scan number is that of the first refusal, or 0, value is how many runs are
+//! repaired, and beside them stands how many qualified. Each of the n samples before the call stands in `before`. The
+//! part `marks` is a row of n digits, the marks that the model has after the call. The m words of `after` are those
+//! that the original writes, at each place whose mark is not 0. All other samples the original leaves as they were.
+//! The settings, 0 where there are fewer, are by letter:
 //!
 //!     g start len passes              one gap, by `inpaint_gap`
 //!     s rate limit 0                  a scan, by `inpaint_auto`; with held words, by `inpaint_gap` at each gap
@@ -22,7 +23,7 @@
 //! Limit, threshold, sensitivity and strength are words of f32. Each repair is accepted and names a sample, and a
 //! scan repairs every run that qualifies. A sample of a scan that is not in range is a NaN within the first such run.
 use cathar_host::draw::{Draw, SEED};
-use cathar_host::inpaint::{inpaint_auto, inpaint_gap, scanned_by_original, Gap, Scan};
+use cathar_host::inpaint::{inpaint_auto, inpaint_gap, scanned_by_original, Gap, GapAnswer, Scan};
 use cathar_host::original;
 use cathar_host::recording::{in_range, Answer, Recording};
 use cathar_host::shapes::Shape;
@@ -41,6 +42,10 @@ const SHAPES: [Shape; 4] = [Shape::Tone, Shape::Noise, Shape::Steps, Shape::Word
 const GAPS: usize = 60;
 const LONGEST_GAP: usize = 12;
 const PASSES: u32 = 3;
+
+/// The last of them are made so quiet that most of their models stop early: the sums of the squares around them.
+const QUIET: [f64; 12] =
+    [0.0, 5e-13, 1.01e-12, 1.05e-12, 1.3e-12, 1.05e-12, 1.2e-12, 3e-12, 1.1e-12, 2e-12, 1.2e-12, 2e-12];
 
 /// The rate of each scan and its limit in milliseconds, which is 48 samples.
 const RATE: u32 = 48_000;
@@ -105,12 +110,17 @@ fn line((letter, settings): Called, answer: [u32; 3], before: &[u32], model: &Re
     format!("{letter}{}{} {marks}{}\n", spelled(&head), spelled(before), spelled(&after))
 }
 
-/// The answer of a repair as a line has it.
+/// The answer of a repair over the whole recording as a line has it: nothing stands beside it.
 fn of_repair(answer: Answer) -> [u32; 3] {
     [answer.number(), answer.value() as u32, 0]
 }
 
-/// The answer of a scan as a line has it.
+/// The answer of a gap as a line has it: beside it stands the order of its model.
+fn of_gap(told: GapAnswer) -> [u32; 3] {
+    [told.number(), told.value() as u32, told.order()]
+}
+
+/// The answer of a scan as a line has it: beside the runs repaired stand those that qualified.
 fn of_scan(scan: &Scan) -> [u32; 3] {
     [scan.number(), scan.repaired() as u32, scan.qualified() as u32]
 }
@@ -119,13 +129,21 @@ fn of_scan(scan: &Scan) -> [u32; 3] {
 fn gap_line(samples: &[u32], gap: Gap) -> Option<String> {
     let Gap { start, len } = gap;
     let mut model = recording(samples);
-    let answer = inpaint_gap(&mut model, gap, PASSES, &mut vec![0; gap.needed(samples.len())]);
-    if answer != Answer::Accepted(len) {
+    let told = inpaint_gap(&mut model, gap, PASSES, &mut vec![0; gap.needed(samples.len())]);
+    if told.answer != Answer::Accepted(len) {
         return None;
     }
     let left = original::inpaint_gap(&floats(samples), start, len, PASSES);
     let called = ('g', [start as u32, len as u32, PASSES]);
-    Some(line(called, of_repair(answer), samples, &model, &left))
+    Some(line(called, of_gap(told), samples, &model, &left))
+}
+
+/// These samples, made so loud or quiet that the sum of the squares around the gap is about this.
+fn as_loud(samples: &[u32], gap: Gap, energy: f64) -> Vec<u32> {
+    let x = |word: u32| f64::from(f32::from_bits(word));
+    let squares: f64 = gap.read(samples.len()).map(|place| x(samples[place]) * x(samples[place])).sum();
+    let factor = (energy / squares).sqrt();
+    samples.iter().map(|word| ((x(*word) * factor) as f32).to_bits()).collect()
 }
 
 /// Gaps in each shape at the start, in the middle and at the end of 6 to 60 samples. With each turn through
@@ -138,8 +156,11 @@ fn gaps(draw: &mut Draw) -> String {
         let turned = len + lines / LONGEST_GAP;
         let n = (len + 2).max(6) + draw.below(47) as usize;
         let start = [0, 1 + draw.below((n - len - 1) as u64) as usize, n - len][turned % 3];
-        let samples = SHAPES[turned % SHAPES.len()].samples(draw, n);
-        if let Some(line) = gap_line(&samples, Gap { start, len }) {
+        let (mut samples, gap) = (SHAPES[turned % SHAPES.len()].samples(draw, n), Gap { start, len });
+        if let Some(energy) = (lines + QUIET.len()).checked_sub(GAPS).map(|line| QUIET[line]) {
+            samples = as_loud(&samples, gap, energy);
+        }
+        if let Some(line) = gap_line(&samples, gap) {
             text += &line;
             lines += 1;
         }
@@ -164,7 +185,7 @@ fn dropped(draw: &mut Draw, shape: Shape, n: usize, dropouts: &[usize]) -> Vec<u
 
 fn scan_line(samples: &[u32]) -> String {
     let mut model = recording(samples);
-    let scan = inpaint_auto(&mut model, RATE, LIMIT, &mut vec![0; 10_000]);
+    let scan = inpaint_auto(&mut model, RATE, LIMIT, &mut vec![0; 10_000], &mut []);
     assert!(scan.number() == 0 && scan.qualified() > 0, "the scan of a line: {scan:?}");
     assert!(model.samples.iter().all(|word| in_range(*word)), "a sample is not in range after the scan");
     let left = scanned_by_original(samples, RATE, LIMIT, &scan.gaps());
@@ -265,8 +286,20 @@ fn changes(line: &str) -> bool {
     !marked.eq(&behind[1..])
 }
 
-/// Holds the lines of each letter to their number, and most repairs over the whole recording to a change.
+/// The orders of the gaps' models, in the order of the lines.
+fn orders(stored: &str) -> Vec<u32> {
+    let gaps = stored.lines().filter(|line| line.starts_with('g'));
+    let order = |line: &str| u32::from_str_radix(line.split(' ').nth(6)?, 16).ok();
+    gaps.map(|line| order(line).expect("an order stands beside number and value")).collect()
+}
+
+/// Holds the lines of each letter to their number, the gaps to orders of every kind, and most repairs over the whole
+/// recording to a change.
 fn check_lines(stored: &str) {
+    let orders = orders(stored);
+    println!("g: orders {orders:?}");
+    let kinds: [fn(&u32) -> bool; 4] = [|o| *o == 0, |o| *o == 1, |o| (2..32).contains(o), |o| *o == 32];
+    assert!(kinds.iter().all(|kind| orders.iter().filter(|order| kind(order)).count() > 1), "orders of every kind");
     let scans = SCANS.len() + HELD_SCANS.len();
     for (letter, number) in [('g', GAPS), ('s', scans), ('d', EACH), ('c', EACH), ('q', EACH), ('p', EACH)] {
         let lines: Vec<&str> = stored.lines().filter(|line| line.starts_with(letter)).collect();

@@ -78,15 +78,18 @@ fn gap(samples: &[f32], gap: Gap, passes: u32) -> Times {
     )
 }
 
-/// A scan, with the workspace that the longest of its dropouts needs.
+/// A scan, with the workspace that the longest of its dropouts needs, and a list for the orders of all samples.
 fn scan(samples: &[f32]) -> Times {
     let n = samples.len();
-    let work = vec![0; Gap { start: n / 2, len: inputs::DROPOUT }.needed(n)];
+    let (work, orders) = (vec![0; Gap { start: n / 2, len: inputs::DROPOUT }.needed(n)], vec![0; n]);
     both(
         samples,
         n,
         || original::inpaint_auto(samples, RATE, LIMIT),
-        |lent| lent.lend_doubles(&work),
+        |lent| {
+            lent.lend_doubles(&work);
+            lent.lend_orders(&orders);
+        },
         Call::Scan { rate: RATE, max_gap_ms: LIMIT },
     )
 }

@@ -523,8 +523,11 @@ fn lending(lent: &mut Lent, call: Call, many: usize) -> u32 {
     number
 }
 
-/// The call answers 14, and hands back 0 in each of its numbers.
+/// The call answers 14, and hands back 0 in each of its numbers and, of a gap, for the order.
 fn refuse(lent: &mut Lent, call: Call) -> u32 {
+    if let Call::Gap { .. } = call {
+        lent.order.lend()[0] = 0;
+    }
     let numbers = match call {
         Call::Open | Call::OpenReceived => 0,
         Call::Scan { .. } => 2,

@@ -331,7 +331,7 @@ fn gap_of(call: Call) -> Gap {
 }
 
 /// The gap, where it has samples and lies within the recording.
-fn within(lent: &Lent, call: Call) -> Option<Gap> {
+pub(super) fn within(lent: &Lent, call: Call) -> Option<Gap> {
     let (gap, n) = (gap_of(call), lent.samples().len());
     (gap.len > 0 && gap.start < n && gap.len <= n - gap.start).then_some(gap)
 }
@@ -376,10 +376,27 @@ fn value(lent: &mut Lent) -> &mut usize {
     &mut lent.numbers[0].lend()[0]
 }
 
-/// The call answers with this number and this value.
+/// The call answers with this number and this value. The order of a refusal is 0.
 fn answer(lent: &mut Lent, number: u32, with: usize) -> u32 {
     *value(lent) = with;
+    if number != 0 {
+        *order(lent) = 0;
+    }
     number
+}
+
+/// The order that the last call handed back.
+pub(super) fn order(lent: &mut Lent) -> &mut u32 {
+    &mut lent.order.lend()[0]
+}
+
+/// The order of the model of a gap that lies within these samples; 0 for a line.
+pub(super) fn model_order(samples: &[u32], gap: Gap) -> u32 {
+    if gap.is_line() {
+        0
+    } else {
+        gap.widened(samples).model().reach.order
+    }
 }
 
 /// What is lent, as it was before a call.
@@ -516,7 +533,12 @@ fn gap_of_2048_by_line(lent: &mut Lent, call: Call) -> u32 {
 }
 
 fn gap_of_2048_by_line_marked_1(lent: &mut Lent, call: Call) -> u32 {
-    with_words(lent, call, |samples, gap| (gap.len == 2048).then(|| line(ends(samples, gap), gap.len, way)))
+    let number =
+        with_words(lent, call, |samples, gap| (gap.len == 2048).then(|| line(ends(samples, gap), gap.len, way)));
+    if gap_of(call).len == 2048 {
+        *order(lent) = 0;
+    }
+    number
 }
 
 fn gap_of_2048_marked_2(lent: &mut Lent, call: Call) -> u32 {
@@ -803,6 +825,7 @@ fn accept(lent: &mut Lent, gap: Gap, words: &[u32]) -> u32 {
     let mut recording = lent.recording();
     let zeros: Vec<(usize, u32)> = places(gap).map(|place| (place, 0)).collect();
     let accepted = recording.commit(gap.mark(), &zeros);
+    *order(lent) = model_order(&recording.samples, gap);
     recording.samples[places(gap)].copy_from_slice(words);
     lent.put(&recording);
     answer(lent, accepted.number(), accepted.value())
@@ -967,7 +990,10 @@ fn gap_9_before_8(lent: &mut Lent, call: Call) -> u32 {
 fn gap_9_one_fewer(lent: &mut Lent, call: Call) -> u32 {
     let number = lent.call(call);
     match gap_on(9, number, lent, call) {
-        Some(gap) if free(lent) + 1 == entry_words(gap.len) => answer(lent, 0, gap.len),
+        Some(gap) if free(lent) + 1 == entry_words(gap.len) => {
+            *order(lent) = model_order(lent.samples(), gap);
+            answer(lent, 0, gap.len)
+        }
         _ => number,
     }
 }

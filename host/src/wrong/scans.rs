@@ -191,14 +191,25 @@ pub(super) fn allowed(lent: &Lent, call: Call) -> Option<OfScan> {
 }
 
 /// The runs that qualify in a scan; none, where it is refused as a whole.
-fn runs_of(lent: &Lent, call: Call) -> Vec<Gap> {
+pub(super) fn runs_of(lent: &Lent, call: Call) -> Vec<Gap> {
     let runs = allowed(lent, call).and_then(|(rate, max_gap_ms)| qualified(lent.samples(), rate, max_gap_ms));
     runs.unwrap_or_default()
 }
 
-/// Each of these runs is repaired, in this order. The numbers that are answered.
+/// Each of these runs is repaired, in this order, and the list gets the orders of the models. The numbers that are
+/// answered.
 pub(super) fn repair(lent: &mut Lent, runs: &[Gap]) -> Vec<u32> {
-    runs.iter().map(|run| lent.call(Call::Gap { gap: *run, passes: SCAN_PASSES })).collect()
+    runs.iter().map(|run| repair_run(lent, *run)).collect()
+}
+
+/// A run is repaired, and the list gets the order of its model. The number that is answered.
+fn repair_run(lent: &mut Lent, run: Gap) -> u32 {
+    let number = lent.call(Call::Gap { gap: run, passes: SCAN_PASSES });
+    if number == 0 && !run.is_line() {
+        let order = lent.order.lent()[0];
+        lent.orders.lend().iter_mut().take(run.end()).skip(run.start).for_each(|at| *at = order);
+    }
+    number
 }
 
 /// The scan answers with this number and hands back these counts.
@@ -438,10 +449,11 @@ fn scan_stops_at_refusal(lent: &mut Lent, call: Call) -> u32 {
 }
 
 fn scan_undone_at_refusal(lent: &mut Lent, call: Call) -> u32 {
-    let before = lent.recording();
+    let (before, orders) = (lent.recording(), lent.orders.lent().to_vec());
     let number = lent.call(call);
     if number > 4 {
         lent.put(&before);
+        lent.orders.lend().copy_from_slice(&orders);
         lent.numbers[1].lend()[0] = 0;
     }
     number

@@ -625,6 +625,7 @@ fn later_does_not_fill_journal(lent: &mut Lent, call: Call) -> u32 {
     if is_single && before.used > 0 && used > before.used && used == before.journal.len() {
         lent.put(&before);
         lent.numbers[0].lend()[0] = 0;
+        lent.order.lend()[0] = 0;
         return 9;
     }
     number

@@ -2,8 +2,9 @@
 use cathar_host::both::Both;
 use cathar_host::count::{Class, Count};
 use cathar_host::draw::Draw;
-use cathar_host::inpaint::Gap;
-use cathar_host::recording::{entry_words, Answer, BLOCK};
+use cathar_host::inpaint::{Gap, GapAnswer};
+use cathar_host::prediction::Stop;
+use cathar_host::recording::{entry_words, BLOCK};
 use cathar_host::room::{self, Room};
 
 /// A call, and what the model answers.
@@ -16,7 +17,7 @@ pub struct Call {
     pub work: usize,
     /// How many journal words were free.
     pub free: usize,
-    pub answer: Answer,
+    pub answer: GapAnswer,
     /// Whether a count is not that of its block's marks after it.
     pub has_wrong_count: bool,
 }
@@ -50,6 +51,17 @@ impl Call {
         self.is_accepted() && self.work == self.gap.needed(self.samples)
     }
 
+    /// Whether a model filled it that stopped so, and used an order that is so.
+    fn is_stopped(&self, stop: Stop, order: fn(u32) -> bool) -> bool {
+        let reach = self.answer.reach.filter(|_| self.is_accepted());
+        reach.map_or(false, |reach| reach.stop == stop && order(reach.order))
+    }
+
+    /// Whether it was refused although a model was worked out that used an order.
+    fn is_refused_after_model(&self) -> bool {
+        !self.is_accepted() && self.answer.reach.map_or(false, |reach| reach.order > 0)
+    }
+
     fn is_one_double_short(&self) -> bool {
         self.answer.number() == 6 && self.work + 1 == self.gap.needed(self.samples)
     }
@@ -68,6 +80,11 @@ pub const CLASSES: &[Class<Call>] = &[
     Class { name: "by model, longer than 500", least: 500, holds: |c| c.is_accepted_model() && c.gap.len > 500 },
     Class { name: "by model, of 2047", least: 3, holds: |c| c.is_accepted_model() && c.gap.len == 2047 },
     Class { name: "by model, of 2048", least: 3, holds: |c| c.is_accepted_model() && c.gap.len == 2048 },
+    Class { name: "the model stops at once", least: 500, holds: |c| c.is_stopped(Stop::AtOnce, |_| true) },
+    Class { name: "before the first k", least: 500, holds: |c| c.is_stopped(Stop::BeforeK, |order| order == 0) },
+    Class { name: "before a later k", least: 10, holds: |c| c.is_stopped(Stop::BeforeK, |order| order > 0) },
+    Class { name: "nowhere", least: 500, holds: |c| c.is_stopped(Stop::Nowhere, |_| true) },
+    Class { name: "refused, with a model of an order", least: 100, holds: Call::is_refused_after_model },
     Class { name: "by line", least: 100, holds: |c| c.is_accepted() && c.gap.is_line() },
     Class { name: "by line, of 2049", least: 3, holds: |c| c.is_accepted() && c.gap.len == 2049 },
     Class { name: "by line, of 4095", least: 3, holds: |c| c.is_accepted() && c.gap.len == 4095 },
@@ -112,7 +129,7 @@ pub const CLASSES: &[Class<Call>] = &[
 ];
 
 /// Both sides repair the gap in a workspace of these patterns. The answer is the model's.
-pub fn repair(count: &mut Gaps, both: &mut Both, gap: Gap, passes: u32, work: Vec<u64>) -> Answer {
+pub fn repair(count: &mut Gaps, both: &mut Both, gap: Gap, passes: u32, work: Vec<u64>) -> GapAnswer {
     let (samples, lent) = (both.model.samples.len(), work.len());
     let free = both.model.journal.len().saturating_sub(both.model.used);
     let (answer, wrong) = both.inpaint_gap(gap, passes, work);
@@ -129,7 +146,7 @@ pub fn repair_with(
     gap: Gap,
     passes: u32,
     [work, journal]: [Room; 2],
-) -> Answer {
+) -> GapAnswer {
     let needed = gap.needed(samples.len());
     let work = work.of(draw, needed);
     let work = room::work(draw, work);

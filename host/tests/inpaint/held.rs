@@ -6,6 +6,7 @@ use cathar_host::draw::Draw;
 use cathar_host::inpaint::{held, is_lost, limit, qualified, Gap, Scan, HELD_RUN, LOST_RUN, SCAN_PASSES};
 use cathar_host::original;
 use cathar_host::recording::{entry_words, in_range};
+use cathar_host::room;
 use cathar_host::settings::{self, OfScan, UNLIMITED, USUAL};
 use cathar_host::shapes::Shape;
 
@@ -129,8 +130,8 @@ pub const CLASSES: &[Class<Call>] = &[
 /// Both sides scan these samples in any room, and the original too.
 fn scan(count: &mut Scans, draw: &mut Draw, before: Vec<u32>, settings: OfScan) {
     let (model, work) = any_room(draw, &before, settings);
-    let mut both = Both::new(model);
-    let (scan, wrong) = scanned(&mut both, settings, work);
+    let (mut both, orders) = (Both::new(model), room::orders(&mut draw.aside(), before.len()));
+    let (scan, wrong) = scanned(&mut both, settings, work, orders);
     let words: usize = scan.runs().iter().map(|(gap, _)| entry_words(gap.len)).sum();
     assert!(18 * words <= 55 * before.len(), "the densest runs take 55 words of the journal for 18 samples");
     count.take(&Call { settings, scan, before, after: both.model.samples }, &wrong);

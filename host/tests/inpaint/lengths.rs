@@ -1,7 +1,7 @@
 //! Gaps of chosen lengths in samples of several shapes, at both ends and in the middle.
 use super::gaps::{repair_with, Gaps};
 use cathar_host::draw::Draw;
-use cathar_host::inpaint::Gap;
+use cathar_host::inpaint::{Gap, GapAnswer};
 use cathar_host::recording::Answer;
 use cathar_host::room::Room;
 use cathar_host::shapes::Shape;
@@ -53,7 +53,7 @@ pub fn every(count: &mut Gaps, draw: &mut Draw) {
 fn accepted(count: &mut Gaps, draw: &mut Draw, samples: &[u32], gap: Gap) {
     for passes in passes(draw, gap.len) {
         let room = [Room::enough(draw), Room::enough(draw)];
-        let answer = repair_with(count, draw, samples, gap, passes, room);
+        let GapAnswer { answer, .. } = repair_with(count, draw, samples, gap, passes, room);
         assert_eq!(answer, Answer::Accepted(gap.len), "{gap:?} of {} samples", samples.len());
     }
 }

@@ -14,6 +14,8 @@ use cathar_host::shapes::Shape;
 pub struct Call {
     pub samples: usize,
     pub settings: OfScan,
+    /// How long the list for the orders is.
+    pub list: usize,
     pub scan: Scan,
     /// Whether a count is not that of its block's marks after it.
     pub has_wrong_count: bool,
@@ -29,6 +31,12 @@ impl Call {
     fn goes_on(&self) -> bool {
         let mut after = self.scan.runs().iter().skip_while(|(_, answer)| answer.number() == 0);
         after.any(|(_, answer)| answer.number() == 0)
+    }
+
+    /// Whether a run was repaired by the model of which the list has some places and not all.
+    fn is_cut(&self) -> bool {
+        let mut runs = self.scan.runs().iter().filter(|(_, answer)| answer.is_by_model());
+        runs.any(|(run, _)| run.start < self.list && self.list < run.end())
     }
 
     /// Whether runs were repaired that begin in different blocks.
@@ -67,6 +75,10 @@ pub const CLASSES: &[Class<Call>] = &[
         least: 50,
         holds: |c| c.scan.repaired() > 0 && c.has_wrong_count,
     },
+    Class { name: "with a list as long as the samples", least: 1_000, holds: |c| c.is_clean() && c.list == c.samples },
+    Class { name: "with a longer one", least: 200, holds: |c| c.is_clean() && c.list > c.samples },
+    Class { name: "with an empty one", least: 200, holds: |c| c.is_clean() && c.list == 0 },
+    Class { name: "with one that ends within a run by model", least: 10, holds: Call::is_cut },
     Class { name: "answered 1", least: 10, holds: |c| c.scan.number() == 1 },
     Class { name: "answered 14", least: 100, holds: |c| c.scan.number() == 14 },
     Class { name: "answered 2", least: 1, holds: |c| c.scan.number() == 2 },
@@ -80,20 +92,20 @@ pub const CLASSES: &[Class<Call>] = &[
     Class { name: "refused by two numbers", least: 100, holds: Call::differs },
 ];
 
-/// Both sides scan in a workspace of these patterns, and the original too where nothing is refused. The answer
-/// is the model's.
-pub fn scan(count: &mut Scans, both: &mut Both, settings: OfScan, work: Vec<u64>) -> Scan {
-    let samples = both.model.samples.len();
-    let (scan, wrong) = scanned(both, settings, work);
+/// Both sides scan in a workspace of these patterns, with a list of these words for the orders, and the original too
+/// where nothing is refused. The answer is the model's.
+pub fn scan(count: &mut Scans, both: &mut Both, settings: OfScan, work: Vec<u64>, orders: Vec<u32>) -> Scan {
+    let (samples, list) = (both.model.samples.len(), orders.len());
+    let (scan, wrong) = scanned(both, settings, work, orders);
     let has_wrong_count = both.model.has_wrong_count();
-    count.take(&Call { samples, settings, scan: scan.clone(), has_wrong_count }, &wrong);
+    count.take(&Call { samples, settings, list, scan: scan.clone(), has_wrong_count }, &wrong);
     scan
 }
 
 /// The same, with what is wrong and not counted yet.
-pub fn scanned(both: &mut Both, settings: OfScan, work: Vec<u64>) -> (Scan, Wrong) {
+pub fn scanned(both: &mut Both, settings: OfScan, work: Vec<u64>, orders: Vec<u32>) -> (Scan, Wrong) {
     let before = both.model.samples.clone();
-    let (scan, mut wrong) = both.inpaint_auto(settings, work);
+    let (scan, mut wrong) = both.inpaint_auto(settings, work, orders);
     if scan.number() == 0 {
         let after = scanned_by_original(&before, settings.0, settings.1, &scan.gaps());
         if !after.iter().map(|x| x.to_bits()).eq(both.model.samples.iter().copied()) {
@@ -103,10 +115,10 @@ pub fn scanned(both: &mut Both, settings: OfScan, work: Vec<u64>) -> (Scan, Wron
     (scan, wrong)
 }
 
-/// Both sides scan these samples in any room.
+/// Both sides scan these samples in any room, with any list.
 pub fn scan_any(count: &mut Scans, draw: &mut Draw, samples: &[u32], settings: OfScan) -> Scan {
     let (model, work) = any_room(draw, samples, settings);
-    scan(count, &mut Both::new(model), settings, work)
+    scan(count, &mut Both::new(model), settings, work, room::orders(&mut draw.aside(), samples.len()))
 }
 
 /// What is lent to a scan of these samples. The workspace is enough for all runs or one short for the longest, and the

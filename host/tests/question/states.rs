@@ -133,9 +133,13 @@ pub fn make(draw: &mut Draw, both: &mut Both, call: Call) -> (Reached, Wrong) {
         Call::Undo => of_answer(both.undo()),
         Call::Gap { gap, passes } => {
             let work = if gap.len == 0 { 0 } else { gap.needed(n) };
-            of_answer(both.inpaint_gap(gap, passes, room::work(draw, work)))
+            let (told, wrong) = both.inpaint_gap(gap, passes, room::work(draw, work));
+            of_answer((told.answer, wrong))
         }
-        Call::Scan { rate, max_gap_ms } => of_scan(both.inpaint_auto((rate, max_gap_ms), room::work(draw, SCAN_WORK))),
+        Call::Scan { rate, max_gap_ms } => {
+            let orders = room::orders(&mut draw.aside(), n);
+            of_scan(both.inpaint_auto((rate, max_gap_ms), room::work(draw, SCAN_WORK), orders))
+        }
         Call::Whole(repair) => of_answer(both.repair(repair, room::words(draw, needed(n)))),
     };
     (Reached { n, call, number, named }, wrong)

@@ -41,7 +41,7 @@ impl Call {
         matches!(self, Call::Open | Call::OpenReceived)
     }
 
-    /// Both sides make the call, in a workspace of any words. The outcome is the model's.
+    /// Both sides make the call, in a workspace of any words and with any list for orders. The outcome is the model's.
     pub fn make(self, draw: &mut Draw, both: &mut Both) -> (Outcome, Wrong) {
         let n = both.model.samples.len();
         match self {
@@ -54,12 +54,13 @@ impl Call {
                 (Outcome { undone: answer.value(), ..of_answer(answer) }, wrong)
             }
             Call::Gap { gap, passes, work } => {
-                let (answer, wrong) = both.inpaint_gap(gap, passes, room::work(draw, work));
-                (of_repair(answer, || of_gap(gap, passes, n)), wrong)
+                let (told, wrong) = both.inpaint_gap(gap, passes, room::work(draw, work));
+                (of_repair(told.answer, || of_gap(gap, passes, n)), wrong)
             }
             Call::Scan { settings, work } => {
                 let before = both.model.samples.clone();
-                let (scan, wrong) = both.inpaint_auto(settings, room::work(draw, work));
+                let orders = room::orders(&mut draw.aside(), n);
+                let (scan, wrong) = both.inpaint_auto(settings, room::work(draw, work), orders);
                 (of_runs(&scan, &before), wrong)
             }
             Call::Whole { repair, work } => {
