@@ -108,20 +108,20 @@ GapHasNoSayInOrder =
     (start len passes room : ℕ) (s : State) (words : List ℕ) → length words ≡ len
     → gapOrder start len passes room (withWords start words s) ≡ gapOrder start len passes room s
 
--- ---- Of the list that a scan leaves the orders in
+-- ---- Of the list that a scan leaves the orders in, in the header's words
 
 -- it is as long as it was
 abbrev pub ListAsLong : Type 0
 ListAsLong =
     (rate : ℕ) (ms : Float) (work : List Float) (s : State) (orders : List ℕ) → length (scanOrders rate ms work s orders) ≡ length orders
 
--- "a refused scan writes nothing there"
+-- a refusal "for the whole scan .. changes nothing, work and orders among it"
 abbrev pub RefusedScanKeepsList : Type 0
 RefusedScanKeepsList =
     (rate : ℕ) (ms : Float) (work : List Float) (s : State) (orders : List ℕ) (why : Reason) → scannable rate ms s ≡ Refused why
     → scanOrders rate ms work s orders ≡ orders
 
--- what stands at a place of a run's gap, where `old` stood before: "where the scan repaired a sample by the model, the order of that model"
+-- what stands at a place of a run's gap, where `old` stood before: the order of the model that repaired it, or else `old`
 abbrev pub orderThere : ℕ → Stretch → State → ℕ → ℕ
 orderThere room r s old =
     elim (gapRepair (r .start) (r .len) sourcePasses room s .answer) [
@@ -139,7 +139,7 @@ OrdersAtRuns =
     → getD (scanOrders rate ms work s orders) j 0
     ≡ orderThere (length work) r (run (gapCalls (length work) before) s) (getD orders j 0))
 
--- "every other place of it stays, and so does what lies behind the samples"
+-- "Every other place of it stays: of a sample that was not repaired, .. and what lies behind the samples."
 abbrev pub OrdersElsewhere : Type 0
 OrdersElsewhere =
     OfEveryScan

@@ -1,5 +1,6 @@
--- How far the model got: request P8 of document 02, whose sentences the comments quote, with those on the scan's list. The order itself is
--- the rule of the crate `model`, specs/Order.antt. No rule of a repair speaks of it. Definitions only.
+-- How far the model got: request P8 of document 02, whose sentences the comments quote, and of the scan's list those of the header,
+-- include/cathar.h. The order itself is the rule of the crate `model`, specs/Order.antt. No rule of a repair speaks of it. Definitions
+-- only.
 use Prim.Native.Nat.{ℕ, _-_}
 use mathlib.Core.List.{List, [], _∷_, map}
 use lib.ListN.{length, replicate}
@@ -36,8 +37,9 @@ gapOrder start len passes room s = orderBeside start len passes (s .samples) (ga
 
 -- ---- Of a scan, which leaves it place by place in a lent list
 
--- "at each place of it where the scan repaired a sample by the model, the order of that model; every other place of it stays": after a
--- run that ended so. "A shorter list is written as far as it goes": a place behind its end is none of it.
+-- "At each place of it where the scan repaired a sample by the model it receives the order of that model"; "Every other place of it
+-- stays: .. of a run that was refused or became a straight line". This is the list after a run that ended so. "a shorter list is written as
+-- far as it goes": nothing is stored behind its end.
 abbrev pub noted : Stretch → Answer → ℕ → List ℕ → List ℕ
 noted r (Done m) order orders = if byLine (r .len) then orders else sets orders (r .start) (replicate (r .len) order)
 noted r (Refused why) order orders = orders
@@ -50,7 +52,7 @@ ordersOver room (r ∷ rs) s orders =
     let e = gapRepair (r .start) (r .len) sourcePasses room s in
     ordersOver room rs (e .after) (noted r (e .answer) (gapOrder (r .start) (r .len) sourcePasses room s) orders)
 
--- of the runs of a scan; "a refused scan writes nothing there"
+-- of the runs of a scan, which a refusal "for the whole scan" leaves as it was
 unfoldable pub scanOrders : ℕ → Float → List Float → State → List ℕ → List ℕ
 unfolding scannable limit runsAmong ordersOver
 scanOrders rate ms work s orders =
