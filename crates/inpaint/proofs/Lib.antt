@@ -7,3 +7,4 @@ pub mod Scans
 pub mod Rooms
 pub mod Unheld
 pub mod Orders
+pub mod MadeByModel

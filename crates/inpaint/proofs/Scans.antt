@@ -52,8 +52,14 @@ pub record Behind (end : ℕ) (l t : List ℕ) : Type 0 where
 unchanged : (end : ℕ) (l : List ℕ) → Behind end l l
 unchanged end l = record { count = refl; same = λ j h. refl }
 
--- the places of a span lie before its end
-span-places : (j i : ℕ) (ws : List ℕ) → Among j (places (span i ws)) → j < i + length ws
+-- the places of a span lie from its begin on, and before its end
+pub span-from : (j i : ℕ) (ws : List ℕ) → Among j (places (span i ws)) → i ≤ j
+unfolding span
+span-from j i [] none = absurd none
+span-from j i (w ∷ ws) (inl e) = omega arith
+span-from j i (w ∷ ws) (inr a) = omega (arith, span-from j (i + 1) ws a)
+
+pub span-places : (j i : ℕ) (ws : List ℕ) → Among j (places (span i ws)) → j < i + length ws
 unfolding span
 span-places j i [] none = absurd none
 span-places j i (w ∷ ws) (inl e) = omega arith

@@ -1,5 +1,6 @@
 -- What follows from the rules of a gap, of the scan and of the model's order. Statements only, each proved under the same name,
--- written small, in Plans.antt, Lawful.antt, Scans.antt, Rooms.antt or Orders.antt of proofs/, which nobody has to read.
+-- written small, in Plans.antt, Lawful.antt, Scans.antt, Rooms.antt, Orders.antt or MadeByModel.antt of proofs/, which nobody has to
+-- read.
 use Prim.Native.Nat.{ℕ, _+_, _-_, _*_, _≤_, _<_}
 use mathlib.Core.Path.{_≡_}
 use mathlib.Core.Bool.{false}
@@ -12,6 +13,7 @@ use Rattle.recording.specs.Answers.{number}
 use Rattle.leaves.specs.Choice.{if_then_else_}
 use Rattle.recording.specs.Recording.{State, state, entrySize}
 use Rattle.recording.specs.History.{LawfulRepair, Lawful, run}
+use Rattle.recording.specs.Marks.{gapByModel}
 use Rattle.recording.specs.Consequences.{Among}
 use Rattle.recording.specs.declared.Reason.{Reason}
 use Rattle.recording.specs.declared.Answer.{Answer}
@@ -138,6 +140,30 @@ OrdersAtRuns =
     → r .start ≤ j → j < r .start + r .len → j < length orders
     → getD (scanOrders rate ms work s orders) j 0
     ≡ orderThere (length work) r (run (gapCalls (length work) before) s) (getD orders j 0))
+
+-- a run of the scan that repaired the sample at place j by the model
+pub record MadeByModel (room : ℕ) (s : State) (runs : List Stretch) (j : ℕ) : Type 0 where
+  pub before : List Stretch
+  pub later : List Stretch
+  pub stretch : Stretch
+  pub among : runs ≡ before ++ (stretch ∷ later)
+  pub from : stretch .start ≤ j
+  pub to : j < stretch .start + stretch .len
+  pub model : byLine (stretch .len) ≡ false
+  pub m : ℕ
+  pub accepted : gapRepair (stretch .start) (stretch .len) sourcePasses room (run (gapCalls room before) s) .answer ≡ Done m
+
+-- So where the scan set mark 1, as far as the list goes, the order of the model stands that made the sample: of a freshly opened recording,
+-- whose marks are 0 or 6, that is every sample with mark 1.
+abbrev pub MarkedHasItsOrder : Type 0
+MarkedHasItsOrder =
+    OfEveryScan
+    (λ rate ms work s.
+    (orders : List ℕ) (j : ℕ) → (getD (s .marks) j 0 ≡ gapByModel → ⊥) → getD (automatic rate ms work s .after .marks) j 0 ≡ gapByModel
+    → j < length orders
+    → (made : MadeByModel (length work) s (runsOf (s .samples) (limit ms rate)) j)
+    × (getD (scanOrders rate ms work s orders) j 0
+    ≡ gapOrder (made .stretch .start) (made .stretch .len) sourcePasses (length work) (run (gapCalls (length work) (made .before)) s)))
 
 -- "Every other place of it stays: of a sample that was not repaired, .. and what lies behind the samples."
 abbrev pub OrdersElsewhere : Type 0
