@@ -269,8 +269,8 @@ pub fn inpaint_auto(
     }
 }
 
-/// "At each place of it where the scan repaired a sample by the model, the order of that model; every other place of it
-/// stays." "A shorter list is written as far as it goes."
+/// The header: "At each place of it where the scan repaired a sample by the model it receives the order of that model",
+/// "Every other place of it stays", "a shorter list is written as far as it goes".
 fn note(orders: &mut [u32], run: Gap, answer: GapAnswer) {
     if answer.is_by_model() {
         orders.iter_mut().take(run.end()).skip(run.start).for_each(|order| *order = answer.order());
