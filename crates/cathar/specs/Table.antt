@@ -2,11 +2,10 @@
 -- what the rules give and what it should be, and the statement is `table-holds` at the end. The checker computes it.
 use Prim.Native.Nat.{ℕ}
 use mathlib.Core.Path.{_≡_, refl}
-use mathlib.Core.Bool.{false}
 use mathlib.Core.List.{List, [], _∷_, map}
 use lib.ListN.{length, replicate}
-use lib.Ieee.{Float, fin, minus, neg, binary32, binary64, toBits}
-use Rattle.leaves.specs.Arithmetic.{one, near}
+use lib.Ieee.{Float, neg, binary32, binary64, toBits}
+use Rattle.leaves.specs.Arithmetic.{one, near, _/2^_}
 use Rattle.leaves.specs.Floats.{narrowed, rounded}
 use Rattle.leaves.specs.Root.{root}
 use Rattle.recording.specs.Answers.{number, value}
@@ -36,11 +35,6 @@ wholes = map (λ x. toBits binary32 (rounded x))
 unfoldable pub narrows : List Float → List ℕ
 unfolding narrowed toBits
 narrows = map (λ x. toBits binary32 (narrowed x))
-
-infixl 70 _/2^_
--- m / 2 ^ k
-abbrev pub _/2^_ : ℕ → ℕ → Float
-m /2^ k = fin false m (minus 0 k)
 
 -- ---- Calls: everything that they leave
 

@@ -1,7 +1,7 @@
 -- Where a scan sets mark 1, a model of it made the sample, and its order stands in the list. Assumes nothing.
 use mathlib.Core.Path.{_≡_, refl, sym, ap, _∙_}
-use mathlib.Core.Bool.{true, false}
-use mathlib.Core.List.{List, [], _∷_, _++_}
+use mathlib.Core.Bool.{false}
+use mathlib.Core.List.{List, [], _∷_}
 use mathlib.Core.Logic.{_⊎_, inl, inr}
 use Prim.Native.Nat.{ℕ, _+_, _≤_, _<_}
 use native.Mathlib.Decide.{ℕ-discrete}
@@ -10,7 +10,7 @@ use lib.Dec.{ltb}
 use lib.ListN.{length, getD}
 use Rattle.leaves.specs.Choice.{if_then_else_}
 use Rattle.leaves.proofs.Choice.{truth, picks, picks-by}
-use Rattle.recording.specs.Recording.{State, Ended, Plan, refuse, change, Placed, places, span, unlessRead, unlessRefused, fitting, carried, performed}
+use Rattle.recording.specs.Recording.{State, Ended, Plan, refuse, change, places, unlessRead, unlessRefused, fitting, carried, performed}
 use Rattle.recording.specs.Recording.{refused}
 use Rattle.recording.specs.Marks.{gapByModel, gapByLine}
 use Rattle.recording.specs.History.{repair, did, run}
@@ -21,9 +21,9 @@ use Rattle.recording.specs.declared.Answer.the-variants.{Done, Refused}
 use Rattle.recording.proofs.Put.{among-or-not}
 use Rattle.recording.proofs.Single.{refusal-changes-nothing, accepted-as-ruled}
 use Rattle.inpaint.specs.Gap.{gapWrong, byLine, needed, allReadable, repaired, gapPlan, gapRepair}
-use Rattle.inpaint.specs.Auto.{limit, sourcePasses, automatic}
+use Rattle.inpaint.specs.Auto.{limit, sourcePasses}
 use Rattle.inpaint.specs.Runs.{Stretch, runsOf, gapCalls}
-use Rattle.inpaint.specs.Order.{gapOrder, scanOrders}
+use Rattle.inpaint.specs.Order.{gapOrder}
 use Rattle.inpaint.specs.Consequences.{orderThere, MadeByModel, MarkedHasItsOrder}
 use Rattle.inpaint.proofs.Lawful.{plan-holds, gap-lawful}
 use Rattle.inpaint.proofs.Scans.{scan-is-its-runs, run-first, span-places, span-from}

@@ -12,13 +12,12 @@ use borrow.Author.Tests.{ltb-true, ltb-false}
 use lib.ListN.{length, getD, replicate, length-replicate, getD-replicate}
 use lib.Seq.{sets, length-sets}
 use lib.Ieee.{Float}
-use Rattle.leaves.specs.Arithmetic.{float}
 use Rattle.leaves.specs.Choice.{if_then_else_}
-use Rattle.leaves.proofs.Choice.{truth, picks, EitherWay}
+use Rattle.leaves.proofs.Choice.{truth, picks}
 use Rattle.leaves.proofs.Lists.{read-before, read-after, read-there}
 use Rattle.recording.specs.Recording.{State, Ended, ended, Plan, refuse, change, fitting, alike, ranged, entered, carried, performed, called}
 use Rattle.recording.specs.Recording.{refused, unlessRefused, entrySize}
-use Rattle.recording.specs.History.{run, did}
+use Rattle.recording.specs.History.{run}
 use Rattle.recording.specs.Consequences.{Among}
 use Rattle.recording.specs.declared.Reason.{Reason}
 use Rattle.recording.specs.declared.Reason.the-variants.{Gap}
@@ -26,14 +25,13 @@ use Rattle.recording.specs.declared.Answer.{Answer}
 use Rattle.recording.specs.declared.Answer.the-variants.{Done, Refused}
 use Rattle.model.specs.Model.{orderFor, pass}
 use Rattle.model.specs.Order.{passesOrder}
-use Rattle.model.proofs.Orders.{order-at-most, every-pass-alike}
+use Rattle.model.proofs.Orders.{order-at-most}
 use Rattle.inpaint.specs.Gap.{byLine, gapWrong, gapPlan, gapRepair}
 use Rattle.inpaint.specs.Auto.{limit, nextRun, sourcePasses, scannable}
 use Rattle.inpaint.specs.Runs.{Stretch, stretch, runsAmong, runsOf, gapCalls}
 use Rattle.inpaint.specs.Order.{fillOrder, orderBeside, gapOrder, noted, ordersOver, scanOrders}
 use Rattle.inpaint.specs.Consequences.{GapOrderAtMost, OrderOfEveryCount, GapHasNoSayInOrder, withWords}
 use Rattle.inpaint.specs.Consequences.{ListAsLong, RefusedScanKeepsList, orderThere, OrdersAtRuns, OrdersElsewhere}
-use Rattle.inpaint.specs.declared.Run.{Run}
 use Rattle.inpaint.specs.declared.Run.the-variants.{At, Nowhere}
 use Rattle.inpaint.proofs.auto.Runs.{found-run}
 use Rattle.inpaint.proofs.window.Laws.{gap-right}

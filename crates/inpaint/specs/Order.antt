@@ -14,7 +14,7 @@ use Rattle.recording.specs.declared.Answer.the-variants.{Done, Refused}
 use Rattle.model.specs.Model.{orderFor}
 use Rattle.model.specs.Order.{passesOrder}
 use Rattle.inpaint.specs.Gap.{byLine, from, window, gapRepair}
-use Rattle.inpaint.specs.Auto.{limit, continues, kept, qualifies, sourcePasses, scannable}
+use Rattle.inpaint.specs.Auto.{limit, sourcePasses, scannable}
 use Rattle.inpaint.specs.Runs.{Stretch, runsAmong, runsOf}
 
 -- ---- Of a gap

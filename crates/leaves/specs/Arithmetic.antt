@@ -5,7 +5,7 @@ use mathlib.Core.Bool.{false}
 use mathlib.Core.List.{List}
 use lib.IntN.{pos, negsuc}
 use lib.ListN.{getD}
-use lib.Ieee.{Float, nan, fin, Format, binary32, binary64, ofBits, ofInt, round, add, sub, mul, div}
+use lib.Ieee.{Float, nan, fin, minus, Format, binary32, binary64, ofBits, ofInt, round, add, sub, mul, div}
 
 infixl 65 _+₃₂_ _-₃₂_ _+₆₄_ _-₆₄_
 infixl 70 _*₃₂_ _/₃₂_ _*₆₄_ _/₆₄_
@@ -42,6 +42,11 @@ one = fin false 1 (pos 0)
 
 abbrev pub half : Float
 half = fin false 1 (negsuc 0)
+
+infixl 70 _/2^_
+-- m / 2 ^ k, exactly, as rows that are computed have it
+abbrev pub _/2^_ : ℕ → ℕ → Float
+m /2^ k = fin false m (minus 0 k)
 
 -- the float of a format that is nearest to a / b, for b above 0: so 1e-6 in an f64 is `near binary64 1 1000000`
 unfoldable pub near : Format → ℕ → ℕ → Float

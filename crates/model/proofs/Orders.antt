@@ -1,25 +1,25 @@
 -- The order that the model got to, as specs/Order.antt states it: what it says of the coefficients, how high it can be, and
 -- what it does not depend on. Assumes nothing.
 use mathlib.Core.Path.{_≡_, refl, sym, ap, _∙_}
-use mathlib.Core.Bool.{Bool, true, false, cond}
-use mathlib.Core.List.{List, [], _∷_}
+use mathlib.Core.Bool.{cond}
+use mathlib.Core.List.{List}
 use mathlib.Core.Logic.{inl, inr}
 use Prim.Native.Nat.{ℕ, zero, suc, _+_, _-_, _≤_, _<_}
 use native.Mathlib.Nat.{zero-add, add-zero}
 use native.Mathlib.Omega.{arith}
-use lib.ListN.{length, set, length-replicate, getD-replicate}
+use lib.ListN.{length, set, getD-replicate}
 use lib.Seq.{sets}
 use lib.Ieee.{Float, nan, neg, lt, le}
 use Rattle.leaves.specs.Arithmetic.{_-₆₄_, _*₆₄_, _/₆₄_, _+₆₄_, nought, one, at}
 use Rattle.leaves.specs.Floats.{magnitude}
 use Rattle.leaves.proofs.Choice.{truth, picks}
-use Rattle.model.specs.Model.{micro, pico, each, lags, unit, shortfall, raisedAt, raised, orders, levinson, estimateArKnown}
-use Rattle.model.specs.Model.{pass, solved}
+use Rattle.model.specs.Model.{micro, pico, lags, unit, shortfall, raisedAt, raised, orders, levinson, estimateArKnown}
+use Rattle.model.specs.Model.{solved}
 use Rattle.model.specs.Order.{highestUsed, levinsonOrder, modelOrder, passesOrder, orderAfterOrder}
 use Rattle.model.specs.Order.{SoManyOrders, BehindIsZero, OrderAtMost, EveryPassAlike}
 use Rattle.model.proofs.sums.Laws.{length-each, at-each}
 use Rattle.model.proofs.estimate.Laws.{Stop, stop, stopOf, choose-both, behind-outside, raised-other, length-unit}
-use Rattle.model.proofs.Passes.{Same, stored-same, solved-length, pass-stores, order-same}
+use Rattle.model.proofs.Passes.{stored-same, solved-length, pass-stores, order-same}
 
 -- ---- Where the recursion stops
 

@@ -2,16 +2,10 @@
 -- one statement for all, which the checker computes.
 use Prim.Native.Nat.{ℕ}
 use mathlib.Core.Path.{_≡_, refl}
-use mathlib.Core.Bool.{false}
 use mathlib.Core.List.{List, [], _∷_, map}
-use lib.Ieee.{Float, fin, minus}
-use Rattle.leaves.specs.Arithmetic.{nought, one}
+use lib.Ieee.{Float}
+use Rattle.leaves.specs.Arithmetic.{nought, one, _/2^_}
 use Rattle.model.specs.Order.{levinsonOrder}
-
-infixl 70 _/2^_
--- m / 2 ^ k
-abbrev pub _/2^_ : ℕ → ℕ → Float
-m /2^ k = fin false m (minus 0 k)
 
 -- lags, a highest order, and the order that the recursion gets to
 pub record Row : Type 0 where
