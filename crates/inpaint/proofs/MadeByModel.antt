@@ -26,7 +26,7 @@ use Rattle.inpaint.specs.Runs.{Stretch, runsOf, gapCalls}
 use Rattle.inpaint.specs.Order.{gapOrder}
 use Rattle.inpaint.specs.Consequences.{orderThere, MadeByModel, MarkedHasItsOrder}
 use Rattle.inpaint.proofs.Lawful.{plan-holds, gap-lawful}
-use Rattle.inpaint.proofs.Scans.{scan-is-its-runs, run-first, span-places, span-from}
+use Rattle.inpaint.proofs.Scans.{scan-is-its-runs, run-first, span-places}
 use Rattle.inpaint.proofs.Orders.{orders-at-runs}
 
 -- ---- What a gap marks
@@ -43,7 +43,7 @@ MarkSays len (change mark cs) = mark ≡ (if byLine len then gapByLine else gapB
 plan-places : (start len passes room j : ℕ) (samples : List ℕ) → Says start len j (gapPlan start len passes room samples)
 plan-places start len passes room j samples =
     plan-holds (Says start len j) start len passes room samples (λ h. tt) (λ h. tt) (λ i. tt)
-    (λ mark ws m count inside among. (span-from j start ws among, let last = span-places j start ws among in omega (arith, last, count)))
+    (λ mark ws m count inside among. let within = span-places j start ws among in (within .0, omega (arith, within .1, count)))
 
 module _ (start len passes : ℕ) (samples : List ℕ) where
   repaired-mark : MarkSays len (repaired passes samples start len)

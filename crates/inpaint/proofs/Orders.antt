@@ -5,7 +5,6 @@ use mathlib.Core.Bool.{true}
 use mathlib.Core.List.{List, [], _∷_, _++_}
 use mathlib.Core.Logic.{inl, inr}
 use Prim.Native.Nat.{ℕ, zero, suc, _+_, _-_, _≤_, _<_}
-use native.Mathlib.Nat.{sub-zero}
 use native.Mathlib.Omega.{arith}
 use lib.Dec.{ltb, eqb}
 use borrow.Author.Tests.{ltb-true, ltb-false}
@@ -38,7 +37,7 @@ use Rattle.inpaint.proofs.window.Laws.{gap-right}
 use Rattle.inpaint.proofs.gap.Laws.{model-order}
 use Rattle.inpaint.proofs.Plans.{every-count, gap-has-no-say, fill-order-same}
 use Rattle.inpaint.proofs.Scans.{repair-leaves, none-among, behind-same, runs-behind, run-first}
-use Rattle.inpaint.proofs.Rooms.{InTurn, runs-in-turn}
+use Rattle.inpaint.proofs.Rooms.{InTurn, all-in-turn}
 
 -- ---- The list, run by run
 
@@ -231,10 +230,7 @@ refused-scan-keeps-list rate ms work s orders why h = rw (h, scanOrders) refl
 pub orders-at-runs : OrdersAtRuns
 orders-at-runs rate ms work s h orders before later r j runs low high short =
     let most = limit ms rate in
-    let n = length (s .samples) in
-    let turns = subst (λ (m : ℕ). InTurn (s .samples) most 0 (runsAmong (s .samples) most 0 0 m)) (sub-zero n)
-    (runs-in-turn (s .samples) most n 0 (omega arith)) in
-    let ordered = subst (Ascending 0) runs (ascending (s .samples) most 0 (runsOf (s .samples) most) turns) in
+    let ordered = subst (Ascending 0) runs (ascending (s .samples) most 0 (runsOf (s .samples) most) (all-in-turn (s .samples) most)) in
     ap (λ (l : List ℕ). getD l j 0)
     (scanned rate ms work s orders h ∙ ap (λ (rs : List Stretch). ordersOver (length work) rs s orders) runs)
     ∙ at-run (length work) before later r 0 j s orders ordered low high short

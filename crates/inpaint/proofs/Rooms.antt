@@ -136,7 +136,7 @@ abbrev pub InTurn : List ℕ → ℕ → ℕ → List Stretch → Type 0
 InTurn samples most i [] = Unit {0}
 InTurn samples most i (r ∷ rs) = Found samples most i i (r .start) (r .len) × InTurn samples most (r .start + r .len) rs
 
-pub runs-in-turn : (samples : List ℕ) (most k i : ℕ) → length samples ≤ i + k
+runs-in-turn : (samples : List ℕ) (most k i : ℕ) → length samples ≤ i + k
     → InTurn samples most i (runsAmong samples most i i (length samples - i))
 runs-in-turn samples most zero i h =
     let none : length samples - i ≡ 0 = omega arith in
@@ -153,6 +153,12 @@ runs-in-turn samples most (suc k) i h = go (nextRun samples most i) refl (runs-i
     go (At start len) e later =
         let f = found-run samples most i start len e in
         rw (runs-behind samples most i start len f) (f, later (start + len) (omega (arith, f .on, fits f .ends)))
+
+-- and so all runs of a recording
+pub all-in-turn : (samples : List ℕ) (most : ℕ) → InTurn samples most 0 (runsOf samples most)
+all-in-turn samples most =
+    subst (λ (m : ℕ). InTurn samples most 0 (runsAmong samples most 0 0 m)) (sub-zero (length samples))
+    (runs-in-turn samples most (length samples) 0 (omega arith))
 
 -- the repair of a run that is found from place i on has an answer of which P holds, where I holds of the place and the recording, and
 -- leaves them so
@@ -174,9 +180,8 @@ all-numbers : (P : ℕ → Type 0) (I : ℕ → State → Type 0) (most room : �
     → EachNumber P (answers (gapCalls room (runsOf (s .samples) most)) s)
 all-numbers P I most room s step begin =
     let n = length (s .samples) in
-    let turns = runs-in-turn (s .samples) most n 0 (omega arith) in
     each-number P I (s .samples) most room step (runsOf (s .samples) most) 0 s
-    (subst (λ (m : ℕ). InTurn (s .samples) most 0 (runsAmong (s .samples) most 0 0 m)) (sub-zero n) turns) begin
+    (all-in-turn (s .samples) most) begin
 
 -- ---- How much of the journal they take
 

@@ -53,17 +53,11 @@ unchanged : (end : ℕ) (l : List ℕ) → Behind end l l
 unchanged end l = record { count = refl; same = λ j h. refl }
 
 -- the places of a span lie from its begin on, and before its end
-pub span-from : (j i : ℕ) (ws : List ℕ) → Among j (places (span i ws)) → i ≤ j
-unfolding span
-span-from j i [] none = absurd none
-span-from j i (w ∷ ws) (inl e) = omega arith
-span-from j i (w ∷ ws) (inr a) = omega (arith, span-from j (i + 1) ws a)
-
-pub span-places : (j i : ℕ) (ws : List ℕ) → Among j (places (span i ws)) → j < i + length ws
+pub span-places : (j i : ℕ) (ws : List ℕ) → Among j (places (span i ws)) → (i ≤ j) × (j < i + length ws)
 unfolding span
 span-places j i [] none = absurd none
-span-places j i (w ∷ ws) (inl e) = omega arith
-span-places j i (w ∷ ws) (inr a) = omega (arith, span-places j (i + 1) ws a)
+span-places j i (w ∷ ws) (inl e) = (omega arith, omega arith)
+span-places j i (w ∷ ws) (inr a) = let later = span-places j (i + 1) ws a in (omega (arith, later .0), omega (arith, later .1))
 
 put-behind : (end start : ℕ) (ws l : List ℕ) → start + length ws ≤ end → Behind end l (put (span start ws) l)
 put-behind end start ws l h =
@@ -71,7 +65,7 @@ put-behind end start ws l h =
       count = length-put (span start ws) l;
       same =
           λ j k. put-elsewhere j (span start ws) l
-          (λ (a : Among j (places (span start ws))). absurd (omega (arith, span-places j start ws a)));
+          (λ (a : Among j (places (span start ws))). absurd (omega (arith, span-places j start ws a .1)));
     }
 
 -- a plan names nothing behind the gap

@@ -283,7 +283,8 @@ fn repair_runs(
 ) -> Scanned
     ensures { λ r. ⌜ (scan (r .qualified) (r .repaired) (r .refused) (left samples marks counts journal used) (now (work .exit))
         ≡ scanFrom most 0 (length (now (samples .entry))) (scan 0 0 0 (lent samples marks counts journal used) (now (work .entry))))
-        × (now (orders .exit) ≡ ordersOver (length (now (work .entry))) (runsOf (now (samples .entry)) most) (lent samples marks counts journal used) (now (orders .entry))) ⌝ }
+        × (now (orders .exit)
+        ≡ ordersOver (length (now (work .entry))) (runsOf (now (samples .entry)) most) (lent samples marks counts journal used) (now (orders .entry))) ⌝ }
 {
     let n = samples.len();
     let mut qualified: usize = 0;

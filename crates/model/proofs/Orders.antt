@@ -18,26 +18,10 @@ use Rattle.model.specs.Model.{solved}
 use Rattle.model.specs.Order.{highestUsed, levinsonOrder, modelOrder, passesOrder, orderAfterOrder}
 use Rattle.model.specs.Order.{SoManyOrders, BehindIsZero, OrderAtMost, EveryPassAlike}
 use Rattle.model.proofs.sums.Laws.{length-each, at-each}
-use Rattle.model.proofs.estimate.Laws.{Stop, stop, stopOf, choose-both, behind-outside, raised-other, length-unit}
+use Rattle.model.proofs.estimate.Laws.{Stop, stop, stopOf, kOf, behind, one-more, behind-outside, raised-other, length-unit}
 use Rattle.model.proofs.Passes.{stored-same, solved-length, pass-stores, order-same}
 
 -- ---- Where the recursion stops
-
--- the k of the order i, and e behind it
-abbrev kOf : List Float → List Float → Float → ℕ → Float
-kOf r a e i = neg (shortfall a r i) /₆₄ e
-
-abbrev behind : List Float → List Float → Float → ℕ → Float
-behind r a e i = e *₆₄ (one -₆₄ kOf r a e i *₆₄ kOf r a e i)
-
--- an order more, by its two tests
-one-more : (r a : List Float) (e : Float) (i n : ℕ)
-    → stopOf r a e i (suc n)
-    ≡ cond (lt (magnitude e) pico) (stop a (i - 1))
-    (cond (le (behind r a e i) nought) (stop (raised a i (kOf r a e i)) i) (stopOf r (raised a i (kOf r a e i)) (behind r a e i) (i + 1) n))
-unfolding orders highestUsed
-one-more r a e i n =
-    choose-both (lt (magnitude e) pico) _ _ _ _ ∙ ap (cond (lt (magnitude e) pico) (stop a (i - 1))) (choose-both (le (behind r a e i) nought) _ _ _ _)
 
 -- where it stops, of n orders from i on: no lower than before i, below i + n, and with the coefficients of just these orders
 record Tied (r a : List Float) (e : Float) (i n : ℕ) (s : Stop) : Type 0 where

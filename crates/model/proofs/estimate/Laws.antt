@@ -13,7 +13,7 @@ use lib.Seq.{sets, length-sets, getD-take, getD-drop, drop-cons, drop-set-add, t
 use lib.Ieee.{Float, nan, binary64, neg, lt, le, ofBits}
 use Rattle.leaves.specs.Arithmetic.{_+₆₄_, _-₆₄_, _*₆₄_, _/₆₄_, nought, one, at}
 use Rattle.leaves.specs.Floats.{magnitude}
-use Rattle.model.specs.Model.{micro, each, unit, lagSum, lags, raisedAt, raised, shortfall, orders}
+use Rattle.model.specs.Model.{micro, pico, each, unit, lagSum, lags, raisedAt, raised, shortfall, orders}
 use Rattle.model.specs.Model.{levinson, estimateArKnown}
 use Rattle.model.specs.Order.{highestUsed, levinsonOrder, modelOrder}
 use Rattle.model.specs.Areas.{area, Only, coefsAt}
@@ -247,9 +247,25 @@ abbrev pub stopOf : List Float → List Float → Float → ℕ → ℕ → Stop
 stopOf r a e i n = stop (orders r a e i n) (highestUsed r a e i n)
 
 -- both rules choose by the same test
-pub choose-both : (b : Bool) (a a' : List Float) (i i' : ℕ) → stop (cond b a a') (cond b i i') ≡ cond b (stop a i) (stop a' i')
+choose-both : (b : Bool) (a a' : List Float) (i i' : ℕ) → stop (cond b a a') (cond b i i') ≡ cond b (stop a i) (stop a' i')
 choose-both true a a' i i' = refl
 choose-both false a a' i i' = refl
+
+-- the k of the order i, and e behind it
+abbrev pub kOf : List Float → List Float → Float → ℕ → Float
+kOf r a e i = neg (shortfall a r i) /₆₄ e
+
+abbrev pub behind : List Float → List Float → Float → ℕ → Float
+behind r a e i = e *₆₄ (one -₆₄ kOf r a e i *₆₄ kOf r a e i)
+
+-- an order more, by its two tests
+pub one-more : (r a : List Float) (e : Float) (i n : ℕ)
+    → stopOf r a e i (suc n)
+    ≡ cond (lt (magnitude e) pico) (stop a (i - 1))
+    (cond (le (behind r a e i) nought) (stop (raised a i (kOf r a e i)) i) (stopOf r (raised a i (kOf r a e i)) (behind r a e i) (i + 1) n))
+unfolding orders highestUsed
+one-more r a e i n =
+    choose-both (lt (magnitude e) pico) _ _ _ _ ∙ ap (cond (lt (magnitude e) pico) (stop a (i - 1))) (choose-both (le (behind r a e i) nought) _ _ _ _)
 
 -- the orders from i on, by the tests of a turn: none is left, e is too small, e ends it, or one order more
 module _ (r a : List Float) (e : Float) (i p : ℕ) (whole : Stop) (rest : stopOf r a e i (p + 1 - i) ≡ whole) where
@@ -262,19 +278,9 @@ module _ (r a : List Float) (e : Float) (i p : ℕ) (whole : Stop) (rest : stopO
     one-order : stopOf r a e i (p + 1 - i)
         ≡ cond (lt size (ofBits binary64 4427486594234968593)) (stop a (i - 1))
         (cond (le next (ofBits binary64 0)) (stop (raised a i k) i) (stopOf r (raised a i k) next (i + 1) (p + 1 - (i + 1))))
-    unfolding orders highestUsed
     one-order =
         let left : p + 1 - i ≡ suc (p + 1 - (i + 1)) = omega arith in
-        let small = lt size (ofBits binary64 4427486594234968593) in
-        let ends = le next (ofBits binary64 0) in
-        let on = p + 1 - (i + 1) in
-        let both : stopOf r a e i (p + 1 - i)
-        ≡ stop (cond small a (cond ends (raised a i k) (orders r (raised a i k) next (i + 1) on)))
-        (cond small (i - 1) (cond ends i (highestUsed r (raised a i k) next (i + 1) on))) =
-        rw (left, en, ek, ea, es, one-double, pico-word, nought-double) refl in
-        both
-        ∙ choose-both small _ _ _ _
-        ∙ ap (cond small (stop a (i - 1))) (choose-both ends _ _ _ _)
+        rw (left, en, ek, ea, es, one-double, pico-word, nought-double) (one-more r a e i (p + 1 - (i + 1)))
 
     pub orders-small : lt size (ofBits binary64 4427486594234968593) ≡ true → stop a (i - 1) ≡ whole
     orders-small small = sym (one-order ∙ choose-true _ _ _ small) ∙ rest
