@@ -1,7 +1,6 @@
 -- The order that the model got to, as specs/Order.antt states it: what it says of the coefficients, how high it can be, and
 -- what it does not depend on. Assumes nothing.
 use mathlib.Core.Path.{_≡_, refl, sym, ap, _∙_}
-use mathlib.Core.Bool.{cond}
 use mathlib.Core.List.{List}
 use mathlib.Core.Logic.{inl, inr}
 use Prim.Native.Nat.{ℕ, zero, suc, _+_, _-_, _≤_, _<_}
@@ -9,11 +8,11 @@ use native.Mathlib.Nat.{zero-add, add-zero}
 use native.Mathlib.Omega.{arith}
 use lib.ListN.{length, set, getD-replicate}
 use lib.Seq.{sets}
-use lib.Ieee.{Float, nan, neg, lt, le}
-use Rattle.leaves.specs.Arithmetic.{_-₆₄_, _*₆₄_, _/₆₄_, _+₆₄_, nought, one, at}
+use lib.Ieee.{Float, nan, lt, le}
+use Rattle.leaves.specs.Arithmetic.{_*₆₄_, _+₆₄_, nought, one, at}
 use Rattle.leaves.specs.Floats.{magnitude}
 use Rattle.leaves.proofs.Choice.{truth, picks}
-use Rattle.model.specs.Model.{micro, pico, lags, unit, shortfall, raisedAt, raised, orders, levinson, estimateArKnown}
+use Rattle.model.specs.Model.{micro, pico, lags, unit, raisedAt, raised, orders, levinson, estimateArKnown}
 use Rattle.model.specs.Model.{solved}
 use Rattle.model.specs.Order.{highestUsed, levinsonOrder, modelOrder, passesOrder, orderAfterOrder}
 use Rattle.model.specs.Order.{SoManyOrders, BehindIsZero, OrderAtMost, EveryPassAlike}
