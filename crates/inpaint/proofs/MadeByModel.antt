@@ -151,7 +151,7 @@ made-later room r rs s j made =
       m = made .m;
       accepted =
           sym
-          (ap (λ (t : State). gapRepair (made .stretch .start) (made .stretch .len) sourcePasses room t .answer) (run-first room r (made .before) s))
+          (ap (λ (t : State). gapRepair (made .stretch .start) (made .stretch .len) sourcePasses room t .answer) (run-first sourcePasses room r (made .before) s))
           ∙ made .accepted;
     }
 
@@ -171,7 +171,7 @@ marked room (r ∷ rs) s j fresh h = go (ℕ-discrete (getD (next .marks) j 0) g
     go (yes now) (inl same) later = absurd (fresh (sym same ∙ now))
     go (yes now) (inr filled) later = made-first room r rs s j now filled
     go (no other) ends later =
-        made-later room r rs s j (later other (ap (λ (t : State). getD (t .marks) j 0) (run-first room r rs s) ∙ h))
+        made-later room r rs s j (later other (ap (λ (t : State). getD (t .marks) j 0) (run-first sourcePasses room r rs s) ∙ h))
 
 -- the order of an accepted gap by the model is what stands there
 there : (room : ℕ) (r : Stretch) (s : State) (old m : ℕ) → gapRepair (r .start) (r .len) sourcePasses room s .answer ≡ Done m

@@ -202,7 +202,7 @@ at-run room (b ∷ bs) later r i j s orders h low high short =
     noted-elsewhere b (e .answer) order orders j (λ low' high'. omega (arith, behind)) in
     at-run room bs later r (b .start + b .len) j (e .after) (noted b (e .answer) order orders) (h .1) low high
     (rw (noted-length b (e .answer) order orders) short)
-    ∙ ap (λ (t : State). orderThere room r t (getD (noted b (e .answer) order orders) j 0)) (run-first room b bs s)
+    ∙ ap (λ (t : State). orderThere room r t (getD (noted b (e .answer) order orders) j 0)) (run-first sourcePasses room b bs s)
     ∙ ap (orderThere room r (run (gapCalls room (b ∷ bs)) s)) kept
 
 -- ---- Of a scan

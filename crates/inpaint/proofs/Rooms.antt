@@ -13,7 +13,7 @@ use lib.Dec.{ltb, eqb}
 use lib.Ieee.{Float}
 use borrow.Author.Tests.{ltb-true, ltb-false}
 use Rattle.leaves.specs.Floats.{inRange}
-use Rattle.recording.specs.Answers.{number}
+use Rattle.recording.specs.Answers.{number, value}
 use Rattle.recording.specs.Recording.{State, Ended, Placed, span, Plan, refuse, change, places, entry, entrySize}
 use Rattle.recording.specs.Recording.{fitting, ranged, entered, committed, carried, performed, called}
 use Rattle.recording.specs.Recording.{unlessRefused}
@@ -30,12 +30,13 @@ use Rattle.recording.proofs.Put.{length-put}
 use Rattle.inpaint.specs.Gap.{gapWrong, needed, gapPlan, gapRepair}
 use Rattle.inpaint.specs.Auto.{limit, zeroOrNan, runAt, nextRun, sourcePasses, scannable}
 use Rattle.inpaint.specs.Runs.{Stretch, runsAmong, runsOf, gapCalls, answers}
-use Rattle.inpaint.specs.Consequences.{NeededAtMost, EachNumber, OwnAnswers, densePlaces, denseWords, DenseSuffices, WideSuffices}
+use Rattle.inpaint.specs.Consequences.{AcceptedNamesTheGap, NeededAtMost, EachNumber, OwnAnswers, densePlaces, denseWords, DenseSuffices, WideSuffices}
 use Rattle.inpaint.specs.declared.Run.{Run}
 use Rattle.inpaint.specs.declared.Run.the-variants.{At, Nowhere}
 use Rattle.inpaint.proofs.auto.Laws.{scannable-unfit}
 use Rattle.inpaint.proofs.auto.Runs.{OfZeros, OfHeld, Found, found-run, Fit, fits}
 use Rattle.inpaint.proofs.window.Laws.{right-gap, context-least, context-most, needed-within}
+use Rattle.inpaint.proofs.gap.Laws.{plan-gap}
 use Rattle.inpaint.proofs.Lawful.{plan-holds, gap-lawful}
 use Rattle.inpaint.proofs.Dropouts.{zeros-end}
 use Rattle.inpaint.proofs.Scans.{none-among, runs-behind, answers-first}
@@ -111,6 +112,11 @@ abbrev Names : ℕ → Plan → Type 0
 Names len (refuse why) = Unit {0}
 Names len (change mark cs) = length cs ≡ len
 
+plan-names : (s : State) (start len passes room : ℕ) → Names len (gapPlan start len passes room (s .samples))
+plan-names s start len passes room =
+    plan-holds (Names len) start len passes room (s .samples) (λ h. tt) (λ h. tt) (λ i. tt)
+    (λ mark ws m count inside. length-span start ws ∙ count)
+
 gap-left : (s : State) (start len passes room : ℕ) → Left s len (gapRepair start len passes room s .after)
 unfolding gapRepair called
 gap-left s start len passes room = go (ending s plan (gap-lawful start len passes room (s .samples)))
@@ -118,16 +124,42 @@ gap-left s start len passes room = go (ending s plan (gap-lawful start len passe
     plan : Plan
     plan = gapPlan start len passes room (s .samples)
 
-    named : Names len plan
-    named =
-        plan-holds (Names len) start len passes room (s .samples) (λ h. tt) (λ h. tt) (λ i. tt)
-        (λ mark ws m count inside. length-span start ws ∙ count)
-
     go : Ending s plan → Left s len (performed s plan .after)
     go (unnamed mark p e) = rw e (left-as-it-was s len)
     go (turned-away why e) = rw e (left-as-it-was s len)
     go (enters mark cs p e) =
-        rw (ap (performed s) p ∙ enters-ends e) (left-committed s len mark cs (subst (Names len) p named) e)
+        rw (ap (performed s) p ∙ enters-ends e)
+        (left-committed s len mark cs (subst (Names len) p (plan-names s start len passes room)) e)
+
+-- a plan names all samples of its gap, and of none that has no sample
+pub accepted-names-the-gap : AcceptedNamesTheGap
+unfolding gapRepair called
+accepted-names-the-gap start len passes room m s h = go (ending s plan (gap-lawful start len passes room (s .samples)))
+  where
+    plan : Plan
+    plan = gapPlan start len passes room (s .samples)
+
+    named : Names len plan
+    named = plan-names s start len passes room
+
+    changes : Plan → ℕ
+    changes (refuse why) = 0
+    changes (change mark cs) = 1
+
+    go : Ending s plan → (m ≡ len) × (1 ≤ len)
+    go (unnamed mark p e) =
+        let none : 0 ≡ len = subst (Names len) p named in
+        let wrong = plan-gap (s .samples) start len passes room (rw (← none) refl) in
+        absurd (omega (arith, ap changes (sym wrong ∙ p)))
+    go (turned-away why e) =
+        let both : Refused why ≡ Done m = sym (ap (λ (end : Ended). end .answer) e) ∙ h in
+        let none : _≡_ {A = ℕ} 0 1 = cc in
+        absurd (omega arith)
+    go (enters mark cs p e) =
+        let count : length cs ≡ len = subst (Names len) p named in
+        let ends = ap (performed s) p ∙ enters-ends e in
+        let told = ap value (sym (ap (λ (end : Ended). end .answer) ends) ∙ h) in
+        (omega (arith, told, count), omega (arith, e .some, count))
 
 -- ---- The runs of a scan
 

@@ -31,9 +31,9 @@ use Rattle.inpaint.specs.Gap.{needed, gapPlan, gapRepair}
 use Rattle.inpaint.specs.Auto.{limit, continues, continuesAt, runBegins, gapAt, gapLength, starts}
 use Rattle.inpaint.specs.Auto.{nextAmong, nextRun}
 use Rattle.inpaint.specs.Auto.{Scan, scan, sourcePasses, repairAt, scanFrom, scannable, automatic}
-use Rattle.inpaint.specs.Runs.{Stretch, stretch, runsAmong, runsOf, gapCalls, answers, acceptances, firstRefusal}
+use Rattle.inpaint.specs.Runs.{Stretch, stretch, runsAmong, runsOf, singleCalls, gapCalls, answers, acceptances, firstRefusal}
 use Rattle.inpaint.specs.Runs.{ScanIsItsRuns, ScanCountsItsRuns}
-use Rattle.inpaint.specs.Consequences.{ScanLawful, RefusedScan}
+use Rattle.inpaint.specs.Consequences.{ScanLawful, ListLawful, RefusedScan}
 use Rattle.inpaint.specs.declared.Run.{Run}
 use Rattle.inpaint.specs.declared.Run.the-variants.{At, Nowhere}
 use Rattle.inpaint.proofs.auto.Laws.{scan-stops, scan-takes}
@@ -345,16 +345,17 @@ first-of : (k j later : ℕ)
     → cond (eqb (cond (eqb k 0) j k) 0) later (cond (eqb k 0) j k) ≡ cond (eqb k 0) (cond (eqb j 0) later j) k
 first-of k j later = elim (truth (eqb k 0)) [ inl t ↦ rw t refl | inr t ↦ rw (t, t) refl ]
 
-module _ (room : ℕ) (r : Stretch) (rs : List Stretch) (s : State) where
-  -- the first of the calls is the repair of its run
-  pub run-first : run (gapCalls room rs) (gapRepair (r .start) (r .len) sourcePasses room s .after) ≡ run (gapCalls room (r ∷ rs)) s
-  unfolding run did gapRepair
-  run-first = refl
+-- the first of the calls is the repair of its gap
+pub run-first : (passes room : ℕ) (r : Stretch) (rs : List Stretch) (s : State)
+    → run (singleCalls passes room rs) (gapRepair (r .start) (r .len) passes room s .after) ≡ run (singleCalls passes room (r ∷ rs)) s
+unfolding run did gapRepair
+run-first passes room r rs s = refl
 
-  pub answers-first : let e = gapRepair (r .start) (r .len) sourcePasses room s in
-      answers (gapCalls room (r ∷ rs)) s ≡ e .answer ∷ answers (gapCalls room rs) (e .after)
-  unfolding answers did gapRepair
-  answers-first = refl
+pub answers-first : (room : ℕ) (r : Stretch) (rs : List Stretch) (s : State)
+    → let e = gapRepair (r .start) (r .len) sourcePasses room s in
+    answers (gapCalls room (r ∷ rs)) s ≡ e .answer ∷ answers (gapCalls room rs) (e .after)
+unfolding answers did gapRepair
+answers-first room r rs s = refl
 
 -- what the repair of these runs leaves and counts, by the calls with so much workspace and their answers
 record Told (room : ℕ) (rs : List Stretch) (c : Scan) : Type 0 where
@@ -394,7 +395,7 @@ told (r ∷ rs) c = go (told rs d)
         let size = needed (length (c .after .samples)) (r .start) (r .len) in
         let t = subst (λ (m : ℕ). Told m rs d) (work-count size (e .answer) (c .work)) rest in
         record {
-          after = t .after ∙ run-first room r rs (c .after);
+          after = t .after ∙ run-first sourcePasses room r rs (c .after);
           qualified = omega (arith, t .qualified);
           repaired = omega (arith, t .repaired, ap acceptances all, accepts (e .answer) later);
           refused =
@@ -420,6 +421,9 @@ pub refused-scan : RefusedScan
 refused-scan rate ms work s why h =
     sym (ap (λ (c : Scan). c .after) (automatic-refused rate ms work s (Refused why) (sym h) why _ refl refl))
 
+pub list-lawful : ListLawful
+list-lawful passes room [] = tt
+list-lawful passes room (r ∷ rs) = (gap-lawful (r .start) (r .len) passes room, list-lawful passes room rs)
+
 pub scan-lawful : ScanLawful
-scan-lawful room [] = tt
-scan-lawful room (r ∷ rs) = (gap-lawful (r .start) (r .len) sourcePasses room, scan-lawful room rs)
+scan-lawful room rs = list-lawful sourcePasses room rs

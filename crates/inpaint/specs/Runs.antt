@@ -17,7 +17,7 @@ use Rattle.recording.specs.declared.Answer.the-variants.{Done, Refused}
 use Rattle.inpaint.specs.Gap.{gapPlan}
 use Rattle.inpaint.specs.Auto.{limit, continues, kept, qualifies, gapAt, gapLength, starts, sourcePasses, scannable, automatic}
 
--- a dropout run, by the start and the length of its gap
+-- a gap, by its start and its length: that of a dropout run, or one that is handed over
 pub record Stretch : Type 0 where
   pub start : ℕ
   pub len : ℕ
@@ -37,10 +37,14 @@ runsAmong samples most from i (suc n) =
 abbrev pub runsOf : List ℕ → ℕ → List Stretch
 runsOf samples most = runsAmong samples most 0 0 (length samples)
 
--- "Each run is one gap repair": the calls, with so many doubles of workspace
+-- the calls that repair gaps one after the other, each with so many passes and so many doubles of workspace
+abbrev pub singleCalls : ℕ → ℕ → List Stretch → List Call
+singleCalls passes room [] = []
+singleCalls passes room (r ∷ rs) = repair (gapPlan (r .start) (r .len) passes room) ∷ singleCalls passes room rs
+
+-- "Each run is one gap repair": those of runs
 abbrev pub gapCalls : ℕ → List Stretch → List Call
-gapCalls room [] = []
-gapCalls room (r ∷ rs) = repair (gapPlan (r .start) (r .len) sourcePasses room) ∷ gapCalls room rs
+gapCalls room rs = singleCalls sourcePasses room rs
 
 -- "with its own answer": what calls answer, one after the other
 unfoldable pub answers : List Call → State → List Answer

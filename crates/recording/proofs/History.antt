@@ -16,7 +16,7 @@ use Rattle.recording.specs.Recording.{undone, alike, keptMark, openedWit
 use Rattle.recording.specs.History.{Repair, Call, repair, undo, did, run, surviving, survivorsOver, survivors}
 use Rattle.recording.specs.History.{replay, fresh}
 use Rattle.recording.specs.History.{OpeningIsFresh, Bytes, RawMarks, Keeps, Lawful, AfterAny, Demand3}
-use Rattle.recording.specs.Consequences.{AllName, SurvivorsStand, UndoingAll, MeasuredIsRaw, UnmadeIsRaw}
+use Rattle.recording.specs.Consequences.{AllName, SurvivorsStand, UndoTakesBackTheLast, UndoingAll, MeasuredIsRaw, UnmadeIsRaw}
 use Rattle.recording.specs.Consequences.{FreeIsZero, CountsAreWorkedOut}
 use Rattle.recording.specs.Consequences.{Closing, closings, markOf, returned, EntriesAreSurvivors}
 use Rattle.recording.specs.declared.Answer.{Answer}
@@ -234,6 +234,22 @@ demand-3 words marks room cs bytes l = sym (reached-replay (reached words marks 
 pub survivors-stand : SurvivorsStand
 unfolding survivors
 survivors-stand words marks room cs bytes l = reached-names (reached words marks room cs bytes l)
+
+pub undo-takes-back-the-last : UndoTakesBackTheLast
+undo-takes-back-the-last words marks room cs bytes l r m keeps accepted = go (ending s (r (s .samples)) (keeps (s .samples)))
+  where
+    s : State
+    s = run cs (fresh words marks room)
+
+    -- what its plan comes to is its answer
+    told : (e : Ended) → performed s (r (s .samples)) ≡ e → e .answer ≡ Done (suc m)
+    told e ends = ap (λ (end : Ended). end .answer) (sym (did-repair r s ∙ ends)) ∙ accepted
+
+    go : Ending s (r (s .samples)) → did undo (did (repair r) s .after) .after ≡ s
+    go (unnamed mark p e) = absurd (omega (arith, ap value (told _ e)))
+    go (turned-away why e) = let never : Refused why ≡ Done (suc m) = told _ e in cc
+    go (enters mark ps p e) =
+        rw (did-enter r p e) (ap (λ (end : Ended). end .after) (did-undo-more (reached words marks room cs bytes l) e))
 
 pub undoing-all : UndoingAll
 unfolding survivors

@@ -98,6 +98,14 @@ AllName (r ∷ rs) s = ((m : ℕ) × (did (repair r) s .answer ≡ Done (suc m))
 abbrev pub SurvivorsStand : Type 0
 SurvivorsStand = AfterAny (λ raw cs. AllName (survivors cs raw) raw)
 
+-- an undo directly behind a repair that was accepted and named a sample gives back the recording that this repair found
+abbrev pub UndoTakesBackTheLast : Type 0
+UndoTakesBackTheLast =
+    AfterAny
+    (λ raw cs.
+    (r : Repair) (m : ℕ) → LawfulRepair r → did (repair r) (run cs raw) .answer ≡ Done (suc m)
+    → did undo (did (repair r) (run cs raw) .after) .after ≡ run cs raw)
+
 -- undoing everything, and also going on to undo after that, returns every raw word and mark, and an empty journal
 abbrev pub UndoingAll : Type 0
 UndoingAll = AfterAny (λ raw cs. (k : ℕ) → length (survivors cs raw) ≤ k → run (replicate k undo) (run cs raw) ≡ raw)
