@@ -1,7 +1,7 @@
 -- The demands, as specs/Demands.antt states them: a call leaves what its rules leave, one after the other, so that what the crate
 -- `recording` shows of any sequence of rules holds of any sequence of calls. Assumes nothing.
 use mathlib.Core.Path.{_≡_, refl, sym, ap, subst, _∙_}
-use mathlib.Core.Bool.{Bool, true, false, false≢true}
+use mathlib.Core.Bool.{Bool, true, false, not, false≢true}
 use mathlib.Core.List.{List, [], _∷_, _++_, map, reverse}
 use mathlib.Core.Logic.{_⊎_, inl, inr}
 use Prim.Native.Nat.{ℕ, zero, suc, _≤_, _<_}
@@ -11,7 +11,7 @@ use lib.Ieee.{Float}
 use native.Mathlib.Omega.{arith}
 use borrow.Author.Tests.{ne-eqb}
 use Rattle.leaves.specs.Choice.{if_then_else_}
-use Rattle.leaves.proofs.Choice.{truth, EitherWay}
+use Rattle.leaves.proofs.Choice.{truth, EitherWay, picks}
 use Rattle.recording.specs.Answers.{number, value, reasonNumber}
 use Rattle.recording.specs.Recording.{State, Ended, Placed, Plan, refuse, change, fitting, carried, performed, undone}
 use Rattle.recording.specs.Recording.{keptMark, openedWith, opened, openedReceived}
@@ -29,8 +29,10 @@ use Rattle.recording.proofs.Asking as asking
 use Rattle.recording.proofs.Single.{did-keeps, above-zero, accepted-as-ruled}
 use Rattle.inpaint.specs.Gap.{gapPlan, gapRepair}
 use Rattle.inpaint.specs.Auto.{limit, scannable, automatic, allowed}
-use Rattle.inpaint.specs.Runs.{Stretch, runsOf, gapCalls, runAnswers, firstRefusal}
-use Rattle.inpaint.proofs.Scans.{scan-is-its-runs, scan-counts-its-runs, refused-scan, scan-lawful}
+use Rattle.inpaint.specs.Runs.{Stretch, runsOf, singleCalls, gapCalls, runAnswers, firstRefusal}
+use Rattle.inpaint.specs.Several.{spans, AnswerLists, listsWrong, Several, gapsRepair}
+use Rattle.inpaint.proofs.Scans.{scan-is-its-runs, scan-counts-its-runs, refused-scan, list-lawful, scan-lawful}
+use Rattle.inpaint.proofs.InTurn.{refused-list, taken-list, list-is-its-repairs}
 use Rattle.inpaint.specs.Consequences.{EachNumber}
 use Rattle.inpaint.proofs.Rooms.{own-answers}
 use Rattle.inpaint.proofs.Lawful.{gap-lawful}
@@ -44,11 +46,12 @@ use Rattle.dequant.specs.Dequant.{cosparse as sparse}
 use Rattle.declip.proofs.Consequences.{declip-lawful}
 use Rattle.decrackle.proofs.Consequences.{decrackle-lawful}
 use Rattle.dequant.proofs.Consequences.{dequantize-lawful, cosparse-lawful}
-use Rattle.cathar.specs.Calls.{Call, gap, scan, declip, decrackle, dequantize, cosparse, undo, Work, Outcome, told, ran}
+use Rattle.cathar.specs.Calls.{Call, gap, gaps, scan, declip, decrackle, dequantize, cosparse, undo, Work, Outcome, told, ran}
 use Rattle.cathar.specs.Calls.{Opening, asMeasured, asReceived, opens}
 use Rattle.cathar.specs.Refusals.{plain, asked, applies, anyOut, first, turnedAway, openingTurnedAway, testedByOpening, canGive}
 use Rattle.cathar.specs.Demands.{GivenExactlyWhen, OpeningGivenExactlyWhen, OnlyThese, OpeningOnlyThese, RefusalChangesNothing}
 use Rattle.cathar.specs.Demands.{RefusedOpeningChangesNothing, RulesAreLawful, after, AfterAny, Kind, kind, repairs, undoes, scans}
+use Rattle.cathar.specs.Demands.{eachOf, spanRepairs}
 use Rattle.cathar.specs.Demands.{scanned, counted, rules, CallIsItsRules, Demand2, allRules, Demand3, SurvivorsStand}
 use Rattle.cathar.specs.Demands.{UndoingAll, MeasuredIsRaw, MeasuredWasReceived, RawIsMeasuredOrNotReceived, NotReceivedIsRaw}
 use Rattle.cathar.specs.Demands.{Opened, EntriesAreSurvivors, CountsAreWorkedOut, AnswerIsEachMark, YesIsRaw}
@@ -58,7 +61,7 @@ use Rattle.cathar.proofs.Refusals.{scan-number, opening-number}
 -- ---- A call is its rules
 
 -- each repair is performed by its plan
-gap-did : (start len passes room : ℕ) (s : State)
+pub gap-did : (start len passes room : ℕ) (s : State)
     → gapRepair start len passes room s ≡ single.did (single.repair (gapPlan start len passes room)) s
 unfolding gapRepair single.did
 gap-did start len passes room s = refl
@@ -83,7 +86,7 @@ cosparse-did : (bits : ℕ) (strength : Float) (iterations room : ℕ) (s : Stat
 unfolding cosparseRepair single.did
 cosparse-did bits strength iterations room s = refl
 
-undo-did : (s : State) → undone s ≡ single.did single.undo s
+pub undo-did : (s : State) → undone s ≡ single.did single.undo s
 unfolding single.did
 undo-did s = refl
 
@@ -92,7 +95,7 @@ alone : (c : single.Call) (s : State) (e : Ended) → e ≡ single.did c s → e
 unfolding single.run
 alone c s e h = ap (λ (end : Ended). end .after) h
 
-alone-keeps : (c : single.Call) (s : State) (e : Ended) → e ≡ single.did c s → 0 < number (e .answer) → e .after ≡ s
+pub alone-keeps : (c : single.Call) (s : State) (e : Ended) → e ≡ single.did c s → 0 < number (e .answer) → e .after ≡ s
 alone-keeps c s e h = rw h (did-keeps c s .keeps)
 
 -- the tests before a scan answer 0 where they accept it
@@ -113,8 +116,19 @@ scan-rules rate millis work s = go (scannable rate millis s) refl
     go (Done m) e = rw (e, scanned) (scan-is-its-runs rate millis work s (scannable-zero rate millis s m e))
     go (Refused why) e = rw (e, scanned) (unfold single.run in refused-scan rate millis work s why e)
 
+-- several gaps are their single repairs, or none
+gaps-rules : (starts lens : List ℕ) (passes : ℕ) (work : List Float) (lists : AnswerLists) (s : State)
+    → gapsRepair starts lens passes work lists s .after ≡ single.run (spanRepairs starts lens passes work lists) s
+gaps-rules starts lens passes work lists s =
+    elim (truth (listsWrong starts lens lists)) [
+      | inl wrong ↦ rw (wrong, refused-list starts lens passes work lists s wrong) (unfold single.run in refl)
+      | inr right ↦
+          rw (right, taken-list starts lens passes work lists s right .0) (list-is-its-repairs passes (spans starts lens) work s)
+    ]
+
 pub call-is-its-rules : CallIsItsRules
 call-is-its-rules (gap start len passes work) s = alone _ s _ (gap-did start len passes (length work) s)
+call-is-its-rules (gaps starts lens passes work lists) s = gaps-rules starts lens passes work lists s
 call-is-its-rules (scan rate millis work) s = scan-rules rate millis work s
 call-is-its-rules (declip threshold work) s = alone _ s _ (declip-did threshold (length work) s)
 call-is-its-rules (decrackle sensitivity work) s = alone _ s _ (decrackle-did sensitivity (length work) s)
@@ -127,6 +141,7 @@ call-is-its-rules undo s = alone _ s _ (undo-did s)
 -- the number that a call gives by lines of its own, which a scan's runs have no say in
 abbrev own : Call → State → ℕ
 own (gap start len passes work) s = number (gapRepair start len passes (length work) s .answer)
+own (gaps starts lens passes work lists) s = number (gapsRepair starts lens passes work lists s .answer)
 own (scan rate millis work) s = number (scannable rate millis s)
 own (declip threshold work) s = number (declipRepair threshold (length work) s .answer)
 own (decrackle sensitivity work) s = number (decrackleRepair sensitivity (length work) s .answer)
@@ -134,10 +149,20 @@ own (dequantize bits strength work) s = number (dequantizeRepair bits strength (
 own (cosparse bits strength iterations work) s = number (cosparseRepair bits strength iterations (length work) s .answer)
 own undo s = number (undone s .answer)
 
+-- of several gaps it is 4, by their lists, or 0
+gaps-line : (starts lens : List ℕ) (passes : ℕ) (work : List Float) (lists : AnswerLists) (s : State)
+    → number (gapsRepair starts lens passes work lists s .answer) ≡ (if not (not (listsWrong starts lens lists)) then 4 else 0)
+gaps-line starts lens passes work lists s =
+    elim (truth (listsWrong starts lens lists)) [
+      | inl wrong ↦ rw (wrong, refused-list starts lens passes work lists s wrong) refl
+      | inr right ↦ let taken = taken-list starts lens passes work lists s right in rw (right, taken .0, taken .1) refl
+    ]
+
 -- is that of the first line that applies
 by-lines : (c : Call) (s : State) → own c s ≡ turnedAway c s
 unfolding turnedAway declipRepair declipPlan decrackleRepair decracklePlan dequantizeRepair dequantizePlan cosparseRepair cosparsePlan
 by-lines (gap start len passes work) s = gap-number start len passes (length work) s
+by-lines (gaps starts lens passes work lists) s = gaps-line starts lens passes work lists s
 by-lines (scan rate millis work) s = scan-number rate millis s
 by-lines (declip threshold work) s = whole-number (declips.allowed threshold) (length work) marks.cubicDeclip (declipped threshold) s
 by-lines (decrackle sensitivity work) s =
@@ -180,6 +205,7 @@ scan-given rate millis work s = go (scannable rate millis s) refl
 
 pub given-exactly-when : GivenExactlyWhen
 given-exactly-when (gap start len passes work) s = no-runs _ _ (by-lines (gap start len passes work) s)
+given-exactly-when (gaps starts lens passes work lists) s = no-runs _ _ (by-lines (gaps starts lens passes work lists) s)
 given-exactly-when (scan rate millis work) s = scan-given rate millis work s
 given-exactly-when (declip threshold work) s = no-runs _ _ (by-lines (declip threshold work) s)
 given-exactly-when (decrackle sensitivity work) s = no-runs _ _ (by-lines (decrackle sensitivity work) s)
@@ -214,6 +240,8 @@ opening-given-exactly-when o s = rw (opens-with o s) (opening-number (raw-marks 
 lines-only : (c : Call) (s : State) → (turnedAway c s ≡ 0) ⊎ Among (turnedAway c s) (canGive c)
 unfolding turnedAway first applies anyOut
 lines-only (gap start len passes work) s = first-among (applies (asked (gap start len passes work) s) s) (canGive (gap start len passes work))
+lines-only (gaps starts lens passes work lists) s =
+    first-among (applies (asked (gaps starts lens passes work lists) s) s) (canGive (gaps starts lens passes work lists))
 lines-only (scan rate millis work) s =
     among-more _ (1 ∷ 14 ∷ 2 ∷ 3 ∷ 4 ∷ []) (6 ∷ 7 ∷ 8 ∷ 9 ∷ [])
     (first-among (applies (asked (scan rate millis work) s) s) (1 ∷ 14 ∷ 2 ∷ 3 ∷ 4 ∷ []))
@@ -261,6 +289,8 @@ scan-only rate millis work s = go (scannable rate millis s) refl (lines-only (sc
 
 pub only-these : OnlyThese
 only-these (gap start len passes work) s = rw (by-lines (gap start len passes work) s) (lines-only (gap start len passes work) s)
+only-these (gaps starts lens passes work lists) s =
+    rw (by-lines (gaps starts lens passes work lists) s) (lines-only (gaps starts lens passes work lists) s)
 only-these (scan rate millis work) s = scan-only rate millis work s
 only-these (declip threshold work) s = rw (by-lines (declip threshold work) s) (lines-only (declip threshold work) s)
 only-these (decrackle sensitivity work) s = rw (by-lines (decrackle sensitivity work) s) (lines-only (decrackle sensitivity work) s)
@@ -277,6 +307,15 @@ opening-only-these o s = rw (opening-given-exactly-when o s) (first-among (appli
 pub refusal-changes-nothing : RefusalChangesNothing
 refusal-changes-nothing (gap start len passes work) s h =
     alone-keeps _ s _ (gap-did start len passes (length work) s) (rw (by-lines (gap start len passes work) s) h)
+refusal-changes-nothing (gaps starts lens passes work lists) s h =
+    elim (truth (listsWrong starts lens lists)) [
+      | inl wrong ↦ ap (λ (c : Several). c .after) (refused-list starts lens passes work lists s wrong)
+      | inr right ↦
+          let none : turnedAway (gaps starts lens passes work lists) s ≡ 0 =
+          sym (by-lines (gaps starts lens passes work lists) s) ∙ gaps-line starts lens passes work lists s ∙ rw right refl
+          in
+          absurd (omega (arith, h, none))
+    ]
 refusal-changes-nothing (scan rate millis work) s h = go (scannable rate millis s) refl
   where
     go : (a : Answer) → scannable rate millis s ≡ a → automatic rate millis work s .after ≡ s
@@ -320,6 +359,8 @@ scanned-lawful room rs (Refused why) = tt
 
 pub rules-are-lawful : RulesAreLawful
 rules-are-lawful (gap start len passes work) s = (gap-lawful start len passes (length work), tt)
+rules-are-lawful (gaps starts lens passes work lists) s =
+    picks single.Lawful (listsWrong starts lens lists) _ _ tt (list-lawful passes (length work) (spans starts lens))
 rules-are-lawful (scan rate millis work) s = scanned-lawful (length work) (runsOf (s .samples) (limit millis rate)) (scannable rate millis s)
 rules-are-lawful (declip threshold work) s = (declip-lawful threshold (length work), tt)
 rules-are-lawful (decrackle sensitivity work) s = (decrackle-lawful sensitivity (length work), tt)
@@ -347,15 +388,18 @@ told-by e w rule r s h k =
     rule-of (repairs q) = q
     rule-of undoes = r
     rule-of (scans rate millis work) = r
+    rule-of (eachOf calls) = r
 
--- a scan and an undo do not count as one
+-- a scan, several gaps and an undo do not count as one
 abbrev is-repair : Kind → Bool
 is-repair (repairs q) = true
 is-repair undoes = false
 is-repair (scans rate millis work) = false
+is-repair (eachOf calls) = false
 
 one-repair : (c : Call) (s : State) (r : single.Repair) → kind c ≡ repairs r → Told (ran c s) (single.did (single.repair r) s)
 one-repair (gap start len passes work) s r h = told-by _ _ _ r s (gap-did start len passes (length work) s) h
+one-repair (gaps starts lens passes work lists) s r h = absurd (false≢true (ap is-repair h))
 one-repair (scan rate millis work) s r h = absurd (false≢true (ap is-repair h))
 one-repair (declip threshold work) s r h = told-by _ _ _ r s (declip-did threshold (length work) s) h
 one-repair (decrackle sensitivity work) s r h = told-by _ _ _ r s (decrackle-did sensitivity (length work) s) h
@@ -364,7 +408,7 @@ one-repair (cosparse bits strength iterations work) s r h = told-by _ _ _ r s (c
 one-repair undo s r h = absurd (false≢true (ap is-repair h))
 
 -- an answer with the number 0 is an acceptance
-accepted-by : (a : Answer) → number a ≡ 0 → a ≡ Done (value a)
+pub accepted-by : (a : Answer) → number a ≡ 0 → a ≡ Done (value a)
 accepted-by (Done m) h = refl
 accepted-by (Refused why) h = absurd (omega (arith, above-zero why, h))
 
@@ -416,7 +460,7 @@ raw-bytes asMeasured s = history.zeros-are-bytes (length (s .marks))
 raw-bytes asReceived s = history.kept-are-bytes (s .marks)
 
 -- what holds of the rules on every fresh recording holds of the calls on every opened one
-opened-any : (P : State → List single.Call → State → Type 0) → single.AfterAny (λ raw cs. P raw cs (single.run cs raw))
+pub opened-any : (P : State → List single.Call → State → Type 0) → single.AfterAny (λ raw cs. P raw cs (single.run cs raw))
     → AfterAny (λ raw cs. P raw (allRules cs raw) (after cs raw))
 opened-any P all raw cs o =
     let words = o .lent .samples in

@@ -1,14 +1,16 @@
 -- An exported function, from what the call under it ensures: `ended a s` is the rule's end of the call, `left` the workspace after
 -- it, and the result and what `value` points to are number and value of the answer a. Assumes nothing.
 use Prim.Native.Nat.{ℕ}
-use mathlib.Core.Path.{_≡_, refl}
+use mathlib.Core.Path.{_≡_, refl, ap}
 use mathlib.Core.List.{List, [], _∷_}
+use lib.Ieee.{Float}
 use Rattle.recording.specs.Answers.{number, value, verdictNumber, verdictYes}
 use Rattle.recording.specs.Recording.{State, Ended, ended, workAfter}
 use Rattle.recording.specs.declared.Answer.{Answer}
 use Rattle.recording.specs.declared.Verdict.{Verdict}
 use Rattle.frames.specs.Frames.{Delivered, delivered}
-use Rattle.cathar.specs.Calls.{Work, none, outcome, told, framesTold, toldOf, spanTold, spanToldOf}
+use Rattle.inpaint.specs.Several.{AnswerLists, Several, several}
+use Rattle.cathar.specs.Calls.{Work, none, doubles, outcome, told, framesTold, toldOf, spanTold, spanToldOf}
 
 -- an opening
 pub tells : (call : Ended) (a : Answer) (s : State) (result : ℕ) → ended a s ≡ call → result ≡ number a
@@ -25,6 +27,12 @@ pub works : {A : Type 0} (kind : List A → Work) (call : Ended) (a : Answer) (s
     (work left : List A) → (ended a s ≡ call) × (left ≡ workAfter nought n a work) → result ≡ number a → given ≡ value a
     → outcome result (given ∷ []) s (kind left) ≡ told call (kind (workAfter nought n (call .answer) work))
 works kind call a s result given nought n work left e r v = rw (r, v, e .1, ← e .0) refl
+
+-- several gaps, with the answers of their spans
+pub takes : (call : Several) (a : Answer) (lists : AnswerLists) (s : State) (work : List Float) (result : ℕ)
+    → several a lists s work ≡ call → result ≡ number a
+    → (outcome result [] s (doubles work) ≡ outcome (number (call .answer)) [] (call .after) (doubles (call .work))) × (lists ≡ call .lists)
+takes call a lists s work result e r = (rw (r, ← e) refl, ap (λ (c : Several). c .lists) e)
 
 -- the reading of frames
 pub reads : (call : Delivered) (a : Answer) (missing dropped : ℕ) (samples marks : List ℕ) (result n : ℕ)

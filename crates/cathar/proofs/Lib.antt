@@ -1,3 +1,4 @@
 pub mod Exports
 pub mod Refusals
 pub mod Demands
+pub mod Several

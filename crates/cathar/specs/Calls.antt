@@ -11,16 +11,18 @@ use Rattle.recording.specs.Recording.{State, Ended, opened, openedReceived, und
 use Rattle.recording.specs.declared.Verdict.{Verdict}
 use Rattle.inpaint.specs.Gap.{needed, gapRepair}
 use Rattle.inpaint.specs.Auto.{automatic}
+use Rattle.inpaint.specs.Several.{AnswerLists, gapsRepair}
 use Rattle.redraw.specs.Whole as whole
 use Rattle.declip.specs.Declip.{declipRepair}
 use Rattle.decrackle.specs.Decrackle.{decrackleRepair}
 use Rattle.dequant.specs.Dequant.{dequantizeRepair, cosparseRepair}
 use Rattle.frames.specs.Frames.{Delivered}
 
--- a call with its settings and the workspace that it is lent: doubles for a gap and for the automatic scan, 32-bit words for the
--- repairs over the whole recording
+-- a call with its settings and the workspace that it is lent: doubles for a gap, for several and for the automatic scan, 32-bit words for
+-- the repairs over the whole recording. To several gaps lists for their answers are lent, too.
 pub data Call : Type 0 where
   gap : (start len passes : ℕ) → List Float → Call
+  gaps : (starts lens : List ℕ) (passes : ℕ) → List Float → AnswerLists → Call
   scan : (rate : ℕ) (millis : Float) → List Float → Call
   declip : (threshold : Float) → List ℕ → Call
   decrackle : (sensitivity : Float) → List ℕ → Call
@@ -57,6 +59,9 @@ abbrev pub ran : Call → State → Outcome
 ran (gap start len passes work) s =
     let e = gapRepair start len passes (length work) s in
     told e (doubles (workAfter nought (needed (length (s .samples)) start len) (e .answer) work))
+ran (gaps starts lens passes work lists) s =
+    let c = gapsRepair starts lens passes work lists s in
+    outcome (number (c .answer)) [] (c .after) (doubles (c .work))
 ran (scan rate millis work) s =
     let c = automatic rate millis work s in
     outcome (c .refused) (c .qualified ∷ c .repaired ∷ []) (c .after) (doubles (c .work))
@@ -65,6 +70,10 @@ ran (decrackle sensitivity work) s = redrawn s work (decrackleRepair sensitivity
 ran (dequantize bits strength work) s = redrawn s work (dequantizeRepair bits strength (length work) s)
 ran (cosparse bits strength iterations work) s = redrawn s work (cosparseRepair bits strength iterations (length work) s)
 ran undo s = told (undone s) none
+
+-- beside it the answers of several gaps stand in their lists
+abbrev pub answersOf : List ℕ → List ℕ → ℕ → List Float → AnswerLists → State → AnswerLists
+answersOf starts lens passes work lists s = gapsRepair starts lens passes work lists s .lists
 
 -- the two openings, with one of which every recording starts
 pub data Opening : Type 0 where

@@ -19,24 +19,32 @@ use Rattle.recording.specs.declared.Verdict.{Verdict}
 use Rattle.recording.specs.declared.Verdict.the-variants.{Yes, No}
 use Rattle.inpaint.specs.Gap.{gapPlan}
 use Rattle.inpaint.specs.Auto.{scannable}
-use Rattle.inpaint.specs.Runs.{scanCalls, runAnswers, firstRefusal}
+use Rattle.inpaint.specs.Runs.{singleCalls, scanCalls, runAnswers, firstRefusal}
+use Rattle.inpaint.specs.Several.{spans, AnswerLists, listsWrong}
 use Rattle.declip.specs.Declip.{declipPlan}
 use Rattle.decrackle.specs.Decrackle.{decracklePlan}
 use Rattle.dequant.specs.Dequant.{dequantizePlan, cosparsePlan}
-use Rattle.cathar.specs.Calls.{Call, gap, scan, declip, decrackle, dequantize, cosparse, undo, ran, Opening, opens, opening}
+use Rattle.cathar.specs.Calls.{Call, gap, gaps, scan, declip, decrackle, dequantize, cosparse, undo, ran, Opening, opens, opening}
 use Rattle.cathar.specs.Refusals.{turnedAway, openingTurnedAway, canGive, testedByOpening}
 
 -- ---- What a call counts as
 
 -- One repair, by its rule, which makes of the samples a plan: the mark and the named samples with their new words, or a refusal. Or an undo;
--- or an automatic scan, which counts as one repair for each run that qualifies.
+-- or an automatic scan, which counts as one repair for each run that qualifies; or several gaps, which count as one for each span.
 pub data Kind : Type 0 where
   repairs : single.Repair → Kind
   undoes : Kind
   scans : (rate : ℕ) (millis : Float) → List Float → Kind
+  eachOf : List single.Call → Kind
+
+-- request P6: "Demand 3 reads the list as its single repairs", which are none where 4 turns it away
+abbrev pub spanRepairs : List ℕ → List ℕ → ℕ → List Float → AnswerLists → List single.Call
+spanRepairs starts lens passes work lists =
+    if listsWrong starts lens lists then [] else singleCalls passes (length work) (spans starts lens)
 
 abbrev pub kind : Call → Kind
 kind (gap start len passes work) = repairs (gapPlan start len passes (length work))
+kind (gaps starts lens passes work lists) = eachOf (spanRepairs starts lens passes work lists)
 kind (scan rate millis work) = scans rate millis work
 kind (declip threshold work) = repairs (declipPlan threshold (length work))
 kind (decrackle sensitivity work) = repairs (decracklePlan sensitivity (length work))
@@ -56,6 +64,7 @@ abbrev pub firstOfRuns : Kind → State → ℕ
 firstOfRuns (repairs r) s = 0
 firstOfRuns undoes s = 0
 firstOfRuns (scans rate millis work) s = firstRefusal (runAnswers rate millis work s)
+firstOfRuns (eachOf cs) s = 0
 
 abbrev pub GivenExactlyWhen : Type 0
 GivenExactlyWhen =
@@ -71,8 +80,8 @@ OnlyThese = (c : Call) (s : State) → (ran c s .number ≡ 0) ⊎ Among (ran c 
 abbrev pub OpeningOnlyThese : Type 0
 OpeningOnlyThese = (o : Opening) (s : State) → (opening o s .number ≡ 0) ⊎ Among (opening o s .number) testedByOpening
 
--- "A refusal changes nothing": neither does a call that a line of the table turns away, nor an opening. Each single repair of a scan does
--- the same (`RefusalChangesNothing` of the crate `recording`).
+-- "A refusal changes nothing": neither does a call that a line of the table turns away, nor an opening. Each single repair of a scan or of
+-- several gaps does the same (`RefusalChangesNothing` of the crate `recording`).
 abbrev pub RefusalChangesNothing : Type 0
 RefusalChangesNothing = (c : Call) (s : State) → 0 < turnedAway c s → ran c s .after ≡ s
 
@@ -92,6 +101,7 @@ abbrev pub counted : Kind → State → List single.Call
 counted (repairs r) s = single.repair r ∷ []
 counted undoes s = single.undo ∷ []
 counted (scans rate millis work) s = scanned rate millis work s
+counted (eachOf cs) s = cs
 
 abbrev pub rules : Call → State → List single.Call
 rules c s = counted (kind c) s
@@ -105,8 +115,8 @@ abbrev pub RulesAreLawful : Type 0
 RulesAreLawful = (c : Call) (s : State) → single.Lawful (rules c s)
 
 -- The demand: where a call that counts as one repair is accepted, its rule makes a plan; the call leaves the plan's words and, at exactly
--- the samples that the plan names, its mark; and its one figure is how many these are. Each single repair of a scan does the same
--- (`AcceptedAsRuled` of the crate `recording`).
+-- the samples that the plan names, its mark; and its one figure is how many these are. Each single repair of a scan or of several gaps does
+-- the same (`AcceptedAsRuled` of the crate `recording`).
 abbrev pub Demand2 : Type 0
 Demand2 =
     (c : Call) (s : State) (r : single.Repair) → kind c ≡ repairs r → ran c s .number ≡ 0

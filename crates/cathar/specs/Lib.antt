@@ -2,4 +2,5 @@
 pub mod Calls
 pub mod Refusals
 pub mod Demands
+pub mod Several
 pub mod Table

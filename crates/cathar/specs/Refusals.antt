@@ -13,13 +13,14 @@ use Rattle.leaves.specs.Choice.{if_then_else_}
 use Rattle.leaves.specs.Floats.{inRange}
 use Rattle.recording.specs.Recording.{State, Placed, Plan, refuse, change, picked, entrySize, differ, countsWrong, tooMany, overUsed}
 use Rattle.recording.specs.Recording.{malformed}
-use Rattle.inpaint.specs.Gap as gaps
+use Rattle.inpaint.specs.Gap as single
 use Rattle.inpaint.specs.Auto as auto
+use Rattle.inpaint.specs.Several as lists
 use Rattle.redraw.specs.Whole as whole
 use Rattle.declip.specs.Declip as declips
 use Rattle.decrackle.specs.Decrackle as decrackles
 use Rattle.dequant.specs.Dequant as dequants
-use Rattle.cathar.specs.Calls.{Call, gap, scan, declip, decrackle, dequantize, cosparse, undo}
+use Rattle.cathar.specs.Calls.{Call, gap, gaps, scan, declip, decrackle, dequantize, cosparse, undo}
 
 -- ---- What a call asks for, as far as the table speaks of it
 
@@ -62,18 +63,19 @@ plain allowed undoes =
     record { allowed = allowed; gapWrong = false; needed = 0; room = 0; reads = []; names = []; undoes = undoes }
 
 -- Of a gap "any number [of passes] is allowed", and "Everything in [the window] outside the gap is known and read". What its runs ask for
--- is not a scan's own affair.
+-- is not a scan's own affair, nor what its spans ask for that of several gaps, of which only the lists are.
 abbrev pub asked : Call → State → Asked
 asked (gap start len passes work) s =
     record {
       allowed = true;
-      gapWrong = gaps.gapWrong (length (s .samples)) start len;
-      needed = gaps.needed (length (s .samples)) start len;
+      gapWrong = single.gapWrong (length (s .samples)) start len;
+      needed = single.needed (length (s .samples)) start len;
       room = length work;
-      reads = gaps.knownBefore (s .samples) start len ++ gaps.knownBehind (s .samples) start len;
-      names = changed (gaps.repaired passes (s .samples) start len);
+      reads = single.knownBefore (s .samples) start len ++ single.knownBehind (s .samples) start len;
+      names = changed (single.repaired passes (s .samples) start len);
       undoes = false;
     }
+asked (gaps starts lens passes work answers) s = plain (not (lists.listsWrong starts lens answers)) false
 asked (scan rate millis work) s = plain (auto.allowed rate millis) false
 asked (declip threshold work) s = redrawing (declips.allowed threshold) work (declips.declipped threshold (s .samples)) s
 asked (decrackle sensitivity work) s = redrawing (decrackles.allowed sensitivity) work (decrackles.decrackled sensitivity (s .samples)) s
@@ -172,6 +174,17 @@ first applies (k ∷ ks) = let later = first applies ks in if applies k then k e
 abbrev pub tested : List ℕ
 tested = 1 ∷ 14 ∷ 2 ∷ 3 ∷ 4 ∷ 5 ∷ 6 ∷ 7 ∷ 8 ∷ 9 ∷ 10 ∷ 11 ∷ []
 
+-- those that a call tests. Of several gaps: "4 first, ..; all others are each span's own", which tests them as a gap by itself does.
+abbrev pub tests : Call → List ℕ
+tests (gap start len passes work) = tested
+tests (gaps starts lens passes work answers) = 4 ∷ []
+tests (scan rate millis work) = tested
+tests (declip threshold work) = tested
+tests (decrackle sensitivity work) = tested
+tests (dequantize bits strength work) = tested
+tests (cosparse bits strength iterations work) = tested
+tests undo = tested
+
 -- "It gives refusals 1 and 2 only", and 14 "given by opening and undo too": opening tests these
 abbrev pub testedByOpening : List ℕ
 testedByOpening = 1 ∷ 14 ∷ 2 ∷ []
@@ -179,7 +192,7 @@ testedByOpening = 1 ∷ 14 ∷ 2 ∷ []
 -- the number by which a call is turned away, or 0
 unfoldable pub turnedAway : Call → State → ℕ
 unfolding first applies
-turnedAway c s = first (applies (asked c s) s) tested
+turnedAway c s = first (applies (asked c s) s) (tests c)
 
 -- and an opening, which asks for nothing
 unfoldable pub openingTurnedAway : State → ℕ
@@ -191,6 +204,7 @@ openingTurnedAway s = first (applies (plain true false) s) testedByOpening
 -- "Undo can give 1, 2, 3, 10, 11.", and 14; each run of a scan has "its own answer from 6 to 9"
 abbrev pub canGive : Call → List ℕ
 canGive (gap start len passes work) = 1 ∷ 14 ∷ 2 ∷ 3 ∷ 5 ∷ 6 ∷ 7 ∷ 8 ∷ 9 ∷ []
+canGive (gaps starts lens passes work answers) = 4 ∷ []
 canGive (scan rate millis work) = 1 ∷ 14 ∷ 2 ∷ 3 ∷ 4 ∷ 6 ∷ 7 ∷ 8 ∷ 9 ∷ []
 canGive (declip threshold work) = 1 ∷ 14 ∷ 2 ∷ 3 ∷ 4 ∷ 6 ∷ 7 ∷ 8 ∷ 9 ∷ []
 canGive (decrackle sensitivity work) = 1 ∷ 14 ∷ 2 ∷ 3 ∷ 4 ∷ 6 ∷ 7 ∷ 8 ∷ 9 ∷ []

@@ -6,11 +6,12 @@ ghost use mathlib.Core.List.{[], _∷_};
 ghost use lib.ListN.{length};
 ghost use Rattle.leaves.specs.Floats.{narrowed, rounded};
 ghost use Rattle.leaves.specs.Root.{Rooted};
-ghost use Rattle.cathar.specs.Calls.{gap, scan, declip, decrackle, dequantize, cosparse, undo};
+ghost use Rattle.cathar.specs.Calls.{gap, gaps, answersOf, scan, declip, decrackle, dequantize, cosparse, undo};
 ghost use Rattle.cathar.specs.Calls.{none, doubles, words, outcome, ran};
 ghost use Rattle.cathar.specs.Calls.{asMeasured, asReceived, opening, framesTold, toldOf, spanTold, spanToldOf};
 ghost use Rattle.frames.specs.Frames.{framesRead};
 ghost use Rattle.inpaint.specs.Order.{gapOrder, scanOrders};
+ghost use Rattle.inpaint.specs.Several.{answersLent, answersLeft};
 ghost use Rattle.recording.specs.Lent.{left, lent, leftReading};
 ghost use Rattle.recording.specs.Question.{spanVerdict};
 use dequant::passes::dequantize;
@@ -111,6 +112,48 @@ pub extern "C" fn cathar_inpaint_gap(
     let answer = filled.answer;
     *value = value_of(answer);
     *order = filled.order;
+    number_of(answer)
+}
+
+// Repairs up to 64 gaps in the order given, each as `cathar_inpaint_gap` does, on what the ones before it left,
+// with its answer, value and order in its own place of the lists. 0; or 4 for more than 64 gaps or lists that
+// differ in length, with nothing done and no answer written.
+#[no_mangle]
+pub extern "C" fn cathar_inpaint_gaps(
+    samples: &mut [u32],
+    marks: &mut [u8],
+    counts: &mut [u16],
+    journal: &mut [u32],
+    used: &mut usize,
+    starts: &[usize],
+    lens: &[usize],
+    passes: u32,
+    work: &mut [f64],
+    numbers: &mut [u32],
+    values: &mut [usize],
+    orders: &mut [u32],
+) -> u32
+    ensures { λ r. ⌜ (outcome r [] (left samples marks counts journal used) (doubles (now (work .exit)))
+        ≡ ran (gaps (now (starts .entry)) (now (lens .entry)) passes (now (work .entry)) (answersLent numbers values orders))
+        (lent samples marks counts journal used))
+        × (answersLeft numbers values orders
+        ≡ answersOf (now (starts .entry)) (now (lens .entry)) passes (now (work .entry)) (answersLent numbers values orders)
+        (lent samples marks counts journal used)) ⌝ }
+{
+    let answer = inpaint::several::inpaint_gaps(
+        samples,
+        marks,
+        counts,
+        journal,
+        used,
+        starts,
+        lens,
+        passes,
+        work,
+        numbers,
+        values,
+        orders,
+    );
     number_of(answer)
 }
 
