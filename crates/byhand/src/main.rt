@@ -1,10 +1,12 @@
 // Runs rows of document 01's "Sums done by hand" on the compiled code and writes what each leaves: the
 // number and the value of the answer and used, then samples and journal in hexadecimal digits and the
-// marks and the counts of the blocks in decimal ones; and of a gap the order of its model.
+// marks and the counts of the blocks in decimal ones; and of a gap the order of its model. And *quiet* once
+// more by a list of gaps.
 ghost use Prim.Native.Nat.{_≤_};
 ghost use lib.ListN.{length};
 use inpaint::GapAnswer;
 use inpaint::gap::inpaint_gap;
+use inpaint::several::inpaint_gaps;
 use leaves::words::word_of_f32;
 use recording::Answer;
 use recording::numbers::number_of;
@@ -65,6 +67,15 @@ fn print_counts(counts: &[u16]) {
         i += 1;
     }
     io::write_all(1, b"\n");
+}
+
+// Writes the answers of three gaps: their numbers, their values and the orders of their models.
+fn print_answers(numbers: &[u32], values: [usize; 3], orders: &[u32]) {
+    print_words(b"  numbers", numbers, 1);
+    print_number(b"  values ", values[0] as u64);
+    print_number(b" ", values[1] as u64);
+    print_number(b" ", values[2] as u64);
+    print_words(b"\n  orders", orders, 1);
 }
 
 // Writes how a call ended.
@@ -163,6 +174,79 @@ fn quiet(journal: &mut [u32]) {
     );
     take_back(&mut samples, &mut marks, &mut counts, journal, &mut used);
     take_back(&mut samples, &mut marks, &mut counts, journal, &mut used);
+}
+
+// *Quiet* by a list of three spans: its gap, one that passes the end, and the gap again. First with too short
+// a list for the orders; and at last an undo, which takes back the third span.
+fn quiet_in_turn() {
+    let mut samples = [SOFT, SOFT, 0, 0, SOFT, SOFT];
+    let mut marks = [7u8; 6];
+    let mut counts = [LEFT_COUNT; 1];
+    let mut journal = [LEFT; 16];
+    let mut used: usize = 99;
+    let mut work = [1.5f64; 300];
+    let starts = [2usize, 5, 2];
+    let lens = [2usize; 3];
+    let mut numbers = [LEFT; 3];
+    let mut values = [99usize; 3];
+    let mut few = [LEFT; 2];
+    let mut orders = [LEFT; 3];
+    open(&samples, &mut marks, &mut counts, &mut journal, &mut used);
+    let away = inpaint_gaps(
+        &mut samples,
+        &mut marks,
+        &mut counts,
+        &mut journal,
+        &mut used,
+        &starts,
+        &lens,
+        3,
+        &mut work,
+        &mut numbers,
+        &mut values,
+        &mut few,
+    );
+    show(
+        b"two orders for three gaps",
+        away,
+        &samples,
+        &marks,
+        &counts,
+        &journal,
+        used,
+    );
+    print_answers(&numbers, values, &few);
+    let answer = inpaint_gaps(
+        &mut samples,
+        &mut marks,
+        &mut counts,
+        &mut journal,
+        &mut used,
+        &starts,
+        &lens,
+        3,
+        &mut work,
+        &mut numbers,
+        &mut values,
+        &mut orders,
+    );
+    show(
+        b"three gaps",
+        answer,
+        &samples,
+        &marks,
+        &counts,
+        &journal,
+        used,
+    );
+    print_answers(&numbers, values, &orders);
+    take_back(
+        &mut samples,
+        &mut marks,
+        &mut counts,
+        &mut journal,
+        &mut used,
+    );
 }
 
 // 9 samples of which only place 4 is 1, decrackled at sensitivity 10.
@@ -307,6 +391,8 @@ fn main() {
     quiet(&mut eight);
     io::write_all(1, b"Quiet, with a journal of 7 words\n");
     quiet(&mut seven);
+    io::write_all(1, b"Quiet, by a list of three gaps\n");
+    quiet_in_turn();
     io::write_all(1, b"Nine samples, one of them 1\n");
     crackle();
     io::write_all(1, b"Long gaps\n");
