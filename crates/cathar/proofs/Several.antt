@@ -2,28 +2,27 @@
 -- accepted. Assumes nothing.
 use mathlib.Core.Path.{_≡_, refl, sym, ap, subst, _∙_}
 use mathlib.Core.List.{List, [], _∷_, _++_}
-use Prim.Native.Nat.{ℕ, suc, _-_, _≤_, _<_}
+use Prim.Native.Nat.{ℕ, suc, _-_}
 use native.Mathlib.Omega.{arith}
 use lib.ListN.{length}
 use lib.Ieee.{Float}
 use Rattle.leaves.specs.Arithmetic.{nought}
-use Rattle.recording.specs.Answers.{number, value}
+use Rattle.recording.specs.Answers.{value}
 use Rattle.recording.specs.Recording.{State, Ended, workAfter}
 use Rattle.recording.specs.History as single
-use Rattle.recording.specs.declared.Answer.{Answer}
 use Rattle.recording.specs.declared.Answer.the-variants.{Done}
 use Rattle.recording.proofs.History as history
 use Rattle.inpaint.specs.Gap.{needed, gapPlan, gapRepair}
 use Rattle.inpaint.specs.Order.{gapOrder}
 use Rattle.inpaint.specs.Runs.{Stretch, singleCalls}
-use Rattle.inpaint.specs.Several.{spans, AnswerLists, listsWrong, Several, withAnswer, inTurn, gapsRepair}
+use Rattle.inpaint.specs.Several.{spans, Several, withAnswer, inTurn}
 use Rattle.inpaint.proofs.Lawful.{gap-lawful}
 use Rattle.inpaint.proofs.Rooms.{accepted-names-the-gap}
 use Rattle.inpaint.proofs.Scans.{run-first}
 use Rattle.inpaint.proofs.InTurn.{taken-list, cut-anywhere, list-is-its-repairs}
 use Rattle.cathar.specs.Calls.{Call, gap, gaps, undo, ran}
 use Rattle.cathar.specs.Demands.{after, Opened}
-use Rattle.cathar.specs.Several.{lentOn, singly, GapsAreSingleCalls, AllRefused, UndoTakesBackOneSpan}
+use Rattle.cathar.specs.Several.{singly, GapsAreSingleCalls, AllRefused, UndoTakesBackOneSpan}
 use Rattle.cathar.proofs.Demands.{gap-did, undo-did, alone-keeps, accepted-by, opened-any}
 
 -- ---- Single calls in turn

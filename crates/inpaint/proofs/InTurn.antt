@@ -1,5 +1,5 @@
 -- A list of spans: what 4 turns away, and that the spans are single calls in turn, wherever the list is cut. Assumes nothing.
-use mathlib.Core.Path.{_≡_, refl, sym, ap, subst, _∙_}
+use mathlib.Core.Path.{_≡_, refl, sym, ap, _∙_}
 use mathlib.Core.List.{List, [], _∷_, _++_}
 use Prim.Native.Nat.{ℕ, _+_}
 use native.Mathlib.Omega.{arith}
@@ -7,15 +7,15 @@ use lib.ListN.{length, getD}
 use lib.Seq.{getD-append-add}
 use lib.Ieee.{Float}
 use Rattle.leaves.specs.Arithmetic.{nought}
-use Rattle.recording.specs.Answers.{number, value}
-use Rattle.recording.specs.Recording.{State, Ended, workAfter}
+use Rattle.recording.specs.Recording.{State, workAfter}
 use Rattle.recording.specs.History.{run}
+use Rattle.recording.specs.declared.Answer.{Answer}
 use Rattle.recording.specs.declared.Answer.the-variants.{Done}
 use Rattle.inpaint.specs.Gap.{needed, gapRepair}
 use Rattle.inpaint.specs.Runs.{Stretch, singleCalls}
 use Rattle.inpaint.specs.Order.{gapOrder}
-use Rattle.inpaint.specs.Several.{spans, Several, several, withAnswer, inTurn, gapsRepair}
-use Rattle.inpaint.specs.Consequences.{RefusedList, TakenList, EmptyList, followed, CutAnywhere, OwnPlace, ListIsItsRepairs}
+use Rattle.inpaint.specs.Several.{spans, several, withAnswer, inTurn, gapsRepair}
+use Rattle.inpaint.specs.Consequences.{RefusedList, TakenList, EmptyList, CutAnywhere, OwnPlace, ListIsItsRepairs}
 use Rattle.inpaint.proofs.several.Laws.{list-refused, list-taken, answered-count}
 use Rattle.inpaint.proofs.Scans.{work-count, run-first}
 
@@ -41,7 +41,9 @@ empty-list passes work s = refl
 
 pub cut-anywhere : CutAnywhere
 unfolding inTurn
-cut-anywhere passes [] hs work s = ap (λ a. several a (inTurn passes hs work s .lists) (inTurn passes hs work s .after) (inTurn passes hs work s .work)) (accepts passes hs work s)
+cut-anywhere passes [] hs work s =
+    let all = inTurn passes hs work s in
+    ap (λ (a : Answer). several a (all .lists) (all .after) (all .work)) (accepts passes hs work s)
 cut-anywhere passes (g ∷ gs) hs work s =
     let e = gapRepair (g .start) (g .len) passes (length work) s in
     ap (withAnswer (e .answer) (gapOrder (g .start) (g .len) passes (length work) s)) (cut-anywhere passes gs hs _ (e .after))
@@ -68,7 +70,9 @@ list-is-its-repairs passes (g ∷ gs) work s =
 
 -- the element at the seam of two lists, of which the first has so many elements
 seam : (xs : List ℕ) (k : ℕ) (ys : List ℕ) → length xs ≡ k → getD (xs ++ ys) k 0 ≡ getD ys 0 0
-seam xs k ys e = subst (λ (j : ℕ). getD (xs ++ ys) j 0 ≡ getD ys 0 0) e (ap (λ (j : ℕ). getD (xs ++ ys) j 0) (omega arith) ∙ getD-append-add xs ys 0 0)
+seam xs k ys e =
+    let here : k ≡ length xs + 0 = omega arith in
+    ap (λ (j : ℕ). getD (xs ++ ys) j 0) here ∙ getD-append-add xs ys 0 0
 
 pub own-place : OwnPlace
 unfolding inTurn

@@ -3,10 +3,9 @@
 use borrow.Author.Needs.{needs}
 use mathlib.Core.Path.{_≡_, sym, _∙_}
 use mathlib.Core.Bool.{false}
-use lib.ListN.{length}
 use Rattle.recording.specs.Recording.{State, state}
 use Rattle.inpaint.specs.Several.{AnswerLists, answerLists, listsWrong}
-use Rattle.inpaint.proofs.several.Laws.{AsLong, as-long, list-refused, list-taken}
+use Rattle.inpaint.proofs.several.Laws.{as-long, list-refused, list-taken}
 use Rattle.inpaint.proofs.several.inpaint_gaps.Statement.{statement}
 use Rattle.inpaint.proofs.several.inpaint_gaps.Tie as tie
 

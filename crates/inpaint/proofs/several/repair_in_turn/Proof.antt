@@ -1,7 +1,7 @@
 -- `inpaint::several::repair_in_turn` meets its contract. The loop's invariant: the spans from here on, with their answers stored from here
 -- on, give the whole. The measure is how many spans are left. Assumes nothing.
-use Prim.Native.Nat.{_+_, _-_, _≤_, _<_}
-use mathlib.Core.Path.{_≡_, refl, sym, _∙_}
+use Prim.Native.Nat.{_-_, _≤_, _<_}
+use mathlib.Core.Path.{_≡_, refl, _∙_}
 use native.Mathlib.Omega.{arith}
 use borrow.Author.Needs.{needs}
 use lib.ListN.{length, length-set, drop}
