@@ -176,70 +176,67 @@ fn quiet(journal: &mut [u32]) {
     take_back(&mut samples, &mut marks, &mut counts, journal, &mut used);
 }
 
-// *Quiet* by a list of three spans: its gap, one that passes the end, and the gap again. First with too short
-// a list for the orders; and at last an undo, which takes back the third span.
+// Repairs three gaps in one call and shows the recording: that of *quiet*, one that passes the end, and the
+// first again.
+fn three_gaps(
+    title: &[u8],
+    samples: &mut [u32],
+    marks: &mut [u8],
+    counts: &mut [u16],
+    journal: &mut [u32],
+    used: &mut usize,
+    orders: &mut [u32],
+) {
+    let mut work = [1.5f64; 300];
+    let mut numbers = [LEFT; 3];
+    let mut values = [99usize; 3];
+    let answer = inpaint_gaps(
+        samples,
+        marks,
+        counts,
+        journal,
+        used,
+        &[2, 5, 2],
+        &[2, 2, 2],
+        3,
+        &mut work,
+        &mut numbers,
+        &mut values,
+        orders,
+    );
+    show(title, answer, samples, marks, counts, journal, *used);
+    print_answers(&numbers, values, orders);
+}
+
+// *Quiet* by a list of three gaps: first with too short a list for the orders; and at last an undo, which
+// takes back the third gap.
 fn quiet_in_turn() {
     let mut samples = [SOFT, SOFT, 0, 0, SOFT, SOFT];
     let mut marks = [7u8; 6];
     let mut counts = [LEFT_COUNT; 1];
     let mut journal = [LEFT; 16];
     let mut used: usize = 99;
-    let mut work = [1.5f64; 300];
-    let starts = [2usize, 5, 2];
-    let lens = [2usize; 3];
-    let mut numbers = [LEFT; 3];
-    let mut values = [99usize; 3];
     let mut few = [LEFT; 2];
     let mut orders = [LEFT; 3];
     open(&samples, &mut marks, &mut counts, &mut journal, &mut used);
-    let away = inpaint_gaps(
+    three_gaps(
+        b"two orders for three gaps",
         &mut samples,
         &mut marks,
         &mut counts,
         &mut journal,
         &mut used,
-        &starts,
-        &lens,
-        3,
-        &mut work,
-        &mut numbers,
-        &mut values,
         &mut few,
     );
-    show(
-        b"two orders for three gaps",
-        away,
-        &samples,
-        &marks,
-        &counts,
-        &journal,
-        used,
-    );
-    print_answers(&numbers, values, &few);
-    let answer = inpaint_gaps(
+    three_gaps(
+        b"three gaps",
         &mut samples,
         &mut marks,
         &mut counts,
         &mut journal,
         &mut used,
-        &starts,
-        &lens,
-        3,
-        &mut work,
-        &mut numbers,
-        &mut values,
         &mut orders,
     );
-    show(
-        b"three gaps",
-        answer,
-        &samples,
-        &marks,
-        &counts,
-        &journal,
-        used,
-    );
-    print_answers(&numbers, values, &orders);
     take_back(
         &mut samples,
         &mut marks,

@@ -1,7 +1,7 @@
 -- The demands, as specs/Demands.antt states them: a call leaves what its rules leave, one after the other, so that what the crate
 -- `recording` shows of any sequence of rules holds of any sequence of calls. Assumes nothing.
 use mathlib.Core.Path.{_≡_, refl, sym, ap, subst, _∙_}
-use mathlib.Core.Bool.{Bool, true, false, not, false≢true}
+use mathlib.Core.Bool.{Bool, true, false, false≢true}
 use mathlib.Core.List.{List, [], _∷_, _++_, map, reverse}
 use mathlib.Core.Logic.{_⊎_, inl, inr}
 use Prim.Native.Nat.{ℕ, zero, suc, _≤_, _<_}
@@ -11,7 +11,7 @@ use lib.Ieee.{Float}
 use native.Mathlib.Omega.{arith}
 use borrow.Author.Tests.{ne-eqb}
 use Rattle.leaves.specs.Choice.{if_then_else_}
-use Rattle.leaves.proofs.Choice.{truth, EitherWay, picks}
+use Rattle.leaves.proofs.Choice.{picks}
 use Rattle.recording.specs.Answers.{number, value, reasonNumber}
 use Rattle.recording.specs.Recording.{State, Ended, Placed, Plan, refuse, change, fitting, carried, performed, undone}
 use Rattle.recording.specs.Recording.{keptMark, openedWith, opened, openedReceived}
@@ -20,7 +20,6 @@ use Rattle.recording.specs.Counts as blocks
 use Rattle.recording.specs.History as single
 use Rattle.recording.specs.Consequences.{Among, AllName, closings, returned}
 use Rattle.recording.specs.declared.Reason.{Reason}
-use Rattle.recording.specs.declared.Reason.the-variants.{Setting}
 use Rattle.recording.specs.declared.Answer.{Answer}
 use Rattle.recording.specs.declared.Answer.the-variants.{Done, Refused}
 use Rattle.recording.proofs.Journal.{all-zero}
@@ -30,9 +29,8 @@ use Rattle.recording.proofs.Single.{did-keeps, above-zero, accepted-as-ruled}
 use Rattle.inpaint.specs.Gap.{gapPlan, gapRepair}
 use Rattle.inpaint.specs.Auto.{limit, scannable, automatic, allowed}
 use Rattle.inpaint.specs.Runs.{Stretch, runsOf, gapCalls, runAnswers, firstRefusal}
-use Rattle.inpaint.specs.Several.{spans, AnswerLists, listsWrong, Several, gapsRepair}
+use Rattle.inpaint.specs.Several.{spans, listsWrong, gapsRepair}
 use Rattle.inpaint.proofs.Scans.{scan-is-its-runs, scan-counts-its-runs, refused-scan, list-lawful, scan-lawful}
-use Rattle.inpaint.proofs.InTurn.{refused-list, taken-list, list-is-its-repairs}
 use Rattle.inpaint.specs.Consequences.{EachNumber}
 use Rattle.inpaint.proofs.Rooms.{own-answers}
 use Rattle.inpaint.proofs.Lawful.{gap-lawful}
@@ -51,12 +49,12 @@ use Rattle.cathar.specs.Calls.{Opening, asMeasured, asReceived, opens}
 use Rattle.cathar.specs.Refusals.{plain, asked, applies, anyOut, first, turnedAway, openingTurnedAway, testedByOpening, canGive}
 use Rattle.cathar.specs.Demands.{GivenExactlyWhen, OpeningGivenExactlyWhen, OnlyThese, OpeningOnlyThese, RefusalChangesNothing}
 use Rattle.cathar.specs.Demands.{RefusedOpeningChangesNothing, RulesAreLawful, after, AfterAny, Kind, kind, repairs, undoes, scans}
-use Rattle.cathar.specs.Demands.{eachOf, spanRepairs}
 use Rattle.cathar.specs.Demands.{scanned, counted, rules, CallIsItsRules, Demand2, allRules, Demand3, SurvivorsStand}
 use Rattle.cathar.specs.Demands.{UndoingAll, MeasuredIsRaw, MeasuredWasReceived, RawIsMeasuredOrNotReceived, NotReceivedIsRaw}
-use Rattle.cathar.specs.Demands.{Opened, EntriesAreSurvivors, CountsAreWorkedOut, AnswerIsEachMark, YesIsRaw}
+use Rattle.cathar.specs.Demands.{eachOf, Opened, EntriesAreSurvivors, CountsAreWorkedOut, AnswerIsEachMark, YesIsRaw}
 use Rattle.cathar.proofs.Refusals.{first-among, among-more, six-to-nine, opened-keeps, whole-number, gap-number, undo-number}
-use Rattle.cathar.proofs.Refusals.{scan-number, opening-number}
+use Rattle.cathar.proofs.Refusals.{scan-number, scannable-zero, opening-number}
+use Rattle.cathar.proofs.Spans.{gaps-rules, gaps-number, gaps-keep}
 
 -- ---- A call is its rules
 
@@ -98,16 +96,6 @@ alone c s e h = ap (λ (end : Ended). end .after) h
 pub alone-keeps : (c : single.Call) (s : State) (e : Ended) → e ≡ single.did c s → 0 < number (e .answer) → e .after ≡ s
 alone-keeps c s e h = rw h (did-keeps c s .keeps)
 
--- the tests before a scan answer 0 where they accept it
-scannable-zero : (rate : ℕ) (millis : Float) (s : State) (m : ℕ) → scannable rate millis s ≡ Done m → scannable rate millis s ≡ Done 0
-unfolding scannable
-scannable-zero rate millis s m h = go (fitting s) refl (truth (allowed rate millis))
-  where
-    go : (a : Answer) → fitting s ≡ a → EitherWay (allowed rate millis) → scannable rate millis s ≡ Done 0
-    go (Done k) e (inl y) = rw (e, y, scannable)
-    go (Done k) e (inr y) = let no-done : Refused Setting ≡ Done m = rw (e, y, scannable) at h in cc
-    go (Refused why) e y = let no-done : Refused why ≡ Done m = rw (e, scannable) at h in cc
-
 scan-rules : (rate : ℕ) (millis : Float) (work : List Float) (s : State)
     → automatic rate millis work s .after ≡ single.run (scanned rate millis work s) s
 scan-rules rate millis work s = go (scannable rate millis s) refl
@@ -115,16 +103,6 @@ scan-rules rate millis work s = go (scannable rate millis s) refl
     go : (a : Answer) → scannable rate millis s ≡ a → automatic rate millis work s .after ≡ single.run (scanned rate millis work s) s
     go (Done m) e = rw (e, scanned) (scan-is-its-runs rate millis work s (scannable-zero rate millis s m e))
     go (Refused why) e = rw (e, scanned) (unfold single.run in refused-scan rate millis work s why e)
-
--- several gaps are their single repairs, or none
-gaps-rules : (starts lens : List ℕ) (passes : ℕ) (work : List Float) (lists : AnswerLists) (s : State)
-    → gapsRepair starts lens passes work lists s .after ≡ single.run (spanRepairs starts lens passes work lists) s
-gaps-rules starts lens passes work lists s =
-    elim (truth (listsWrong starts lens lists)) [
-      | inl wrong ↦ rw (wrong, refused-list starts lens passes work lists s wrong) (unfold single.run in refl)
-      | inr right ↦
-          rw (right, taken-list starts lens passes work lists s right .0) (list-is-its-repairs passes (spans starts lens) work s)
-    ]
 
 pub call-is-its-rules : CallIsItsRules
 call-is-its-rules (gap start len passes work) s = alone _ s _ (gap-did start len passes (length work) s)
@@ -149,20 +127,11 @@ own (dequantize bits strength work) s = number (dequantizeRepair bits strength (
 own (cosparse bits strength iterations work) s = number (cosparseRepair bits strength iterations (length work) s .answer)
 own undo s = number (undone s .answer)
 
--- of several gaps it is 4, by their lists, or 0
-gaps-line : (starts lens : List ℕ) (passes : ℕ) (work : List Float) (lists : AnswerLists) (s : State)
-    → number (gapsRepair starts lens passes work lists s .answer) ≡ (if not (not (listsWrong starts lens lists)) then 4 else 0)
-gaps-line starts lens passes work lists s =
-    elim (truth (listsWrong starts lens lists)) [
-      | inl wrong ↦ rw (wrong, refused-list starts lens passes work lists s wrong) refl
-      | inr right ↦ let taken = taken-list starts lens passes work lists s right in rw (right, taken .0, taken .1) refl
-    ]
-
 -- is that of the first line that applies
 by-lines : (c : Call) (s : State) → own c s ≡ turnedAway c s
 unfolding turnedAway declipRepair declipPlan decrackleRepair decracklePlan dequantizeRepair dequantizePlan cosparseRepair cosparsePlan
 by-lines (gap start len passes work) s = gap-number start len passes (length work) s
-by-lines (gaps starts lens passes work lists) s = gaps-line starts lens passes work lists s
+by-lines (gaps starts lens passes work lists) s = gaps-number starts lens passes work lists s
 by-lines (scan rate millis work) s = scan-number rate millis s
 by-lines (declip threshold work) s = whole-number (declips.allowed threshold) (length work) marks.cubicDeclip (declipped threshold) s
 by-lines (decrackle sensitivity work) s =
@@ -308,14 +277,7 @@ pub refusal-changes-nothing : RefusalChangesNothing
 refusal-changes-nothing (gap start len passes work) s h =
     alone-keeps _ s _ (gap-did start len passes (length work) s) (rw (by-lines (gap start len passes work) s) h)
 refusal-changes-nothing (gaps starts lens passes work lists) s h =
-    elim (truth (listsWrong starts lens lists)) [
-      | inl wrong ↦ ap (λ (c : Several). c .after) (refused-list starts lens passes work lists s wrong)
-      | inr right ↦
-          let none : turnedAway (gaps starts lens passes work lists) s ≡ 0 =
-          sym (by-lines (gaps starts lens passes work lists) s) ∙ gaps-line starts lens passes work lists s ∙ rw right refl
-          in
-          absurd (omega (arith, h, none))
-    ]
+    gaps-keep starts lens passes work lists s (rw (by-lines (gaps starts lens passes work lists) s) h)
 refusal-changes-nothing (scan rate millis work) s h = go (scannable rate millis s) refl
   where
     go : (a : Answer) → scannable rate millis s ≡ a → automatic rate millis work s .after ≡ s

@@ -259,6 +259,16 @@ scan-number rate millis s =
     settings (inl a) = rw a refl
     settings (inr a) = rw a refl
 
+-- the tests before a scan answer 0 where they accept it
+pub scannable-zero : (rate : ℕ) (millis : Float) (s : State) (m : ℕ) → auto.scannable rate millis s ≡ Done m → auto.scannable rate millis s ≡ Done 0
+unfolding auto.scannable
+scannable-zero rate millis s m h = go (fitting s) refl (truth (auto.allowed rate millis))
+  where
+    go : (a : Answer) → fitting s ≡ a → EitherWay (auto.allowed rate millis) → auto.scannable rate millis s ≡ Done 0
+    go (Done k) e (inl y) = rw (e, y, auto.scannable)
+    go (Done k) e (inr y) = let no-done : Refused Setting ≡ Done m = rw (e, y, auto.scannable) at h in cc
+    go (Refused why) e y = let no-done : Refused why ≡ Done m = rw (e, auto.scannable) at h in cc
+
 -- lines 1, 14 and 2 of an opening, whatever raw marks it sets
 pub opening-number : (marks : List ℕ) (s : State)
     → number (openedWith marks s .answer) ≡ (if differ s then 1 else if countsWrong s then 14 else if tooMany s then 2 else 0)

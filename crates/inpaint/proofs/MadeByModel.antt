@@ -151,7 +151,8 @@ made-later room r rs s j made =
       m = made .m;
       accepted =
           sym
-          (ap (λ (t : State). gapRepair (made .stretch .start) (made .stretch .len) sourcePasses room t .answer) (run-first sourcePasses room r (made .before) s))
+          (ap (λ (t : State). gapRepair (made .stretch .start) (made .stretch .len) sourcePasses room t .answer)
+          (run-first sourcePasses room r (made .before) s))
           ∙ made .accepted;
     }
 
