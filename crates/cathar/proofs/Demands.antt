@@ -27,7 +27,7 @@ use Rattle.recording.proofs.History as history
 use Rattle.recording.proofs.Asking as asking
 use Rattle.recording.proofs.Single.{did-keeps, above-zero, accepted-as-ruled}
 use Rattle.inpaint.specs.Gap.{gapPlan, gapRepair}
-use Rattle.inpaint.specs.Auto.{limit, scannable, automatic, allowed}
+use Rattle.inpaint.specs.Auto.{limit, scannable, automatic}
 use Rattle.inpaint.specs.Runs.{Stretch, runsOf, gapCalls, runAnswers, firstRefusal}
 use Rattle.inpaint.specs.Several.{spans, listsWrong, gapsRepair}
 use Rattle.inpaint.proofs.Scans.{scan-is-its-runs, scan-counts-its-runs, refused-scan, list-lawful, scan-lawful}
