@@ -112,6 +112,7 @@ pub fn call(draw: &mut Draw, on: &Recording) -> Call {
         21..=24 => Call::Whole(settings::decrackle(draw, samples)),
         25 => Call::Whole(settings::dequantize(draw, samples)),
         26 => Call::Whole(settings::cosparse(draw, samples)),
+        27..=30 => Call::Gaps { passes: 1 },
         _ => Call::Gap { gap: run(draw, samples.len()), passes: 1 },
     }
 }
@@ -135,6 +136,13 @@ pub fn make(draw: &mut Draw, both: &mut Both, call: Call) -> (Reached, Wrong) {
             let work = if gap.len == 0 { 0 } else { gap.needed(n) };
             let (told, wrong) = both.inpaint_gap(gap, passes, room::work(draw, work));
             of_answer((told.answer, wrong))
+        }
+        Call::Gaps { passes } => {
+            let gaps: Vec<Gap> = (0..draw.below(5)).map(|_| run(draw, n)).collect();
+            let needed = gaps.iter().filter(|gap| !gap.is_outside(n)).map(|gap| gap.needed(n)).max();
+            let (lists, work) = (room::lists(draw, &gaps, gaps.len()), room::work(draw, needed.unwrap_or(0)));
+            let (several, wrong) = both.inpaint_gaps(lists, passes, work);
+            (several.number(), several.repaired().map(|gap| gap.len).sum(), wrong)
         }
         Call::Scan { rate, max_gap_ms } => {
             let orders = room::orders(&mut draw.aside(), n);
