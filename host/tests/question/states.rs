@@ -52,6 +52,11 @@ impl Reached {
             _ => After::Repair,
         }
     }
+
+    /// Whether it is a list of gaps of which one was repaired.
+    fn is_by_list(&self) -> bool {
+        matches!(self.call, Call::Gaps { .. }) && self.named > 0
+    }
 }
 
 /// What the calls have to be, all of them together.
@@ -61,6 +66,7 @@ pub const CLASSES: &[Class<Reached>] = &[
     Class { name: "opened as received", least: 300, holds: |r| r.call == Call::OpenReceived },
     Class { name: "naming a sample", least: 2_000, holds: |r| r.after() == After::Repair },
     Class { name: "naming 256 or more", least: 100, holds: |r| r.after() == After::Repair && r.named >= BLOCK },
+    Class { name: "naming a sample by a list of gaps", least: 200, holds: Reached::is_by_list },
     Class { name: "undone", least: 800, holds: |r| r.after() == After::Undo },
     Class { name: "refused", least: 100, holds: |r| r.number != 0 },
     Class { name: "accepted, naming none", least: 50, holds: |r| r.number == 0 && r.after() == After::Nothing },
