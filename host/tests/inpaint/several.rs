@@ -4,9 +4,9 @@ use cathar_host::both::{Both, Wrong};
 use cathar_host::count::{Class, Count};
 use cathar_host::inpaint::{Gap, GapAnswer, Lists, Several, MOST_GAPS};
 use cathar_host::recording::{counted, entry_words, in_range, Answer, Recording, BLOCK};
+use std::fmt;
 
 /// A list, what it was made on, and what the model answers.
-#[derive(Debug)]
 pub struct Call {
     pub before: Recording,
     /// How long the lists are: those of starts, lengths, numbers, values and orders.
@@ -19,6 +19,14 @@ pub struct Call {
     pub several: Several,
     /// Whether a count is not that of its block's marks after it.
     pub has_wrong_count: bool,
+}
+
+/// Of the recording only the number of samples is told.
+impl fmt::Debug for Call {
+    fn fmt(&self, formatter: &mut fmt::Formatter) -> fmt::Result {
+        let (samples, Call { lengths, passes, work, several, .. }) = (self.before.samples.len(), self);
+        write!(formatter, "{several:?} of lists of {lengths:?} in {samples} samples, {passes} passes, {work} doubles")
+    }
 }
 
 impl Call {
@@ -48,7 +56,7 @@ impl Call {
         self.lengths == as_long && self.lengths.iter().all(|length| *length <= MOST_GAPS) && self.is_refused()
     }
 
-    /// Whether the lists are refused where nothing would turn the first gap away when it is looked at.
+    /// Whether the lists are refused though neither 14 nor 1 to 7 would turn the first gap away.
     fn is_refused_with_gap(&self) -> bool {
         let n = self.before.samples.len();
         let is_right = |gap: Gap| !gap.is_outside(n) && gap.needed(n) <= self.work && !self.reads_out_of_range(gap);
@@ -85,7 +93,7 @@ impl Call {
         ends.map_or(false, |(first, last)| self.gaps()[first..last].iter().any(|(_, answer)| answer.number() == number))
     }
 
-    /// Whether two gaps were repaired, not always one directly behind the other, that are so.
+    /// Whether two gaps were repaired, the one some time before the other, that are so.
     fn has_two(&self, so: fn(Gap, Gap) -> bool) -> bool {
         let repaired = self.repaired();
         (1..repaired.len()).any(|later| repaired[..later].iter().any(|earlier| so(*earlier, repaired[later])))
@@ -113,7 +121,7 @@ impl Call {
         entries.len() > 1 && entries.iter().sum::<usize>() == self.before.journal.len() - self.before.used
     }
 
-    /// How many doubles are cleared, of several gaps; none, where fewer clear some.
+    /// How many doubles each gap cleared that cleared some.
     fn cleared(&self) -> Vec<usize> {
         let n = self.before.samples.len();
         let clear = self.gaps().iter().filter(|(_, answer)| matches!(answer.number(), 0 | 8 | 9));
@@ -151,7 +159,7 @@ pub const CLASSES: &[Class<Call>] = &[
     Class { name: "lists", least: 60_000, holds: |_| true },
     Class { name: "of no gap", least: 200, holds: |c| c.has(0) },
     Class {
-        name: "of no gap, on what turns every gap away",
+        name: "of no gap, where 1, 14, 2 or 3 applies",
         least: 100,
         holds: |c| c.has(0) && c.malformed().is_some(),
     },

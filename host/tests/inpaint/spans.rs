@@ -32,11 +32,11 @@ const TOO_MANY: [usize; 10] = [65, 66, 100, 128, 256, 257, 320, 1_000, 65_536, 6
 const PAIRED: usize = 3;
 const TRIPLED: usize = 2;
 
-/// Where lists come from: its name, and what makes them.
+/// A source of lists: its name, and what makes them.
 pub type Source = (&'static str, fn(&mut Splices, &mut Draw));
 
 pub const SOURCES: [Source; 14] = [
-    ("lengths right and wrong, and several refusals apply", refused),
+    ("right and wrong lengths, several refusals apply", refused),
     ("too many gaps", too_many),
     ("each number of counts", counts),
     ("beside the most samples", large),
@@ -203,6 +203,7 @@ fn each_short(longest: usize, put: &mut dyn FnMut(&[u32], &[Gap])) {
     });
 }
 
+/// All lists of two gaps.
 fn pairs(count: &mut Splices, draw: &mut Draw) {
     each_short(PAIRED, &mut |samples, gaps| {
         for one in gaps {
@@ -211,6 +212,7 @@ fn pairs(count: &mut Splices, draw: &mut Draw) {
     });
 }
 
+/// All lists of three.
 fn triples(count: &mut Splices, draw: &mut Draw) {
     each_short(TRIPLED, &mut |samples, gaps| {
         for number in 0..gaps.len().pow(3) {
