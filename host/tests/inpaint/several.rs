@@ -281,8 +281,8 @@ impl Splices {
         assert_eq!(self.undone, self.answers[0], "not every gap that was repaired was taken back");
     }
 
-    /// A list is made three ways, in a workspace of these patterns, and then taken back. The answer is the model's.
-    pub fn make(&mut self, mut both: Both, lists: Lists, passes: u32, work: Vec<u64>) -> Several {
+    /// A list is made three ways, in a workspace of these patterns, and then taken back.
+    pub fn make(&mut self, mut both: Both, lists: Lists, passes: u32, work: Vec<u64>) {
         let (before, lengths, doubles) = (both.model.clone(), lists.lengths(), work.len());
         let first = lists.gaps().first().copied();
         let singly = both.singly(&lists, passes, &work);
@@ -297,7 +297,6 @@ impl Splices {
         }
         let call = Call { before, lengths, first, passes, work: doubles, several, has_wrong_count };
         self.count.take(&call, &wrong);
-        call.several
     }
 
     /// Both sides take back each gap that was repaired, the last first, one by one. What is then not as before the call.
