@@ -1,6 +1,6 @@
 /* The functions of libcathar.a, for programs on x86-64 Linux, with names for limits, marks and answers, and
- * functions that say how much memory a call needs. examples/repair.c is such a program, with the command that
- * compiles it.
+ * functions that say how much memory a call needs. examples/repair.c and examples/gaps.c are such programs, each
+ * with the command that compiles it.
  *
  * Each is total: it asks nothing of its arguments but what C asks of a pointer, always returns, and touches
  * no memory but its own stack and what is lent to it. What each gives and leaves in that memory is proved,
@@ -55,13 +55,15 @@ float cathar_round(float x);
  *   used      one number: how many of the journal's words are taken, from its start on
  * An area and its length, in elements, follow each other. Each area has at least the length given for it. No
  * pointer is null, not even that of an area of length 0; each is aligned for its type; and no two areas
- * overlap, used, value, order and yes among them, nor a workspace, a list of orders, qualified or repaired.
+ * overlap, used, value, order and yes among them, nor a workspace, a list of orders, qualified or repaired, nor the
+ * lists of several gaps.
  *
  * A sample is in range if it is finite and its magnitude is at most CATHAR_LOUDEST. */
 #define CATHAR_MOST_SAMPLES 1048576     /* the most samples of a recording */
 #define CATHAR_BLOCK 256                /* how many samples share a count */
 #define CATHAR_LOUDEST 65536            /* the largest magnitude that is in range */
 #define CATHAR_MOST_BY_MODEL 2048       /* the longest gap that the model fills; a longer one becomes a line */
+#define CATHAR_MOST_GAPS 64             /* the most gaps that one call takes */
 #define CATHAR_MOST_RATE 16777216       /* the highest rate that a scan takes */
 #define CATHAR_HELD_RUN 16              /* so many equal words in range, or more, are a dropout; fewer are sound */
 #define CATHAR_LEAST_BITS 4             /* what the bits of both forms of dequantize are held to */
@@ -101,16 +103,18 @@ static inline size_t cathar_counts(size_t n)
 
 /* The answers. Each call on a recording, the question cathar_measured and the reading of frames answer CATHAR_ACCEPTED,
  * and else the number of the refusal. Where several apply, it is the first in the list of the call's refusals: they are
- * tested in the order of their numbers, but 14 directly after 1.
+ * tested in the order of their numbers, but 14 directly after 1, and 4 of cathar_inpaint_gaps before all others.
  *
  * A call that is refused leaves samples, marks, counts, journal and used as they were. Of its workspace 8 and 9 leave
  * the needed part cleared, and the others leave all of it. A scan, cathar_inpaint_auto, is several repairs, and answers
- * for the first of them that is refused: by 6 to 9 it tells of that run alone, and others may have been repaired. */
+ * for the first of them that is refused: by 6 to 9 it tells of that run alone, and others may have been repaired. A
+ * list of gaps, cathar_inpaint_gaps, is several repairs too: each gap has an answer of its own, and the call's is 4 or
+ * else 0, whatever became of the gaps. */
 #define CATHAR_ACCEPTED 0
 #define CATHAR_REFUSED_COUNTS 1         /* marks and samples differ in number; for the number of counts, see 14 */
 #define CATHAR_REFUSED_TOO_MANY 2       /* more than CATHAR_MOST_SAMPLES samples */
 #define CATHAR_REFUSED_USED 3           /* used exceeds the journal's length */
-#define CATHAR_REFUSED_SETTING 4        /* a setting is not allowed */
+#define CATHAR_REFUSED_SETTING 4        /* a setting is not allowed; too many gaps, or lists of different lengths */
 #define CATHAR_REFUSED_GAP 5            /* gap length 0, start at or past the end, or gap past the end; span past it */
 #define CATHAR_REFUSED_WORKSPACE 6      /* workspace shorter than needed */
 #define CATHAR_REFUSED_READ 7           /* a sample that the repair reads is not in range */
@@ -150,9 +154,10 @@ uint32_t cathar_read_frames(const uint8_t *frames, size_t frames_n, uint32_t *sa
  *   then m;
  *   then the mark that the repair set.
  * For so many repairs of n samples, whatever they name, this gives as many words as are enough, a scan counting as
- * one repair. (Those over the whole recording never name the first and the last sample; where they name all others,
- * as cathar_dequantize does, k of them take k times 3(n-2)+2 words. The runs of a scan take most where two zeros stand
- * directly before CATHAR_HELD_RUN equal words, again and again: 55 words for each 18 samples.) */
+ * one repair, and a list of gaps as one for each gap. (Those over the whole recording never name the first and the
+ * last sample; where they name all others, as cathar_dequantize does, k of them take k times 3(n-2)+2 words. The runs
+ * of a scan take most where two zeros stand directly before CATHAR_HELD_RUN equal words, again and again: 55 words for
+ * each 18 samples.) */
 static inline size_t cathar_journal_words(size_t n, size_t repairs)
 {
     return repairs * (3 * n + n / (CATHAR_HELD_RUN + 2) + 2);
@@ -261,6 +266,34 @@ static inline size_t cathar_longest_gap_work(size_t n, size_t longest)
     size_t by_model = cathar_gap_work(n, (n - len) / 2, len);
     return by_line > CATHAR_MOST_BY_MODEL && by_line > by_model ? by_line : by_model;
 }
+
+/* Repairs several gaps in one call, each as cathar_inpaint_gap does. starts and lens are lists of the same length, of
+ * CATHAR_MOST_GAPS at most: gap k is the lens[k] samples from starts[k] on. The gaps are repaired in the order given,
+ * each on what the ones before it left of recording and workspace, and a refused one does not end the list. They may
+ * overlap, touch and repeat. So samples, marks, counts, journal, used, work and all answers are those of single calls
+ * in turn.
+ * numbers, values and orders are lists as long as these, of any contents. Gap k has its answer in place k of them:
+ * numbers[k] receives CATHAR_ACCEPTED or the number of the gap's refusal, and values[k] and orders[k] what
+ * cathar_inpaint_gap would hand back in value and order.
+ * passes is for all gaps: any number is allowed, and every number gives the same.
+ * work is lent to the repair of one gap after the other, and left by each as cathar_inpaint_gap says; a gap for which
+ * it is too short has refusal 6. cathar_longest_gap_work(n, longest) doubles are enough for all gaps of at most
+ * `longest` samples.
+ * Each gap that is repaired has an entry of its own in the journal, so that cathar_undo takes back one gap at a time,
+ * the last one first. For all gaps 3*len+2 free words each are enough, and so are cathar_journal_words(n, starts_n).
+ * The call itself answers 0, or 4. Where it answers 4 nothing at all is done: no answer is written, and recording and
+ * workspace stay. Every other refusal is a gap's own, and stands in its place of numbers: 1, 14, 2 and 3, which are of
+ * the recording, stand in all places then. An empty list is accepted, and nothing is done, whatever the recording is.
+ * Refusals: 4, tested first. Refusal 4 is given where
+ *   starts_n exceeds CATHAR_MOST_GAPS, or
+ *   lens_n, numbers_n, values_n or orders_n is not starts_n.
+ * Refusals of each gap: 1, 14, 2, 3, 5, 6, 7, 8, 9. */
+uint32_t cathar_inpaint_gaps(uint32_t *samples, size_t n, uint8_t *marks, size_t marks_n,
+                             uint16_t *counts, size_t counts_n, uint32_t *journal, size_t journal_n, size_t *used,
+                             const size_t *starts, size_t starts_n, const size_t *lens, size_t lens_n, uint32_t passes,
+                             double *work, size_t work_n,
+                             uint32_t *numbers, size_t numbers_n, size_t *values, size_t values_n,
+                             uint32_t *orders, size_t orders_n);
 
 /* Finds the dropouts, from the first on, and repairs each as cathar_inpaint_gap does. A dropout is a
  * longest run of

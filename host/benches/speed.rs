@@ -1,12 +1,14 @@
 //! The time of the original Rust and of the library on the same inputs, in turn in one process, and whether they
 //! give the same samples: each repair in one recording, then how the times grow as the length of a gap doubles, or
-//! the number of samples; and the question whether a span was measured, beside looking at each mark. `host/bench` runs it.
+//! the number of samples; a list of gaps beside single calls; and the question whether a span was measured, beside
+//! looking at each mark. `host/bench` runs it.
 mod speed {
     pub mod clock;
     pub mod inputs;
     pub mod tasks;
 }
 
+use cathar_host::inpaint::MOST_GAPS;
 use cathar_host::recording::MOST_SAMPLES;
 use cathar_host::whole::Repair;
 use speed::inputs::{BITS, CLIP, DROPOUT, DROPOUT_STRETCH};
@@ -99,6 +101,12 @@ fn each_repair() {
     table(&format!("in {SAMPLES} samples"), false, lines);
 }
 
+/// A list of as many gaps as may be, beside single calls of the library in turn.
+fn list() {
+    let line = (format!("{MOST_GAPS} gaps of {SHORTEST}"), Task::List { len: SHORTEST }, SAMPLES);
+    table_beside("single calls", &format!("one list in {SAMPLES} samples"), false, vec![line]);
+}
+
 /// The question, of spans that begin with a recording of the most samples, all of which are measured.
 fn questions() {
     let lengths = successors(Some(SHORTEST_SPAN), |len| Some(4 * len)).take_while(|len| *len <= MOST_SAMPLES);
@@ -122,5 +130,6 @@ fn main() {
         by_samples(name, Task::Whole(repair));
     }
     by_samples("undo of dequantize", Task::Undo);
+    list();
     questions();
 }

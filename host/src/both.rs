@@ -2,7 +2,7 @@
 //! what is then not the same is told.
 use crate::call::Call;
 use crate::frames::{Read, Rooms};
-use crate::inpaint::{self, Gap, GapAnswer, Scan};
+use crate::inpaint::{self, Gap, GapAnswer, Lists, Scan, Several};
 use crate::lent::frames::Frames;
 use crate::lent::{Lent, VALUE_BEFORE};
 use crate::question::{Span, Told};
@@ -61,6 +61,33 @@ impl Both {
         let wrong = with_answer(self.lent.wrong(&self.model, answer.value()), number, answer.number());
         let wrong = with_part(wrong, "workspace", self.lent.holds_doubles(&work));
         (answer, with_part(wrong, "order", self.lent.holds_order(answer.order())))
+    }
+
+    /// Both sides repair the gaps of these lists in a workspace of these patterns.
+    pub fn inpaint_gaps(&mut self, mut lists: Lists, passes: u32, mut work: Vec<u64>) -> (Several, Wrong) {
+        self.lent.lend_doubles(&work);
+        self.lent.lend_gaps(&lists);
+        let call = Call::Gaps { passes };
+        let several = self.by_model(call, |model| inpaint::inpaint_gaps(model, &mut lists, passes, &mut work));
+        let number = self.lent.make(call);
+        let mut wrong = with_answer(self.lent.wrong_recording(&self.model), number, several.number());
+        wrong.extend(self.lent.wrong_lists(&lists));
+        (several, with_part(wrong, "workspace", self.lent.holds_doubles(&work)))
+    }
+
+    /// What the library makes of these lists by single calls in turn, on a copy of the recording and in a workspace of
+    /// these patterns.
+    pub fn singly(&self, lists: &Lists, passes: u32, work: &[u64]) -> Lent {
+        let mut lent = Lent::new(&self.model);
+        lent.lend_doubles(work);
+        lent.lend_gaps(lists);
+        lent.make_singly(passes);
+        lent
+    }
+
+    /// The parts that the library has left otherwise than single calls have.
+    pub fn not_as_singly(&self, singly: &Lent) -> Wrong {
+        self.lent.not_as_singly(singly)
     }
 
     /// Both sides scan in a workspace of these patterns, with a list of these words for the orders.

@@ -1,4 +1,4 @@
-//! A call of the library on a recording, without the memory that is lent to it.
+//! A call of the library on a recording, without the memory that is lent to it: of several gaps the lists are among that.
 use crate::inpaint::Gap;
 use crate::whole::Repair;
 
@@ -8,6 +8,7 @@ pub enum Call {
     OpenReceived,
     Undo,
     Gap { gap: Gap, passes: u32 },
+    Gaps { passes: u32 },
     Scan { rate: u32, max_gap_ms: f32 },
     Whole(Repair),
 }

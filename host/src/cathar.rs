@@ -78,6 +78,30 @@ mod exports {
             value: *mut usize,
             order: *mut u32,
         ) -> u32;
+        pub fn cathar_inpaint_gaps(
+            samples: *mut u32,
+            n: usize,
+            marks: *mut u8,
+            marks_n: usize,
+            counts: *mut u16,
+            counts_n: usize,
+            journal: *mut u32,
+            journal_n: usize,
+            used: *mut usize,
+            starts: *const usize,
+            starts_n: usize,
+            lens: *const usize,
+            lens_n: usize,
+            passes: u32,
+            work: *mut f64,
+            work_n: usize,
+            numbers: *mut u32,
+            numbers_n: usize,
+            values: *mut usize,
+            values_n: usize,
+            orders: *mut u32,
+            orders_n: usize,
+        ) -> u32;
         pub fn cathar_inpaint_auto(
             samples: *mut u32,
             n: usize,
@@ -321,6 +345,54 @@ pub fn inpaint_gap(
             work.len(),
             value,
             order,
+        )
+    }
+}
+
+/// Repairs several gaps, one after the other: each is the samples from its place of `starts` on, as many as its place
+/// of `lens` says. Answers 0, or 4 with nothing done. Each has its answer in its place: in `numbers` 0 or the number of
+/// the refusal, and in `values` and `orders` what `inpaint_gap` hands back.
+// The arguments are those of the C function.
+#[allow(clippy::too_many_arguments)]
+pub fn inpaint_gaps(
+    samples: &mut [u32],
+    marks: &mut [u8],
+    counts: &mut [u16],
+    journal: &mut [u32],
+    used: &mut usize,
+    starts: &[usize],
+    lens: &[usize],
+    passes: u32,
+    work: &mut [f64],
+    numbers: &mut [u32],
+    values: &mut [usize],
+    orders: &mut [u32],
+) -> u32 {
+    // As above.
+    unsafe {
+        exports::cathar_inpaint_gaps(
+            samples.as_mut_ptr(),
+            samples.len(),
+            marks.as_mut_ptr(),
+            marks.len(),
+            counts.as_mut_ptr(),
+            counts.len(),
+            journal.as_mut_ptr(),
+            journal.len(),
+            used,
+            starts.as_ptr(),
+            starts.len(),
+            lens.as_ptr(),
+            lens.len(),
+            passes,
+            work.as_mut_ptr(),
+            work.len(),
+            numbers.as_mut_ptr(),
+            numbers.len(),
+            values.as_mut_ptr(),
+            values.len(),
+            orders.as_mut_ptr(),
+            orders.len(),
         )
     }
 }

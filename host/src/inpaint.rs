@@ -1,8 +1,8 @@
 //! The repair of a gap and the automatic scan as document 01 has them, with the dropouts of request P1 of document 02,
-//! over the model of the recording. What they turn away and what they leave is written from the documents' text. The
-//! new samples are those that the original Rust computes, from its own files. The original answers no order, which
-//! request P8 asks for: that is worked out by a prediction step of the host's own, whose fill has to be the
-//! original's.
+//! and the list of gaps of its request P6, over the model of the recording. What they turn away and what they leave is
+//! written from the documents' text. The new samples are those that the original Rust computes, from its own files. The
+//! original answers no order, which request P8 asks for: that is worked out by a prediction step of the host's own,
+//! whose fill has to be the original's.
 use crate::original;
 use crate::prediction::{Reach, Window};
 use crate::recording::{in_range, Answer, Recording};
@@ -12,6 +12,9 @@ use std::ops::Range;
 
 /// The longest gap that is not filled by a straight line.
 const MOST_BY_MODEL: usize = 2048;
+
+/// The most gaps of a list: "up to 64 spans at once".
+pub const MOST_GAPS: usize = 64;
 
 /// The highest rate that a scan allows.
 pub const MOST_RATE: u32 = 16_777_216;
@@ -40,7 +43,7 @@ pub struct Gap {
 
 impl Gap {
     /// Refusal 5: "gap length 0, start at or past the end, or gap past the end".
-    fn is_outside(self, n: usize) -> bool {
+    pub fn is_outside(self, n: usize) -> bool {
         self.len == 0 || self.start >= n || self.start.checked_add(self.len).map_or(true, |end| end > n)
     }
 
@@ -59,7 +62,7 @@ impl Gap {
         self.start + self.len
     }
 
-    fn places(self) -> Range<usize> {
+    pub fn places(self) -> Range<usize> {
         self.start..self.end()
     }
 
@@ -201,6 +204,85 @@ fn repair(recording: &mut Recording, gap: Gap, passes: u32, work: &mut [u64]) ->
     work[..needed].fill(0);
     let named: Vec<(usize, u32)> = gap.places().zip(words).collect();
     GapAnswer { answer: recording.commit(gap.mark(), &named), reach }
+}
+
+/// The lists of several gaps: where each starts and how long it is, and the places for its answer. What these hold
+/// before the call is any.
+#[derive(Clone, Debug, Default, PartialEq, Eq)]
+pub struct Lists {
+    pub starts: Vec<usize>,
+    pub lens: Vec<usize>,
+    pub numbers: Vec<u32>,
+    pub values: Vec<usize>,
+    pub orders: Vec<u32>,
+}
+
+impl Lists {
+    /// How long each is: starts, lengths, numbers, values, orders.
+    pub fn lengths(&self) -> [usize; 5] {
+        [self.starts.len(), self.lens.len(), self.numbers.len(), self.values.len(), self.orders.len()]
+    }
+
+    /// Refusal 4: "for more than 64 spans or an answer list of another length". The lengths come in a list of their own,
+    /// which is as long too.
+    pub fn are_refused(&self) -> bool {
+        let [gaps, others @ ..] = self.lengths();
+        gaps > MOST_GAPS || others != [gaps; 4]
+    }
+
+    /// The gaps in the order given, as far as both lists go.
+    pub fn gaps(&self) -> Vec<Gap> {
+        self.starts.iter().zip(&self.lens).map(|(start, len)| Gap { start: *start, len: *len }).collect()
+    }
+}
+
+/// What a list of gaps answers.
+#[derive(Clone, Debug, PartialEq, Eq)]
+pub enum Several {
+    /// Refused as a whole, by 4.
+    Refused,
+    /// Each gap, in the order given, and the answer of its repair.
+    Made(Vec<(Gap, GapAnswer)>),
+}
+
+impl Several {
+    /// 4, or 0, whatever became of the gaps.
+    pub fn number(&self) -> u32 {
+        match self {
+            Several::Refused => 4,
+            Several::Made(_) => 0,
+        }
+    }
+
+    /// The gaps with their answers; none, where the list was refused.
+    pub fn gaps(&self) -> &[(Gap, GapAnswer)] {
+        match self {
+            Several::Refused => &[],
+            Several::Made(gaps) => gaps,
+        }
+    }
+
+    /// Those that were repaired.
+    pub fn repaired(&self) -> impl DoubleEndedIterator<Item = Gap> + '_ {
+        self.gaps().iter().filter(|(_, answer)| answer.number() == 0).map(|(gap, _)| *gap)
+    }
+}
+
+/// Several gaps in one call. "They are repaired in the order given, overlaps and repeats allowed, each with its own
+/// answer in its own place." "Refusals: 4 first .. with nothing done; all others are each span's own."
+pub fn inpaint_gaps(recording: &mut Recording, lists: &mut Lists, passes: u32, work: &mut [u64]) -> Several {
+    if lists.are_refused() {
+        return Several::Refused;
+    }
+    let mut made = Vec::new();
+    for (place, gap) in lists.gaps().into_iter().enumerate() {
+        let answer = inpaint_gap(recording, gap, passes, work);
+        lists.numbers[place] = answer.number();
+        lists.values[place] = answer.value();
+        lists.orders[place] = answer.order();
+        made.push((gap, answer));
+    }
+    Several::Made(made)
 }
 
 /// What a scan answers.

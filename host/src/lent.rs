@@ -1,14 +1,16 @@
 //! A recording's memory and the workspaces as they are lent to the library. Every part is the middle of a longer
 //! vector, and what stands around it has to stay.
 pub mod frames;
+mod several;
 
 use crate::call::Call;
 use crate::cathar;
-use crate::inpaint::Gap;
+use crate::inpaint::{Gap, Lists};
 use crate::question::{Span, Told};
 use crate::recording::Recording;
 use crate::whole::Repair;
 use crate::wrong;
+use several::Several;
 
 /// How many words stand before a part, and how many after it.
 pub(crate) const GUARDS: usize = 3;
@@ -89,6 +91,11 @@ impl<T: Word> Part<T> {
         let same = words.len() == lent.len() && lent.iter().zip(words).all(|(word, pattern)| word.pattern() == pattern);
         same && before.iter().chain(after).all(|word| word.pattern() == self.guard.pattern())
     }
+
+    /// Whether the other has the same words, the guards among them.
+    fn is_as(&self, other: &Part<T>) -> bool {
+        patterns(&self.whole).eq(patterns(&other.whole))
+    }
 }
 
 fn patterns<T: Word>(words: &[T]) -> impl ExactSizeIterator<Item = u64> + '_ {
@@ -121,8 +128,8 @@ pub(crate) fn counts(counts: &[u16]) -> Part<u16> {
 }
 
 /// A recording; two numbers that a call hands back, of which most calls have one or none; what the question hands
-/// back; the two workspaces, of which a call has one or none; the order that the repair of a gap hands back, and the
-/// list that a scan is lent for orders.
+/// back; the two workspaces, of which a call has one or none; the order that the repair of a gap hands back, the list
+/// that a scan is lent for orders, and the lists of several gaps.
 pub struct Lent {
     pub(crate) samples: Part<u32>,
     pub(crate) marks: Part<u8>,
@@ -135,11 +142,12 @@ pub struct Lent {
     pub(crate) words: Part<u32>,
     pub(crate) order: Part<u32>,
     pub(crate) orders: Part<u32>,
+    pub(crate) several: Several,
 }
 
 impl Lent {
-    /// The same words as the recording has, no workspace, and an empty list for orders. Around the journal stands 1,
-    /// which could be an entry's place, m or mark, so that a call that takes it for the journal's is found out too.
+    /// The same words as the recording has, no workspace, and empty lists. Around the journal stands 1, which could be
+    /// an entry's place, m or mark, so that a call that takes it for the journal's is found out too.
     pub fn new(recording: &Recording) -> Lent {
         Lent {
             samples: Part::new(&recording.samples, 0x5a5a_5a5a),
@@ -153,6 +161,7 @@ impl Lent {
             words: words(&[]),
             order: Part::new(&[ORDER_BEFORE], 0xa5a5_a5a5),
             orders: list(&[]),
+            several: Several::new(&Lists::default()),
         }
     }
 
@@ -240,11 +249,22 @@ impl Lent {
             Call::Gap { gap: Gap { start, len }, passes } => {
                 cathar::inpaint_gap(samples, marks, counts, journal, used, start, len, passes, work, value, order)
             }
+            Call::Gaps { passes } => self.inpaint_gaps(passes),
             Call::Scan { rate, max_gap_ms: ms } => {
                 cathar::inpaint_auto(samples, marks, counts, journal, used, rate, ms, work, orders, value, other)
             }
             Call::Whole(repair) => self.repair(repair),
         }
+    }
+
+    /// The library repairs the gaps of the lists.
+    fn inpaint_gaps(&mut self, passes: u32) -> u32 {
+        let (samples, marks, counts) = (self.samples.lend(), self.marks.lend(), self.counts.lend());
+        let (journal, used, work) = (self.journal.lend(), &mut self.used.lend()[0], self.doubles.lend());
+        let Several { starts, lens, numbers, values, orders } = &mut self.several;
+        let (starts, lens, numbers) = (starts.lent(), lens.lent(), numbers.lend());
+        let (values, orders) = (values.lend(), orders.lend());
+        cathar::inpaint_gaps(samples, marks, counts, journal, used, starts, lens, passes, work, numbers, values, orders)
     }
 
     /// The library makes a repair over the whole recording.

@@ -1,6 +1,7 @@
-//! What a call is lent beside the samples: marks, counts, a journal, a workspace and a list for orders, all of any
-//! words, and just long enough or not.
+//! What a call is lent beside the samples: marks, counts, a journal, a workspace, a list for orders and the lists of
+//! several gaps, all of any words, and just long enough or not.
 use crate::draw::Draw;
+use crate::inpaint::{Gap, Lists};
 use crate::recording::{blocks, Recording, BLOCK};
 
 /// How much is lent, by what is needed.
@@ -98,4 +99,15 @@ pub fn orders(draw: &mut Draw, n: usize) -> Vec<u32> {
         _ => n,
     };
     words(draw, length)
+}
+
+/// The lists of these gaps, of which those for the answers have so many places.
+pub fn lists(draw: &mut Draw, gaps: &[Gap], answers: usize) -> Lists {
+    Lists {
+        starts: gaps.iter().map(|gap| gap.start).collect(),
+        lens: gaps.iter().map(|gap| gap.len).collect(),
+        numbers: words(draw, answers),
+        values: work(draw, answers).into_iter().map(|word| word as usize).collect(),
+        orders: words(draw, answers),
+    }
 }

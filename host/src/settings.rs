@@ -1,6 +1,6 @@
 //! The settings of each repair: those on which something turns, and any.
 use crate::draw::Draw;
-use crate::inpaint::MOST_RATE;
+use crate::inpaint::{Gap, MOST_RATE};
 use crate::whole::Repair;
 
 /// Thresholds that are not allowed.
@@ -150,6 +150,18 @@ pub fn passes(draw: &mut Draw) -> u32 {
     match draw.below(200) {
         0 => u32::MAX,
         _ => draw.below(6) as u32,
+    }
+}
+
+/// A gap that is not within n samples: of no length, past the end, or at the end of what a number can be.
+pub fn outside(draw: &mut Draw, n: usize) -> Gap {
+    let start = draw.below(n as u64 + 1) as usize;
+    let more = 1 + draw.below(5) as usize;
+    match draw.below(4) {
+        0 => Gap { start, len: 0 },
+        1 => Gap { start, len: n - start + more },
+        2 => Gap { start: n + more - 1, len: more },
+        _ => Gap { start, len: usize::MAX - draw.below(2) as usize },
     }
 }
 

@@ -3,6 +3,14 @@
 //! second process, or in what a test keeps account of. With none of them a comparison finds no difference; with any
 //! one of them it has to find one. `CATHAR_WRONG` names the one that stands in, and `host/wrong` runs each and says
 //! which are found.
+
+/// A stand-in for the library: its name, what is wrong with it, and what it does.
+macro_rules! library {
+    ($name:expr, $says:expr, $makes:expr $(,)?) => {
+        $crate::wrong::Standin { name: $name, says: $says, how: $crate::wrong::How::Library($makes) }
+    };
+}
+
 mod counts;
 mod frames;
 mod gaps;
@@ -15,6 +23,7 @@ mod recording;
 mod scans;
 mod second;
 mod sequences;
+mod several;
 mod whole;
 
 use crate::call::Call;
@@ -86,7 +95,7 @@ pub enum Finds {
 }
 
 /// All of them.
-pub const TABLES: [&[Table]; 13] = [
+pub const TABLES: [&[Table]; 14] = [
     leaves::TABLES,
     recording::TABLES,
     received::TABLES,
@@ -94,6 +103,7 @@ pub const TABLES: [&[Table]; 13] = [
     scans::TABLES,
     held::TABLES,
     orders::TABLES,
+    several::TABLES,
     whole::TABLES,
     sequences::TABLES,
     counts::TABLES,

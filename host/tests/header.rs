@@ -13,7 +13,7 @@ use std::path::Path;
 use std::process::{Command, Stdio};
 
 /// How many functions there are.
-const EXPORTS: usize = 14;
+const EXPORTS: usize = 15;
 
 fn compiles(compiler: &str, standard: &str, language: &str) {
     let header = file("include/cathar.h");
@@ -45,13 +45,16 @@ fn in_c(type_: &str) -> &'static str {
         "&[u8]" => "const uint8_t *, size_t",
         "&[u16]" => "const uint16_t *, size_t",
         "&[u32]" => "const uint32_t *, size_t",
+        "&[usize]" => "const size_t *, size_t",
         "&mut [u8]" => "uint8_t *, size_t",
         "&mut [u16]" => "uint16_t *, size_t",
         "&mut [u32]" => "uint32_t *, size_t",
+        "&mut [usize]" => "size_t *, size_t",
         "&mut [f64]" => "double *, size_t",
         "*const u8" => "const uint8_t *",
         "*const u16" => "const uint16_t *",
         "*const u32" => "const uint32_t *",
+        "*const usize" => "const size_t *",
         "*mut u8" => "uint8_t *",
         "*mut u16" => "uint16_t *",
         "&mut u32" | "*mut u32" => "uint32_t *",
@@ -162,6 +165,7 @@ fn in_sources() -> BTreeMap<String, u64> {
         ("MOST_SAMPLES", "MOST_SAMPLES", "crates/recording/src/open.rt"),
         ("BLOCK", "BLOCK", "crates/recording/src/counts.rt"),
         ("MOST_BY_MODEL", "MAX_SOLVE", "crates/inpaint/src/window.rt"),
+        ("MOST_GAPS", "MOST_SPANS", "crates/inpaint/src/several.rt"),
         ("MOST_RATE", "MOST_RATE", "crates/inpaint/src/auto.rt"),
         ("HELD_RUN", "HELD_RUN", "crates/inpaint/src/auto.rt"),
         ("LEAST_BITS", "LEAST_BITS", "crates/dequant/src/lattice.rt"),
@@ -263,5 +267,7 @@ fn as_exported() {
     assert_eq!(exports.len(), EXPORTS);
     assert_eq!(declared_in_header(), exports, "the header, and what is exported");
     assert_eq!(declared("host/src/cathar.rs"), exports, "the declarations of this package, and what is exported");
-    assert!(declared("examples/repair.rs").is_subset(&exports), "the declarations of the example");
+    for example in ["examples/repair.rs", "examples/gaps.rs"] {
+        assert!(declared(example).is_subset(&exports), "the declarations of {example}");
+    }
 }

@@ -1,6 +1,6 @@
-//! The repair of a gap and the automatic scan against the model of the recording and the original Rust: every answer
-//! and value, the order of every gap's model, and every byte of the lent memory, a scan's list of orders among it,
-//! with what stands around each part of it.
+//! The repair of a gap, lists of gaps and the automatic scan against the model of the recording and the original Rust:
+//! every answer and value, the order of every gap's model, and every byte of the lent memory, the lists among it, with
+//! what stands around each part of it. Lists of gaps are also held to single calls of the library in turn.
 //!
 //! `CATHAR_SEED` sets the seed.
 mod inpaint {
@@ -11,7 +11,9 @@ mod inpaint {
     pub mod lists;
     pub mod orders;
     pub mod scans;
+    pub mod several;
     pub mod short;
+    pub mod spans;
 }
 
 use cathar_host::both::Both;
@@ -25,11 +27,12 @@ use cathar_host::room::{self, Room};
 use cathar_host::settings::{self, OfScan};
 use cathar_host::shapes::Shape;
 use cathar_host::sounds::Sound;
-use inpaint::gaps::{self, repair, repair_with, Gaps};
+use inpaint::gaps::{self, any_gap, repair, repair_with, Gaps};
 use inpaint::limits::{self, louder, Faults, LOUD, LOUDER_GAP, LOUD_GAP};
 use inpaint::orders::{self, Orders};
 use inpaint::scans::{self, dropped, scan, scan_any, Scans};
-use inpaint::{held, lengths, lists, short};
+use inpaint::several::Splices;
+use inpaint::{held, lengths, lists, short, spans};
 
 /// How many gaps are tried: in random short recordings over the alphabet, in short ones of each shape, by
 /// model and longer than 500, and by line.
@@ -43,13 +46,6 @@ const RANDOM_SCANS: u64 = 3_000;
 const SHAPED_SCANS: u64 = 250;
 const BLOCK_SCANS: u64 = 300;
 const LONG_SCANS: u64 = 150;
-
-/// A gap within n samples, mostly short.
-fn any_gap(draw: &mut Draw, n: usize) -> Gap {
-    let start = draw.below(n as u64) as usize;
-    let most = if draw.below(8) == 0 { n - start } else { (n - start).min(12) };
-    Gap { start, len: 1 + draw.below(most as u64) as usize }
-}
 
 fn repair_any(count: &mut Gaps, draw: &mut Draw, samples: &[u32], gap: Gap, passes: u32) {
     let room = [Room::any(draw), Room::any(draw)];
@@ -336,6 +332,37 @@ fn orders_of_scans() {
     count.begin("with a run by line");
     lists::lines(&mut count, &mut draw);
     count.close(seed);
+}
+
+#[test]
+fn several_gaps() {
+    let seed = draw::seed();
+    let mut draw = Draw::new(seed);
+    let mut count = Splices::new();
+    for (source, make) in spans::SOURCES {
+        count.begin(source);
+        make(&mut count, &mut draw);
+    }
+    count.close(seed);
+}
+
+/// A list by hand on *quiet*: its gap, one behind the end, and its gap again. Each has its own answer in its own place,
+/// and each of the two that are repaired its own entry, of which an undo takes back the last.
+#[test]
+fn several_by_hand() {
+    let tiny = 0x3080_0000;
+    let raw = [tiny, tiny, 0, 0, tiny, tiny];
+    let mut both = Both::new(Recording::new(raw.to_vec(), vec![0; 6], vec![0; 16], 0));
+    let gaps = [Gap { start: 2, len: 2 }, Gap { start: 6, len: 1 }, Gap { start: 2, len: 2 }];
+    let (several, wrong) = both.inpaint_gaps(room::lists(&mut Draw::new(1), &gaps, 3), 1, vec![u64::MAX; 210]);
+    let told: Vec<_> = several.gaps().iter().map(|(_, told)| (told.number(), told.value(), told.order())).collect();
+    assert_eq!((told, wrong), (vec![(0, 2, 0), (5, 0, 0), (0, 2, 0)], vec![]));
+    assert_eq!(both.model.journal, [2, 0, 0, 3, 0, 0, 2, 1, 2, 0x8000_0000, 1, 3, 0, 1, 2, 1]);
+    for (samples, marks, used) in [([tiny, tiny, 0x8000_0000, 0, tiny, tiny], [0, 0, 1, 1, 0, 0], 8), (raw, [0; 6], 0)]
+    {
+        assert_eq!(both.undo(), (Answer::Accepted(2), vec![]));
+        assert_eq!((&both.model.samples[..], &both.model.marks[..], both.model.used), (&samples[..], &marks[..], used));
+    }
 }
 
 /// The library repairs one gap of an opened recording with enough room, by a model of this order or by line, for which

@@ -4,7 +4,7 @@ use super::inputs;
 use cathar_host::call::Call;
 use cathar_host::cathar;
 use cathar_host::draw::{Draw, SEED};
-use cathar_host::inpaint::Gap;
+use cathar_host::inpaint::{Gap, Lists, MOST_GAPS};
 use cathar_host::lent::Lent;
 use cathar_host::original;
 use cathar_host::question::{by_each_mark, Span};
@@ -27,6 +27,9 @@ const LIMIT: f32 = 1.0;
 pub enum Task {
     /// The repair of one gap in the middle, in so many passes of the original.
     Gap { len: usize, passes: u32 },
+    /// The repair of as many gaps of this length as a list may have, all as far apart. In the original's place the
+    /// library makes single calls.
+    List { len: usize },
     /// A scan of a recording with dropouts.
     Scan,
     /// A repair over the whole recording.
@@ -58,6 +61,7 @@ impl Task {
         let draw = &mut Draw::new(SEED);
         match self {
             Task::Gap { len, passes } => gap(&inputs::tone(draw, n), Gap { start: (n - len) / 2, len }, passes),
+            Task::List { len } => list(&inputs::tone(draw, n), len),
             Task::Scan => scan(&inputs::with_dropouts(draw, n)),
             Task::Whole(repair) => whole(&inputs::worn(draw, n), repair),
             Task::Undo => undo(&inputs::worn(draw, n)),
@@ -76,6 +80,30 @@ fn gap(samples: &[f32], gap: Gap, passes: u32) -> Times {
         |lent| lent.lend_doubles(&work),
         Call::Gap { gap, passes },
     )
+}
+
+/// A list of gaps and single calls, with the workspace that one of them needs. Both have to leave the same of all that
+/// is lent, and other samples than they found.
+fn list(samples: &[f32], len: usize) -> Times {
+    let n = samples.len();
+    let stretch = n / MOST_GAPS;
+    let starts: Vec<usize> = (0..MOST_GAPS).map(|gap| gap * stretch + stretch / 2).collect();
+    let (lens, none) = (vec![len; MOST_GAPS], vec![0; MOST_GAPS]);
+    let lists = Lists { starts, lens, numbers: none.clone(), values: vec![0; MOST_GAPS], orders: none };
+    let (recording, work) = (opened(samples, n), vec![0; Gap { start: n / 2, len }.needed(n)]);
+    least(|| {
+        let [mut together, mut singly] = [(); 2].map(|_| {
+            let mut lent = Lent::new(&recording);
+            lent.lend_doubles(&work);
+            lent.lend_gaps(&lists);
+            lent
+        });
+        let (theirs, ()) = timed(|| singly.make_singly(1));
+        let (ours, number) = timed(|| together.make(Call::Gaps { passes: 1 }));
+        assert_eq!((number, together.not_as_singly(&singly)), (0, vec![]));
+        assert!(together.samples() != recording.samples, "the samples are as they were");
+        Times { original: Some(theirs), library: ours }
+    })
 }
 
 /// A scan, with the workspace that the longest of its dropouts needs, and a list for the orders of all samples.

@@ -2,7 +2,7 @@
 //! every call, and is tried in each.
 use super::recording::{copy_first, copy_last, open_and, refused_and, where_also};
 use super::sequences::{named, taken_back};
-use super::How::{Alike, Library, Model};
+use super::How::{Alike, Model};
 use super::{Finds, Standin, Table};
 use crate::call::Call;
 use crate::inpaint::qualified;
@@ -12,13 +12,6 @@ use crate::recording::{blocks, counted, is_made, not_measured, Recording, BLOCK,
 /// The stand-ins that one test has to find.
 const fn table(file: &'static str, test: &'static str, standins: &'static [Standin]) -> Table {
     Table { file, test, finds: Finds::Always, standins }
-}
-
-/// A stand-in for the library: its name, what is wrong with it, and what it does.
-macro_rules! library {
-    ($name:expr, $says:expr, $makes:expr $(,)?) => {
-        Standin { name: $name, says: $says, how: Library($makes) }
-    };
 }
 
 /// What a repair or an undo that names samples makes of the counts.
@@ -275,6 +268,7 @@ pub(super) const TABLES: &[Table] = &[
     table("inpaint", "scanned", of_values!("scan")),
     table("inpaint", "scanned", of_work!("scan")),
     table("inpaint", "scanned", OF_SCANS),
+    table("inpaint", "several_gaps", of_recounts!("several")),
     table("whole", "declips", of_recounts!("declip")),
     table("whole", "declips", of_refusals!("declip")),
     table("whole", "declips", of_values!("declip")),

@@ -2,7 +2,7 @@
 //! prediction step.
 use super::gaps::{model_order, order, within};
 use super::scans::{allowed, answer_of, runs_of};
-use super::How::{Lags, Library};
+use super::How::Lags;
 use super::{Finds, Standin, Table};
 use crate::call::Call;
 use crate::inpaint::{Gap, SCAN_PASSES};
@@ -18,13 +18,6 @@ pub(super) const TABLES: &[Table] = &[
     Table { file: "inpaint", test: "orders_of_gaps", finds: Finds::Always, standins: OF_OWN_STEP },
     Table { file: "sequences", test: "all_calls", finds: Finds::Always, standins: OF_SEQUENCES },
 ];
-
-/// A stand-in for the library: its name, what is wrong with it, and what it does.
-macro_rules! library {
-    ($name:expr, $says:expr, $makes:expr $(,)?) => {
-        Standin { name: $name, says: $says, how: Library($makes) }
-    };
-}
 
 /// What is told of an accepted gap.
 const OF_GAPS: &[Standin] = &[

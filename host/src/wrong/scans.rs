@@ -1,4 +1,5 @@
 //! Stand-ins for the automatic scan, most of them made of repairs of single gaps.
+use super::sequences::join_entries;
 use super::How::Library;
 use super::{Finds, Standin, Table};
 use crate::call::Call;
@@ -512,21 +513,11 @@ fn scan_counts_samples(lent: &mut Lent, call: Call) -> u32 {
 
 fn scan_one_entry(lent: &mut Lent, call: Call) -> u32 {
     let before = lent.recording();
-    let runs = runs_of(lent, call);
     let number = lent.call(call);
-    if number == 0 && runs.len() > 1 {
-        let after = lent.recording();
-        let mut entry = Vec::new();
-        let mut at = before.used;
-        for run in &runs {
-            entry.extend(&after.journal[at..at + 3 * run.len]);
-            at += 3 * run.len + 2;
-        }
-        entry.extend([entry.len() as u32 / 3, after.journal[at - 1]]);
-        let journal = lent.journal.lend();
-        journal.copy_from_slice(&before.journal);
-        journal[before.used..][..entry.len()].copy_from_slice(&entry);
-        lent.used.lend()[0] = before.used + entry.len();
+    let mut after = lent.recording();
+    if after.used > before.used {
+        join_entries(&before, &mut after);
+        lent.put(&after);
     }
     number
 }

@@ -474,7 +474,7 @@ const OF_ACCOUNT: &[Standin] = &[
 ];
 
 /// The library makes the call, and what it left is altered.
-fn altered(lent: &mut Lent, call: Call, alters: Alters) -> u32 {
+pub(super) fn altered(lent: &mut Lent, call: Call, alters: Alters) -> u32 {
     let before = lent.recording();
     let number = lent.call(call);
     let mut after = lent.recording();
@@ -484,7 +484,7 @@ fn altered(lent: &mut Lent, call: Call, alters: Alters) -> u32 {
 }
 
 /// The entries from this word on up to used: where each starts, and how many samples it names.
-fn entries(of: &Recording, from: usize) -> Vec<(usize, usize)> {
+pub(super) fn entries(of: &Recording, from: usize) -> Vec<(usize, usize)> {
     let mut found = Vec::new();
     let mut end = of.used;
     while end > from {
@@ -494,6 +494,39 @@ fn entries(of: &Recording, from: usize) -> Vec<(usize, usize)> {
     }
     found.reverse();
     found
+}
+
+/// The entries that a call has made come in the other order.
+pub(super) fn reverse_entries(before: &Recording, after: &mut Recording) {
+    let entry = |(start, m): (usize, usize)| after.journal[start..start + entry_words(m)].to_vec();
+    let reversed: Vec<u32> = entries(after, before.used).into_iter().rev().flat_map(entry).collect();
+    put_entries(before, after, &reversed);
+}
+
+/// The entries that a call has made, if there are several, become one, with the mark of the last.
+pub(super) fn join_entries(before: &Recording, after: &mut Recording) {
+    let found = entries(after, before.used);
+    if found.len() > 1 {
+        let named = found.into_iter().flat_map(|(start, m)| after.journal[start..start + 3 * m].to_vec());
+        let mut entry: Vec<u32> = named.collect();
+        entry.extend([entry.len() as u32 / 3, after.journal[after.used - 1]]);
+        put_entries(before, after, &entry);
+    }
+}
+
+/// Of the entries that a call has made only the first stays.
+pub(super) fn enter_first(before: &Recording, after: &mut Recording) {
+    if let Some((start, m)) = entries(after, before.used).first().copied() {
+        let entry = after.journal[start..start + entry_words(m)].to_vec();
+        put_entries(before, after, &entry);
+    }
+}
+
+/// The entries that a call has made become these words.
+pub(super) fn put_entries(before: &Recording, after: &mut Recording, words: &[u32]) {
+    after.journal = before.journal.clone();
+    after.used = before.used + words.len();
+    after.journal[before.used..after.used].copy_from_slice(words);
 }
 
 /// Where the entries from this word on have a sample: the place, and after it the old word and the old mark.
@@ -694,17 +727,14 @@ fn entry_a_place_too_few(_: Call, before: &Recording, after: &mut Recording) {
 }
 
 fn scan_enters_first_run(call: Call, before: &Recording, after: &mut Recording) {
-    if let (Call::Scan { .. }, Some((second, _))) = (call, entries(after, before.used).get(1)) {
-        after.journal[*second..after.used].fill(0);
-        after.used = *second;
+    if let Call::Scan { .. } = call {
+        enter_first(before, after);
     }
 }
 
 fn scan_enters_runs_reversed(call: Call, before: &Recording, after: &mut Recording) {
     if let Call::Scan { .. } = call {
-        let entry = |(start, m): (usize, usize)| after.journal[start..start + entry_words(m)].to_vec();
-        let reversed: Vec<u32> = entries(after, before.used).into_iter().rev().flat_map(entry).collect();
-        after.journal[before.used..before.used + reversed.len()].copy_from_slice(&reversed);
+        reverse_entries(before, after);
     }
 }
 

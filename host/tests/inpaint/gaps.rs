@@ -128,6 +128,13 @@ pub const CLASSES: &[Class<Call>] = &[
     Class { name: "journal one short", least: 100, holds: Call::is_one_word_short },
 ];
 
+/// A gap within n samples, mostly short.
+pub fn any_gap(draw: &mut Draw, n: usize) -> Gap {
+    let start = draw.below(n as u64) as usize;
+    let most = if draw.below(8) == 0 { n - start } else { (n - start).min(12) };
+    Gap { start, len: 1 + draw.below(most as u64) as usize }
+}
+
 /// Both sides repair the gap in a workspace of these patterns. The answer is the model's.
 pub fn repair(count: &mut Gaps, both: &mut Both, gap: Gap, passes: u32, work: Vec<u64>) -> GapAnswer {
     let (samples, lent) = (both.model.samples.len(), work.len());

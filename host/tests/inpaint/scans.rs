@@ -3,7 +3,7 @@ use cathar_host::both::{Both, Wrong};
 use cathar_host::count::{Class, Count};
 use cathar_host::damage;
 use cathar_host::draw::Draw;
-use cathar_host::inpaint::{limit, qualified, scanned_by_original, Scan};
+use cathar_host::inpaint::{limit, qualified, scanned_by_original, Gap, Scan};
 use cathar_host::recording::{entry_words, Recording, BLOCK};
 use cathar_host::room::{self, Room};
 use cathar_host::settings::OfScan;
@@ -121,10 +121,15 @@ pub fn scan_any(count: &mut Scans, draw: &mut Draw, samples: &[u32], settings: O
     scan(count, &mut Both::new(model), settings, work, room::orders(&mut draw.aside(), samples.len()))
 }
 
-/// What is lent to a scan of these samples. The workspace is enough for all runs or one short for the longest, and the
-/// journal enough for all or one short for the last, or both are enough for any one of the runs and no more.
+/// What is lent to a scan of these samples.
 pub fn any_room(draw: &mut Draw, samples: &[u32], settings: OfScan) -> (Recording, Vec<u64>) {
     let runs = qualified(samples, settings.0, settings.1).unwrap_or_default();
+    any_room_for(draw, samples, &runs)
+}
+
+/// What is lent to the repairs of these runs. The workspace is enough for all of them or one short for the longest, and
+/// the journal enough for all or one short for the last, or both are enough for any one of the runs and no more.
+pub fn any_room_for(draw: &mut Draw, samples: &[u32], runs: &[Gap]) -> (Recording, Vec<u64>) {
     let needed: Vec<usize> = runs.iter().map(|run| run.needed(samples.len())).collect();
     let entries: Vec<usize> = runs.iter().map(|run| entry_words(run.len)).collect();
     let mut work = needed.iter().copied().max().unwrap_or(1);

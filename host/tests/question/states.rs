@@ -52,6 +52,11 @@ impl Reached {
             _ => After::Repair,
         }
     }
+
+    /// Whether it is a list of gaps of which one was repaired.
+    fn is_by_list(&self) -> bool {
+        matches!(self.call, Call::Gaps { .. }) && self.named > 0
+    }
 }
 
 /// What the calls have to be, all of them together.
@@ -61,6 +66,7 @@ pub const CLASSES: &[Class<Reached>] = &[
     Class { name: "opened as received", least: 300, holds: |r| r.call == Call::OpenReceived },
     Class { name: "naming a sample", least: 2_000, holds: |r| r.after() == After::Repair },
     Class { name: "naming 256 or more", least: 100, holds: |r| r.after() == After::Repair && r.named >= BLOCK },
+    Class { name: "naming a sample by a list of gaps", least: 200, holds: Reached::is_by_list },
     Class { name: "undone", least: 800, holds: |r| r.after() == After::Undo },
     Class { name: "refused", least: 100, holds: |r| r.number != 0 },
     Class { name: "accepted, naming none", least: 50, holds: |r| r.number == 0 && r.after() == After::Nothing },
@@ -112,6 +118,7 @@ pub fn call(draw: &mut Draw, on: &Recording) -> Call {
         21..=24 => Call::Whole(settings::decrackle(draw, samples)),
         25 => Call::Whole(settings::dequantize(draw, samples)),
         26 => Call::Whole(settings::cosparse(draw, samples)),
+        27..=30 => Call::Gaps { passes: 1 },
         _ => Call::Gap { gap: run(draw, samples.len()), passes: 1 },
     }
 }
@@ -135,6 +142,13 @@ pub fn make(draw: &mut Draw, both: &mut Both, call: Call) -> (Reached, Wrong) {
             let work = if gap.len == 0 { 0 } else { gap.needed(n) };
             let (told, wrong) = both.inpaint_gap(gap, passes, room::work(draw, work));
             of_answer((told.answer, wrong))
+        }
+        Call::Gaps { passes } => {
+            let gaps: Vec<Gap> = (0..draw.below(5)).map(|_| run(draw, n)).collect();
+            let needed = gaps.iter().filter(|gap| !gap.is_outside(n)).map(|gap| gap.needed(n)).max();
+            let (lists, work) = (room::lists(draw, &gaps, gaps.len()), room::work(draw, needed.unwrap_or(0)));
+            let (several, wrong) = both.inpaint_gaps(lists, passes, work);
+            (several.number(), several.repaired().map(|gap| gap.len).sum(), wrong)
         }
         Call::Scan { rate, max_gap_ms } => {
             let orders = room::orders(&mut draw.aside(), n);

@@ -1,9 +1,9 @@
 //! Any recording, and any call on a recording.
-use super::calls::Call;
+use super::calls::{Call, Spans};
 use cathar_host::damage::{self, DROPOUTS, ZEROS};
 use cathar_host::draw::Draw;
 use cathar_host::frames::{self, Rooms, FRAME_WORDS};
-use cathar_host::inpaint::{qualified, Gap};
+use cathar_host::inpaint::{qualified, Gap, MOST_GAPS};
 use cathar_host::recording::{entry_words, in_range, Recording, NOT_RECEIVED};
 use cathar_host::room::{self, Room};
 use cathar_host::settings::{self, NO_SCANS, UNLIMITED, USUAL};
@@ -18,8 +18,10 @@ const LONG: u64 = 300;
 /// The fewest samples of a gap that is filled by a line.
 const LINE: usize = 2049;
 
-/// The most samples of a recording in which a scan may find a run every few samples.
+/// The most samples of a recording in which a scan may find a run every few samples, and of one on which a list has as
+/// many gaps as may be.
 const FULL_OF_RUNS: usize = 300;
+const FEW: usize = 40;
 
 /// Whether it is that one time in so many.
 fn once_in(draw: &mut Draw, times: u64) -> bool {
@@ -154,38 +156,52 @@ fn journal(draw: &mut Draw, n: usize, repairs: usize) -> usize {
 
 /// Any call: mostly a repair, and one in six times an undo.
 pub fn call(draw: &mut Draw, on: &Recording) -> Call {
-    match draw.below(96) {
+    match draw.below(102) {
         0 => opening(draw),
         1..=16 => Call::Undo,
         17..=40 => gap(draw, &on.samples),
         41..=56 => scan(draw, &on.samples),
+        57..=62 => list(draw, &on.samples),
         _ => whole(draw, &on.samples),
     }
 }
 
-/// The repair of any gap: one that is not within the samples, one over samples that are not in range, or any.
-fn gap(draw: &mut Draw, samples: &[u32]) -> Call {
+/// Any gap: one that is not within the samples, one over samples that are not in range, or any.
+fn span(draw: &mut Draw, samples: &[u32]) -> Gap {
     let n = samples.len();
-    let passes = settings::passes(draw);
     if n == 0 || once_in(draw, 12) {
-        let gap = outside(draw, n);
-        return Call::Gap { gap, passes, work: draw.below(3_000) as usize };
+        return settings::outside(draw, n);
     }
     let over = if once_in(draw, 2) { out_of_range(draw, samples) } else { None };
-    let gap = over.unwrap_or_else(|| within(draw, n));
-    Call::Gap { gap, passes, work: Room::any(draw).of(draw, gap.needed(n)) }
+    over.unwrap_or_else(|| within(draw, n))
 }
 
-/// A gap that is not within n samples: of no length, past the end, or at the end of what a number can be.
-fn outside(draw: &mut Draw, n: usize) -> Gap {
-    let start = draw.below(n as u64 + 1) as usize;
-    let more = 1 + draw.below(5) as usize;
-    match draw.below(4) {
-        0 => Gap { start, len: 0 },
-        1 => Gap { start, len: n - start + more },
-        2 => Gap { start: n + more - 1, len: more },
-        _ => Gap { start, len: usize::MAX - draw.below(2) as usize },
+/// The repair of any gap.
+fn gap(draw: &mut Draw, samples: &[u32]) -> Call {
+    let (n, passes, gap) = (samples.len(), settings::passes(draw), span(draw, samples));
+    let work = if gap.is_outside(n) { draw.below(3_000) as usize } else { Room::any(draw).of(draw, gap.needed(n)) };
+    Call::Gap { gap, passes, work }
+}
+
+/// A list of any gaps, of which some come again: mostly of a few, at times of none, and of the most or one more where
+/// there are few samples. Rarely the lists for the answers have another length.
+fn list(draw: &mut Draw, samples: &[u32]) -> Call {
+    let (n, passes) = (samples.len(), settings::passes(draw));
+    let count = match draw.below(64) {
+        0..=3 => 0,
+        4 if n <= FEW => MOST_GAPS,
+        5 if n <= FEW => MOST_GAPS + 1,
+        _ => from_to(draw, 1, 6),
+    };
+    let mut gaps: Vec<Gap> = Vec::new();
+    while gaps.len() < count {
+        let again = !gaps.is_empty() && once_in(draw, 6);
+        let gap = if again { gaps[from_to(draw, 0, gaps.len() - 1)] } else { span(draw, samples) };
+        gaps.push(gap);
     }
+    let answers = if once_in(draw, 16) { from_to(draw, 0, count + 1) } else { count };
+    let work = work_for(draw, gaps.iter().filter(|gap| !gap.is_outside(n)).map(|gap| gap.needed(n)).collect());
+    Call::Gaps { spans: Spans::new(&gaps), answers, passes, work }
 }
 
 /// The samples that are not in range, from any one of them on and back to the first beside it; nothing, where all
@@ -212,7 +228,7 @@ fn within(draw: &mut Draw, n: usize) -> Gap {
     Gap { start, len: 1 + draw.below(most.min((n - start) as u64)) as usize }
 }
 
-/// Any scan. Its workspace is mostly enough for all runs, and at times for any one of them.
+/// Any scan.
 fn scan(draw: &mut Draw, samples: &[u32]) -> Call {
     let limit = from_to(draw, 3, 18);
     let settings = match draw.below(16) {
@@ -222,13 +238,19 @@ fn scan(draw: &mut Draw, samples: &[u32]) -> Call {
         _ => UNLIMITED,
     };
     let runs = qualified(samples, settings.0, settings.1).unwrap_or_default();
-    let needs: Vec<usize> = runs.iter().map(|run| run.needed(samples.len())).collect();
+    let work = work_for(draw, runs.iter().map(|run| run.needed(samples.len())).collect());
+    Call::Scan { settings, work }
+}
+
+/// How long a workspace is for repairs that need so many doubles each: mostly enough for all, and at times for any one of
+/// them.
+fn work_for(draw: &mut Draw, needs: Vec<usize>) -> usize {
     let needed = match needs.len() {
         0 => draw.below(100) as usize,
         count if once_in(draw, 6) => needs[draw.below(count as u64) as usize],
         _ => needs.into_iter().max().unwrap_or(0),
     };
-    Call::Scan { settings, work: Room::any(draw).of(draw, needed) }
+    Room::any(draw).of(draw, needed)
 }
 
 /// Any of the four repairs over the whole recording.

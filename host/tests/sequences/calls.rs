@@ -1,19 +1,50 @@
 //! A call of the library on a recording, and what comes of it on both sides.
 use cathar_host::both::{Both, Wrong};
 use cathar_host::draw::Draw;
-use cathar_host::inpaint::{Gap, Scan, SCAN_PASSES};
+use cathar_host::inpaint::{Gap, GapAnswer, Scan, MOST_GAPS, SCAN_PASSES};
 use cathar_host::recording::Answer;
 use cathar_host::room;
 use cathar_host::settings::OfScan;
 use cathar_host::whole::{needed, Repair};
+use std::fmt;
 
-/// Any call but those of the float leaves, which have no recording. `work` is how long the workspace is.
+/// The gaps of a list, in their order: one more than may be is the most.
+#[derive(Clone, Copy, PartialEq)]
+pub struct Spans {
+    gaps: [Gap; MOST_GAPS + 1],
+    count: usize,
+}
+
+impl Spans {
+    /// These gaps.
+    pub fn new(of: &[Gap]) -> Spans {
+        let mut gaps = [Gap { start: 0, len: 0 }; MOST_GAPS + 1];
+        gaps[..of.len()].copy_from_slice(of);
+        Spans { gaps, count: of.len() }
+    }
+
+    pub fn gaps(&self) -> &[Gap] {
+        &self.gaps[..self.count]
+    }
+}
+
+impl fmt::Debug for Spans {
+    fn fmt(&self, formatter: &mut fmt::Formatter) -> fmt::Result {
+        self.gaps().fmt(formatter)
+    }
+}
+
+/// Any call but those of the float leaves, which have no recording. `work` is how long the workspace is, and `answers`
+/// how many places the lists for the answers have.
+// A call is copied as it is, with the gaps of a list in it.
+#[allow(clippy::large_enum_variant)]
 #[derive(Clone, Copy, Debug, PartialEq)]
 pub enum Call {
     Open,
     OpenReceived,
     Undo,
     Gap { gap: Gap, passes: u32, work: usize },
+    Gaps { spans: Spans, answers: usize, passes: u32, work: usize },
     Scan { settings: OfScan, work: usize },
     Whole { repair: Repair, work: usize },
 }
@@ -28,11 +59,19 @@ pub struct Outcome {
     pub number: u32,
     /// What an undo took back, m; 0 for all else.
     pub undone: usize,
-    /// The single repairs that were accepted and named a sample, in their order. Of a scan those of its runs.
+    /// The single repairs that were accepted and named a sample, in their order. Of a scan or a list those of its runs or
+    /// gaps.
     pub named: Vec<Named>,
-    /// How many runs of a scan were refused, and how many that were repaired are of held words.
-    pub refused_runs: usize,
+    /// The numbers of those runs or gaps that were refused, and how many runs that were repaired are of held words.
+    pub refused: Vec<u32>,
     pub held_runs: usize,
+}
+
+impl Outcome {
+    /// All numbers that are answered, by the call and by its runs or gaps.
+    pub fn numbers(&self) -> impl Iterator<Item = u32> + '_ {
+        self.refused.iter().copied().chain([self.number])
+    }
 }
 
 impl Call {
@@ -41,7 +80,8 @@ impl Call {
         matches!(self, Call::Open | Call::OpenReceived)
     }
 
-    /// Both sides make the call, in a workspace of any words and with any list for orders. The outcome is the model's.
+    /// Both sides make the call, in a workspace of any words and with any words in the lists that it writes. The outcome
+    /// is the model's.
     pub fn make(self, draw: &mut Draw, both: &mut Both) -> (Outcome, Wrong) {
         let n = both.model.samples.len();
         match self {
@@ -56,6 +96,11 @@ impl Call {
             Call::Gap { gap, passes, work } => {
                 let (told, wrong) = both.inpaint_gap(gap, passes, room::work(draw, work));
                 (of_repair(told.answer, || of_gap(gap, passes, n)), wrong)
+            }
+            Call::Gaps { spans, answers, passes, work } => {
+                let lists = room::lists(&mut draw.aside(), spans.gaps(), answers);
+                let (several, wrong) = both.inpaint_gaps(lists, passes, room::work(draw, work));
+                (of_several(several.number(), several.gaps(), passes, n), wrong)
             }
             Call::Scan { settings, work } => {
                 let before = both.model.samples.clone();
@@ -78,7 +123,7 @@ fn of_gap(gap: Gap, passes: u32, n: usize) -> Call {
 
 /// The outcome of a call that names no sample.
 fn of_answer(answer: Answer) -> Outcome {
-    Outcome { number: answer.number(), undone: 0, named: Vec::new(), refused_runs: 0, held_runs: 0 }
+    Outcome { number: answer.number(), undone: 0, named: Vec::new(), refused: Vec::new(), held_runs: 0 }
 }
 
 /// The outcome of a single repair, which is this one with just enough workspace.
@@ -89,11 +134,16 @@ fn of_repair(answer: Answer, exact: impl FnOnce() -> Call) -> Outcome {
     }
 }
 
+/// The outcome of a call that answers with this number and repairs several gaps among n samples, each with its answer.
+fn of_several(number: u32, gaps: &[(Gap, GapAnswer)], passes: u32, n: usize) -> Outcome {
+    let accepted = gaps.iter().filter(|(_, answer)| answer.number() == 0);
+    let named = accepted.map(|(gap, answer)| (of_gap(*gap, passes, n), answer.value())).collect();
+    let refused = gaps.iter().map(|(_, answer)| answer.number()).filter(|number| *number != 0).collect();
+    Outcome { number, undone: 0, named, refused, held_runs: 0 }
+}
+
 /// The outcome of a scan of these samples: "each run is one gap repair with its own answer".
 fn of_runs(scan: &Scan, before: &[u32]) -> Outcome {
-    let accepted = scan.runs().iter().filter(|(_, answer)| answer.number() == 0);
-    let held_runs = accepted.clone().filter(|(run, _)| run.is_held(before)).count();
-    let named = accepted.map(|(run, answer)| (of_gap(*run, SCAN_PASSES, before.len()), answer.value())).collect();
-    let refused_runs = scan.qualified() - scan.repaired();
-    Outcome { number: scan.number(), undone: 0, named, refused_runs, held_runs }
+    let held = scan.runs().iter().filter(|(run, answer)| answer.number() == 0 && run.is_held(before));
+    Outcome { held_runs: held.count(), ..of_several(scan.number(), scan.runs(), SCAN_PASSES, before.len()) }
 }

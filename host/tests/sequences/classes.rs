@@ -1,6 +1,6 @@
 //! What the calls and the sequences have to be.
 use super::calls::Call;
-use super::history::{History, Step, Survivor};
+use super::history::{History, Several, Step, Survivor};
 use cathar_host::count::Class;
 use cathar_host::recording::{entry_words, NOT_RECEIVED};
 use cathar_host::whole::Repair;
@@ -13,6 +13,7 @@ enum Kind {
     Undo,
     Gap,
     Line,
+    List,
     Scan,
     Declip,
     Decrackle,
@@ -28,6 +29,7 @@ fn kind(call: Call) -> Kind {
         Call::Undo => Kind::Undo,
         Call::Gap { gap, .. } if gap.is_line() => Kind::Line,
         Call::Gap { .. } => Kind::Gap,
+        Call::Gaps { .. } => Kind::List,
         Call::Scan { .. } => Kind::Scan,
         Call::Whole { repair: Repair::Declip { .. }, .. } => Kind::Declip,
         Call::Whole { repair: Repair::Decrackle { .. }, .. } => Kind::Decrackle,
@@ -67,6 +69,16 @@ impl Step {
         self.outcome.number
     }
 
+    /// Whether runs or gaps of it were refused.
+    fn is_refused_in_part(&self) -> bool {
+        !self.outcome.refused.is_empty()
+    }
+
+    /// Whether it is a list of so many gaps.
+    fn is_list(&self, so: fn(usize) -> bool) -> bool {
+        matches!(self.call, Call::Gaps { spans, .. } if so(spans.gaps().len()))
+    }
+
     /// Whether its entries take all the words that were free.
     fn fills_journal(&self) -> bool {
         self.names() && self.outcome.named.iter().map(|(_, m)| entry_words(*m)).sum::<usize>() == self.free
@@ -77,9 +89,14 @@ impl Step {
         self.undone.map_or(false, |survivor| survivor.over_missing)
     }
 
-    /// Whether it is a run of a scan that was undone.
-    fn undoes_run(&self) -> bool {
-        self.undone.map_or(false, |survivor| survivor.scan.is_some())
+    /// Whether it is a run of a scan, or a gap of a list, that was undone.
+    fn undoes(&self, of: Several) -> bool {
+        self.undone.and_then(|survivor| survivor.of).map_or(false, |(several, _)| several == of)
+    }
+
+    /// Whether a list has a gap that was refused by this number.
+    fn lists_refused(&self, number: u32) -> bool {
+        self.is(Kind::List) && self.outcome.refused.contains(&number)
     }
 }
 
@@ -99,16 +116,23 @@ pub const CALLS: &[Class<Step>] = &[
         least: 50,
         holds: |s| s.outcome.held_runs > 0 && s.outcome.named.len() > s.outcome.held_runs,
     },
-    Class { name: "refused in part", least: 150, holds: |s| s.names_by(Kind::Scan) && s.outcome.refused_runs > 0 },
+    Class { name: "refused in part", least: 150, holds: |s| s.names_by(Kind::Scan) && s.is_refused_in_part() },
+    Class { name: "a list", least: 1_000, holds: |s| s.names_by(Kind::List) },
+    Class { name: "of several gaps", least: 1_000, holds: |s| s.is(Kind::List) && s.outcome.named.len() > 1 },
+    Class { name: "a list refused in part", least: 1_000, holds: |s| s.names_by(Kind::List) && s.is_refused_in_part() },
+    Class { name: "a list of no gap", least: 200, holds: |s| s.is_list(|gaps| gaps == 0) && s.number() == 0 },
+    Class { name: "a list of 64 gaps", least: 50, holds: |s| s.is_list(|gaps| gaps == 64) && s.number() == 0 },
     Class { name: "declip", least: 3_000, holds: |s| s.names_by(Kind::Declip) },
     Class { name: "decrackle", least: 3_000, holds: |s| s.names_by(Kind::Decrackle) },
     Class { name: "dequantize", least: 4_000, holds: |s| s.names_by(Kind::Dequantize) },
     Class { name: "dequantize_cosparse", least: 3_000, holds: |s| s.names_by(Kind::Cosparse) },
     Class { name: "accepted, naming none", least: 8_000, holds: |s| s.is_whole() && s.number() == 0 && !s.names() },
     Class { name: "a gap over samples that a repair made", least: 8_000, holds: |s| s.is_gap() && s.over },
+    Class { name: "a list over samples that a repair made", least: 500, holds: |s| s.is(Kind::List) && s.over },
     Class { name: "a scan over samples that a repair made", least: 150, holds: |s| s.is(Kind::Scan) && s.over },
     Class { name: "another over samples that a repair made", least: 10_000, holds: |s| s.is_whole() && s.over },
     Class { name: "a gap over samples not received", least: 1_000, holds: |s| s.is_gap() && s.over_missing },
+    Class { name: "a list over samples not received", least: 100, holds: |s| s.is(Kind::List) && s.over_missing },
     Class { name: "a scan over samples not received", least: 150, holds: |s| s.is(Kind::Scan) && s.over_missing },
     Class { name: "another over samples not received", least: 500, holds: |s| s.is_whole() && s.over_missing },
     Class { name: "naming a sample, after an undo", least: 15_000, holds: |s| s.names() && s.after_undo },
@@ -117,10 +141,18 @@ pub const CALLS: &[Class<Step>] = &[
     Class { name: "on 0 samples", least: 1_500, holds: |s| s.samples == 0 },
     Class { name: "undone", least: 10_000, holds: |s| s.undone.is_some() },
     Class { name: "undone, bringing back a mark 6", least: 500, holds: Step::brings_back_missing },
-    Class { name: "undone, a run of a scan", least: 400, holds: Step::undoes_run },
+    Class { name: "undone, a run of a scan", least: 400, holds: |s| s.undoes(Several::Scan) },
+    Class { name: "undone, a gap of a list", least: 400, holds: |s| s.undoes(Several::List) },
+    Class { name: "a list answered 4", least: 300, holds: |s| s.number() == 4 && s.is(Kind::List) },
+    Class { name: "of 65 gaps", least: 30, holds: |s| s.number() == 4 && s.is_list(|gaps| gaps == 65) },
     Class { name: "a scan answered 4", least: 1_000, holds: |s| s.number() == 4 && s.is(Kind::Scan) },
     Class { name: "a repair of all samples answered 4", least: 1_000, holds: |s| s.number() == 4 && s.is_whole() },
     Class { name: "a gap answered 5", least: 2_500, holds: |s| s.number() == 5 },
+    Class { name: "a gap of a list answered 5", least: 500, holds: |s| s.lists_refused(5) },
+    Class { name: "a gap of a list answered 6", least: 500, holds: |s| s.lists_refused(6) },
+    Class { name: "a gap of a list answered 7", least: 500, holds: |s| s.lists_refused(7) },
+    Class { name: "a gap of a list answered 8", least: 4, holds: |s| s.lists_refused(8) },
+    Class { name: "a gap of a list answered 9", least: 500, holds: |s| s.lists_refused(9) },
     Class { name: "a gap answered 6", least: 2_500, holds: |s| s.number() == 6 && s.is_gap() },
     Class { name: "a scan answered 6", least: 300, holds: |s| s.number() == 6 && s.is(Kind::Scan) },
     Class { name: "a repair of all samples answered 6", least: 4_500, holds: |s| s.number() == 6 && s.is_whole() },
@@ -167,21 +199,26 @@ pub struct Ended {
     /// How many repairs were undone since it was last opened, and how often it was opened.
     pub undone: usize,
     pub opened: usize,
-    /// Whether of a scan that repaired several runs some survive and some do not.
-    pub partly: bool,
+    /// Whether of a scan that repaired several runs some survive and some do not, and whether of the gaps of a list.
+    pub scan_partly: bool,
+    pub list_partly: bool,
 }
 
 impl Ended {
     /// This recording after so many calls.
     pub fn new(history: &History, calls: usize) -> Ended {
         let survivors = history.survivors.clone();
-        let of = |scan: usize| survivors.iter().filter(|survivor| survivor.scan == Some(scan)).count();
-        let partly = history.scans.iter().enumerate().any(|(scan, runs)| of(scan) > 0 && of(scan) < *runs);
+        let survive = |of| survivors.iter().filter(|survivor| survivor.of == Some(of)).count();
+        let partly = |of: Several| {
+            let mut calls = history.several.iter().enumerate().filter(|(_, (several, _))| *several == of);
+            calls.any(|(place, (_, made))| (1..*made).contains(&survive((of, place))))
+        };
+        let [scan_partly, list_partly] = [Several::Scan, Several::List].map(partly);
         let samples = history.both.model.samples.len();
         let of_6 = |marks: &[u8]| marks.iter().filter(|mark| **mark == NOT_RECEIVED).count();
         let (missing, still_missing) = (of_6(&history.raw_marks), of_6(&history.both.model.marks));
         let (received, undone, opened) = (history.opening == Call::OpenReceived, history.undone, history.opened);
-        Ended { samples, calls, received, missing, still_missing, survivors, undone, opened, partly }
+        Ended { samples, calls, received, missing, still_missing, survivors, undone, opened, scan_partly, list_partly }
     }
 
     /// How many kinds of repairs there are among the survivors.
@@ -211,6 +248,7 @@ pub const SEQUENCES: &[Class<Ended>] = &[
     Class { name: "survivors of 4 kinds or more", least: 600, holds: |e| e.kinds() >= 4 },
     Class { name: "a survivor over an earlier one", least: 2_500, holds: |e| e.survivors.iter().any(|s| s.over) },
     Class { name: "with survivors, and with undone", least: 2_500, holds: |e| e.undone > 0 && !e.survivors.is_empty() },
-    Class { name: "a scan of several runs, undone in part", least: 100, holds: |e| e.partly },
+    Class { name: "a scan of several runs, undone in part", least: 100, holds: |e| e.scan_partly },
+    Class { name: "a list of several gaps, undone in part", least: 100, holds: |e| e.list_partly },
     Class { name: "opened again", least: 800, holds: |e| e.opened > 1 },
 ];

@@ -9,13 +9,31 @@ use cathar_host::recording::{entry_words, is_made, Recording, NOT_RECEIVED};
 /// than the most samples, used past the journal, and a malformed entry.
 const NEVER: [u32; 5] = [1, 14, 2, 3, 11];
 
+/// A call that is several repairs.
+#[derive(Clone, Copy, Debug, PartialEq, Eq)]
+pub enum Several {
+    Scan,
+    List,
+}
+
+impl Several {
+    /// Which of them a call is, if it is one.
+    fn of(call: Call) -> Option<Several> {
+        match call {
+            Call::Scan { .. } => Some(Several::Scan),
+            Call::Gaps { .. } => Some(Several::List),
+            _ => None,
+        }
+    }
+}
+
 /// A repair that was accepted, named a sample and is not undone.
 #[derive(Clone, Copy, Debug)]
 pub struct Survivor {
     pub call: Call,
     pub m: usize,
-    /// Which scan it is a run of, by the number of scans before that one, if it is a run of one.
-    pub scan: Option<usize>,
+    /// Which scan or list it is of, by the number of both before that one, if it is of one.
+    pub of: Option<(Several, usize)>,
     /// Whether it named a sample that an earlier survivor had made, and whether one that was not received.
     pub over: bool,
     pub over_missing: bool,
@@ -50,8 +68,8 @@ pub struct History {
     pub raw_marks: Vec<u8>,
     /// The repairs that survive, the oldest first.
     pub survivors: Vec<Survivor>,
-    /// How many runs each scan repaired, and how many repairs were undone, since then.
-    pub scans: Vec<usize>,
+    /// How many repairs each scan and each list made, and how many repairs were undone, since then.
+    pub several: Vec<(Several, usize)>,
     pub undone: usize,
     /// How often it was opened.
     pub opened: usize,
@@ -62,8 +80,8 @@ impl History {
     pub fn new(recording: Recording) -> History {
         let (raw, raw_marks) = (recording.samples.clone(), vec![0; recording.samples.len()]);
         let (both, opening) = (Both::new(recording), Call::Open);
-        let (survivors, scans) = (Vec::new(), Vec::new());
-        History { both, raw, opening, raw_marks, survivors, scans, undone: 0, opened: 0 }
+        let (survivors, several) = (Vec::new(), Vec::new());
+        History { both, raw, opening, raw_marks, survivors, several, undone: 0, opened: 0 }
     }
 
     /// Both sides make the call, and what must hold after each is looked at.
@@ -91,7 +109,7 @@ impl History {
         let kept = |mark: &u8| opening == Call::OpenReceived && *mark == NOT_RECEIVED;
         self.raw_marks = before.marks.iter().map(|mark| if kept(mark) { NOT_RECEIVED } else { 0 }).collect();
         self.survivors.clear();
-        self.scans.clear();
+        self.several.clear();
         self.undone = 0;
         self.opened += 1;
     }
@@ -113,17 +131,15 @@ impl History {
     /// had made, and whether one is over a sample that was not received: its entry then has such an old mark.
     fn survive(&mut self, before: &Recording, call: Call, outcome: &Outcome) -> [bool; 2] {
         let mut start = before.used;
-        let scan = matches!(call, Call::Scan { .. }).then(|| self.scans.len());
+        let of = Several::of(call).map(|several| (several, self.several.len()));
         for (call, m) in outcome.named.iter().copied() {
             let named = &self.both.model.journal[start..start + 3 * m];
             let over = named.chunks(3).any(|sample| is_made(sample[2] as u8));
             let over_missing = named.chunks(3).any(|sample| sample[2] == NOT_RECEIVED.into());
-            self.survivors.push(Survivor { call, m, scan, over, over_missing });
+            self.survivors.push(Survivor { call, m, of, over, over_missing });
             start += entry_words(m);
         }
-        if scan.is_some() {
-            self.scans.push(outcome.named.len());
-        }
+        self.several.extend(of.map(|(several, _)| (several, outcome.named.len())));
         let joined = &self.survivors[self.survivors.len() - outcome.named.len()..];
         [joined.iter().any(|survivor| survivor.over), joined.iter().any(|survivor| survivor.over_missing)]
     }
@@ -153,7 +169,7 @@ impl History {
             ("the counts from those of the marks", model.has_wrong_count()),
             ("used from what the survivors take", model.used != entries),
             ("the recording from what it was", !changes && model != before),
-            ("an answer that no sequence gives", NEVER.contains(&outcome.number)),
+            ("an answer that no sequence gives", outcome.numbers().any(|number| NEVER.contains(&number))),
         ];
         wrong.into_iter().filter(|(_, wrong)| *wrong).map(|(name, _)| name).collect()
     }

@@ -1,6 +1,6 @@
 //! Slips in what a history keeps account of: what the stand-ins for the account do.
 use super::calls::{Call, Outcome};
-use super::history::{History, Survivor};
+use super::history::{History, Several, Survivor};
 use cathar_host::recording::NOT_RECEIVED;
 use cathar_host::whole::{floats, Repair};
 use cathar_host::wrong;
@@ -29,8 +29,13 @@ fn named(name: &str) -> Alters {
         "seq_account_undo_takes_first" => undo_takes_first,
         "seq_account_undo_takes_none" => |history, _, _, undone| history.survivors.extend(undone),
         "seq_account_undo_takes_two" => undo_takes_two,
-        "seq_account_scan_is_one" => scan_is_one,
-        "seq_account_scan_is_last_run" => scan_is_last_run,
+        "seq_account_scan_is_one" => |history, call, outcome, _| is_one(history, call, outcome, Several::Scan),
+        "seq_account_scan_is_last_run" => |history, _, outcome, _| is_last(history, outcome, Several::Scan),
+        "seq_account_list_is_one" => |history, call, outcome, _| is_one(history, call, outcome, Several::List),
+        "seq_account_list_is_last_gap" => |history, _, outcome, _| is_last(history, outcome, Several::List),
+        "seq_account_list_reversed" => list_reversed,
+        "seq_account_list_refused_survives" => list_refused_survives,
+        "seq_account_undo_takes_list" => undo_takes_list,
         "seq_account_m_one_more" => {
             |history, _, outcome, _| each_joined(history, outcome, |survivor, _| survivor.m += 1)
         }
@@ -68,20 +73,42 @@ fn undo_takes_two(history: &mut History, _: Call, _: &Outcome, undone: Option<Su
     }
 }
 
-fn scan_is_one(history: &mut History, call: Call, outcome: &Outcome, _: Option<Survivor>) {
-    if matches!(call, Call::Scan { .. }) {
-        let first = history.survivors.len() - outcome.named.len();
-        let runs = history.survivors.split_off(first);
-        let m = runs.iter().map(|run| run.m).sum();
-        history.survivors.extend(runs.first().map(|run| Survivor { call, m, ..*run }));
+/// Takes off the survivors that a call has made, if it is such a one; else none.
+fn split_off(history: &mut History, outcome: &Outcome, of: Several) -> Vec<Survivor> {
+    let first = history.survivors.len() - outcome.named.len();
+    let is_of = |survivor: &Survivor| survivor.of.map_or(false, |(several, _)| several == of);
+    if history.survivors[first..].iter().all(is_of) {
+        history.survivors.split_off(first)
+    } else {
+        Vec::new()
     }
 }
 
-fn scan_is_last_run(history: &mut History, call: Call, outcome: &Outcome, _: Option<Survivor>) {
-    if matches!(call, Call::Scan { .. }) {
-        let first = history.survivors.len() - outcome.named.len();
-        let runs = history.survivors.split_off(first);
-        history.survivors.extend(runs.last());
+fn is_one(history: &mut History, call: Call, outcome: &Outcome, of: Several) {
+    let parts = split_off(history, outcome, of);
+    let m = parts.iter().map(|part| part.m).sum();
+    history.survivors.extend(parts.first().map(|part| Survivor { call, m, ..*part }));
+}
+
+fn is_last(history: &mut History, outcome: &Outcome, of: Several) {
+    let parts = split_off(history, outcome, of);
+    history.survivors.extend(parts.last());
+}
+
+fn list_reversed(history: &mut History, _: Call, outcome: &Outcome, _: Option<Survivor>) {
+    let gaps = split_off(history, outcome, Several::List);
+    history.survivors.extend(gaps.into_iter().rev());
+}
+
+fn list_refused_survives(history: &mut History, call: Call, outcome: &Outcome, _: Option<Survivor>) {
+    if matches!(call, Call::Gaps { .. }) && !outcome.refused.is_empty() {
+        history.survivors.push(Survivor { call, m: 1, of: None, over: false, over_missing: false });
+    }
+}
+
+fn undo_takes_list(history: &mut History, _: Call, _: &Outcome, undone: Option<Survivor>) {
+    if let Some(of @ Some((Several::List, _))) = undone.map(|survivor| survivor.of) {
+        history.survivors.retain(|survivor| survivor.of != of);
     }
 }
 
@@ -93,13 +120,13 @@ fn open_keeps_survivors(history: &mut History, call: Call, _: &Outcome, _: Optio
 
 fn refused_survives(history: &mut History, call: Call, outcome: &Outcome, _: Option<Survivor>) {
     if outcome.number != 0 && matches!(call, Call::Gap { .. } | Call::Whole { .. }) {
-        history.survivors.push(Survivor { call, m: 1, scan: None, over: false, over_missing: false });
+        history.survivors.push(Survivor { call, m: 1, of: None, over: false, over_missing: false });
     }
 }
 
 fn naming_none_survives(history: &mut History, call: Call, outcome: &Outcome, _: Option<Survivor>) {
     if outcome.number == 0 && outcome.named.is_empty() && matches!(call, Call::Whole { .. }) {
-        history.survivors.push(Survivor { call, m: 0, scan: None, over: false, over_missing: false });
+        history.survivors.push(Survivor { call, m: 0, of: None, over: false, over_missing: false });
     }
 }
 
