@@ -1,4 +1,4 @@
-//! A call of the library on a recording, without the memory that is lent to it: of several gaps the lists are among that.
+//! A call of the library on a recording, without the memory that is lent to it, the lists of several gaps among that.
 use crate::inpaint::Gap;
 use crate::whole::Repair;
 

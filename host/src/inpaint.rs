@@ -223,8 +223,8 @@ impl Lists {
         [self.starts.len(), self.lens.len(), self.numbers.len(), self.values.len(), self.orders.len()]
     }
 
-    /// Refusal 4: "for more than 64 spans or an answer list of another length". The lengths come in a list of their own,
-    /// which is as long too.
+    /// Refusal 4: "for more than 64 spans or an answer list of another length". The lengths come in a list of their
+    /// own, which is as long too.
     pub fn are_refused(&self) -> bool {
         let [gaps, others @ ..] = self.lengths();
         gaps > MOST_GAPS || others != [gaps; 4]

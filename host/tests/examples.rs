@@ -34,8 +34,8 @@ fn arguments<'a>(source: &'a str, compiler: &str) -> Vec<&'a str> {
     commands.next().expect("the head has the command").split(' ').collect()
 }
 
-/// Compiles an example of this name and ending as its head says, and runs it. The compiler that the head names `said` is
-/// here `compiler`, which gets these flags too, and the program goes among the tests' own files.
+/// Compiles an example of this name and ending as its head says, and runs it. The compiler that the head names `said`
+/// is here `compiler`, which gets these flags too, and the program goes among the tests' own files.
 fn holds(name: &str, ending: &str, said: &str, compiler: &str, flags: &[&str]) {
     let example = format!("examples/{name}.{ending}");
     let source = read(&example);

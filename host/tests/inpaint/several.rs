@@ -299,7 +299,7 @@ impl Splices {
         self.count.take(&call, &wrong);
     }
 
-    /// Both sides take back each gap that was repaired, the last first, one by one. What is then not as before the call.
+    /// Both sides take back each gap that was repaired, one by one, the last first. What is then not as it was before.
     fn take_back(&mut self, both: &mut Both, before: &Recording, several: &Several) -> Wrong {
         let mut wrong = Vec::new();
         let mut expected = before.clone();

@@ -242,8 +242,8 @@ fn scan(draw: &mut Draw, samples: &[u32]) -> Call {
     Call::Scan { settings, work }
 }
 
-/// How long a workspace is for repairs that need so many doubles each: mostly enough for all, and at times for any one of
-/// them.
+/// How long a workspace is for repairs that need so many doubles each: mostly enough for all, and at times for any one
+/// of them.
 fn work_for(draw: &mut Draw, needs: Vec<usize>) -> usize {
     let needed = match needs.len() {
         0 => draw.below(100) as usize,

@@ -59,8 +59,8 @@ pub struct Outcome {
     pub number: u32,
     /// What an undo took back, m; 0 for all else.
     pub undone: usize,
-    /// The single repairs that were accepted and named a sample, in their order. Of a scan or a list those of its runs or
-    /// gaps.
+    /// The single repairs that were accepted and named a sample, in their order. Of a scan or a list those of its runs
+    /// or gaps.
     pub named: Vec<Named>,
     /// The numbers of those runs or gaps that were refused, and how many runs that were repaired are of held words.
     pub refused: Vec<u32>,
@@ -80,8 +80,8 @@ impl Call {
         matches!(self, Call::Open | Call::OpenReceived)
     }
 
-    /// Both sides make the call, in a workspace of any words and with any words in the lists that it writes. The outcome
-    /// is the model's.
+    /// Both sides make the call, in a workspace of any words and with any words in the lists that it writes. The
+    /// outcome is the model's.
     pub fn make(self, draw: &mut Draw, both: &mut Both) -> (Outcome, Wrong) {
         let n = both.model.samples.len();
         match self {
