@@ -165,7 +165,7 @@ fn in_sources() -> BTreeMap<String, u64> {
         ("MOST_SAMPLES", "MOST_SAMPLES", "crates/recording/src/open.rt"),
         ("BLOCK", "BLOCK", "crates/recording/src/counts.rt"),
         ("MOST_BY_MODEL", "MAX_SOLVE", "crates/inpaint/src/window.rt"),
-        ("MOST_GAPS", "MOST_SPANS", "crates/inpaint/src/several.rt"),
+        ("MOST_GAPS", "MOST_SPANS", "crates/splice/src/lib.rt"),
         ("MOST_RATE", "MOST_RATE", "crates/inpaint/src/auto.rt"),
         ("HELD_RUN", "HELD_RUN", "crates/inpaint/src/auto.rt"),
         ("LEAST_BITS", "LEAST_BITS", "crates/dequant/src/lattice.rt"),

@@ -6,13 +6,13 @@ ghost use Prim.Native.Nat.{_≤_};
 ghost use lib.ListN.{length};
 use inpaint::GapAnswer;
 use inpaint::gap::inpaint_gap;
-use inpaint::several::inpaint_gaps;
 use leaves::words::word_of_f32;
 use recording::Answer;
 use recording::numbers::number_of;
 use recording::numbers::value_of;
 use recording::open::open;
 use recording::undo::undo;
+use splice::inpaint_gaps;
 
 // 2^-30, which stands around the gap of *quiet*, and the plain numbers 1 and 4096.
 const SOFT: u32 = 0x3080_0000;

@@ -29,7 +29,7 @@ use Rattle.recording.proofs.Single.{did-keeps, above-zero, accepted-as-ruled}
 use Rattle.inpaint.specs.Gap.{gapPlan, gapRepair}
 use Rattle.inpaint.specs.Auto.{limit, scannable, automatic}
 use Rattle.inpaint.specs.Runs.{Stretch, runsOf, gapCalls, runAnswers, firstRefusal}
-use Rattle.inpaint.specs.Several.{spans, listsWrong, gapsRepair}
+use Rattle.splice.specs.Several.{spans, listsWrong, gapsRepair}
 use Rattle.inpaint.proofs.Scans.{scan-is-its-runs, scan-counts-its-runs, refused-scan, list-lawful, scan-lawful}
 use Rattle.inpaint.specs.Consequences.{EachNumber}
 use Rattle.inpaint.proofs.Rooms.{own-answers}

@@ -9,7 +9,7 @@ use Rattle.recording.specs.Recording.{State, Ended, ended, workAfter}
 use Rattle.recording.specs.declared.Answer.{Answer}
 use Rattle.recording.specs.declared.Verdict.{Verdict}
 use Rattle.frames.specs.Frames.{Delivered, delivered}
-use Rattle.inpaint.specs.Several.{AnswerLists, Several, several}
+use Rattle.splice.specs.Several.{AnswerLists, Several, several}
 use Rattle.cathar.specs.Calls.{Work, none, doubles, outcome, told, framesTold, toldOf, spanTold, spanToldOf}
 
 -- an opening

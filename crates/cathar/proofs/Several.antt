@@ -15,11 +15,11 @@ use Rattle.recording.proofs.History as history
 use Rattle.inpaint.specs.Gap.{needed, gapPlan, gapRepair}
 use Rattle.inpaint.specs.Order.{gapOrder}
 use Rattle.inpaint.specs.Runs.{Stretch, singleCalls}
-use Rattle.inpaint.specs.Several.{spans, Several, withAnswer, inTurn}
+use Rattle.splice.specs.Several.{spans, Several, withAnswer, inTurn}
 use Rattle.inpaint.proofs.Lawful.{gap-lawful}
 use Rattle.inpaint.proofs.Rooms.{accepted-names-the-gap}
 use Rattle.inpaint.proofs.Scans.{run-first}
-use Rattle.inpaint.proofs.InTurn.{taken-list, cut-anywhere, list-is-its-repairs}
+use Rattle.splice.proofs.InTurn.{taken-list, cut-anywhere, list-is-its-repairs}
 use Rattle.cathar.specs.Calls.{Call, gap, gaps, undo, ran}
 use Rattle.cathar.specs.Demands.{after, Opened}
 use Rattle.cathar.specs.Several.{singly, GapsAreSingleCalls, AllRefused, UndoTakesBackOneSpan}

@@ -12,8 +12,8 @@ use Rattle.leaves.proofs.Choice.{truth}
 use Rattle.recording.specs.Answers.{number}
 use Rattle.recording.specs.Recording.{State}
 use Rattle.recording.specs.History as single
-use Rattle.inpaint.specs.Several.{spans, AnswerLists, listsWrong, Several, gapsRepair}
-use Rattle.inpaint.proofs.InTurn.{refused-list, taken-list, list-is-its-repairs}
+use Rattle.splice.specs.Several.{spans, AnswerLists, listsWrong, Several, gapsRepair}
+use Rattle.splice.proofs.InTurn.{refused-list, taken-list, list-is-its-repairs}
 use Rattle.cathar.specs.Demands.{spanRepairs}
 
 module _ (starts lens : List ℕ) (passes : ℕ) (work : List Float) (lists : AnswerLists) (s : State) where

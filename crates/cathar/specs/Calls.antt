@@ -11,7 +11,7 @@ use Rattle.recording.specs.Recording.{State, Ended, opened, openedReceived, und
 use Rattle.recording.specs.declared.Verdict.{Verdict}
 use Rattle.inpaint.specs.Gap.{needed, gapRepair}
 use Rattle.inpaint.specs.Auto.{automatic}
-use Rattle.inpaint.specs.Several.{AnswerLists, gapsRepair}
+use Rattle.splice.specs.Several.{AnswerLists, gapsRepair}
 use Rattle.redraw.specs.Whole as whole
 use Rattle.declip.specs.Declip.{declipRepair}
 use Rattle.decrackle.specs.Decrackle.{decrackleRepair}

@@ -20,7 +20,7 @@ use Rattle.recording.specs.declared.Verdict.the-variants.{Yes, No}
 use Rattle.inpaint.specs.Gap.{gapPlan}
 use Rattle.inpaint.specs.Auto.{scannable}
 use Rattle.inpaint.specs.Runs.{singleCalls, scanCalls, runAnswers, firstRefusal}
-use Rattle.inpaint.specs.Several.{spans, AnswerLists, listsWrong}
+use Rattle.splice.specs.Several.{spans, AnswerLists, listsWrong}
 use Rattle.declip.specs.Declip.{declipPlan}
 use Rattle.decrackle.specs.Decrackle.{decracklePlan}
 use Rattle.dequant.specs.Dequant.{dequantizePlan, cosparsePlan}

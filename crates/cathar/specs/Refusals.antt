@@ -15,7 +15,7 @@ use Rattle.recording.specs.Recording.{State, Placed, Plan, refuse, change, pick
 use Rattle.recording.specs.Recording.{malformed}
 use Rattle.inpaint.specs.Gap as single
 use Rattle.inpaint.specs.Auto as auto
-use Rattle.inpaint.specs.Several as lists
+use Rattle.splice.specs.Several as lists
 use Rattle.redraw.specs.Whole as whole
 use Rattle.declip.specs.Declip as declips
 use Rattle.decrackle.specs.Decrackle as decrackles

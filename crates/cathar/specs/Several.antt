@@ -11,7 +11,7 @@ use Rattle.recording.specs.Recording.{State}
 use Rattle.recording.specs.declared.Answer.the-variants.{Done}
 use Rattle.inpaint.specs.Runs.{Stretch}
 use Rattle.inpaint.specs.Order.{gapOrder}
-use Rattle.inpaint.specs.Several.{spans, AnswerLists, answerLists, listsWrong, Several, several, inTurn, gapsRepair}
+use Rattle.splice.specs.Several.{spans, AnswerLists, answerLists, listsWrong, Several, several, inTurn, gapsRepair}
 use Rattle.cathar.specs.Calls.{gap, gaps, undo, Work, none, doubles, words, ran}
 use Rattle.cathar.specs.Demands.{after, AfterAny}
 

@@ -11,7 +11,7 @@ ghost use Rattle.cathar.specs.Calls.{none, doubles, words, outcome, ran}
 ghost use Rattle.cathar.specs.Calls.{asMeasured, asReceived, opening, framesTold, toldOf, spanTold, spanToldOf};
 ghost use Rattle.frames.specs.Frames.{framesRead};
 ghost use Rattle.inpaint.specs.Order.{gapOrder, scanOrders};
-ghost use Rattle.inpaint.specs.Several.{answersLent, answersLeft};
+ghost use Rattle.splice.specs.Several.{answersLent, answersLeft};
 ghost use Rattle.recording.specs.Lent.{left, lent, leftReading};
 ghost use Rattle.recording.specs.Question.{spanVerdict};
 use dequant::passes::dequantize;
@@ -140,7 +140,7 @@ pub extern "C" fn cathar_inpaint_gaps(
         ≡ answersOf (now (starts .entry)) (now (lens .entry)) passes (now (work .entry)) (answersLent numbers values orders)
         (lent samples marks counts journal used)) ⌝ }
 {
-    let answer = inpaint::several::inpaint_gaps(
+    let answer = splice::inpaint_gaps(
         samples,
         marks,
         counts,

@@ -2,7 +2,6 @@ pub mod Gap
 pub mod Auto
 pub mod Runs
 pub mod Order
-pub mod Several
 pub mod Dropouts
 pub mod Unheld
 pub mod Consequences

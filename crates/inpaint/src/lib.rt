@@ -1,10 +1,9 @@
-// Gaps: the window around one, the straight line and the model that fill it, the repair of one gap, that of
-// several in one call, and the automatic scan that finds dropouts and repairs each.
+// Gaps: the window around one, the straight line and the model that fill it, the repair of one gap, and
+// the automatic scan that finds dropouts and repairs each.
 pub mod auto;
 mod fill;
 pub mod gap;
 mod line;
-pub mod several;
 mod window;
 
 use recording::Answer;

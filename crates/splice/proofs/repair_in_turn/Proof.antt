@@ -1,4 +1,4 @@
--- `inpaint::several::repair_in_turn` meets its contract. The loop's invariant: the spans from here on, with their answers stored from here
+-- `splice::repair_in_turn` meets its contract. The loop's invariant: the spans from here on, with their answers stored from here
 -- on, give the whole. The measure is how many spans are left. Assumes nothing.
 use Prim.Native.Nat.{_-_, _≤_, _<_}
 use mathlib.Core.Path.{_≡_, refl, _∙_}
@@ -6,10 +6,10 @@ use native.Mathlib.Omega.{arith}
 use borrow.Author.Needs.{needs}
 use lib.ListN.{length, length-set, drop}
 use Rattle.recording.specs.Recording.{State, state}
-use Rattle.inpaint.specs.Several.{spans, AnswerLists, answerLists, inTurn}
-use Rattle.inpaint.proofs.several.Laws.{spans-count, span-at, placed, all-placed, span-turn, spans-done}
-use Rattle.inpaint.proofs.several.repair_in_turn.Statement.{statement}
-use Rattle.inpaint.proofs.several.repair_in_turn.Tie as tie
+use Rattle.splice.specs.Several.{spans, AnswerLists, answerLists, inTurn}
+use Rattle.splice.proofs.Laws.{spans-count, span-at, placed, all-placed, span-turn, spans-done}
+use Rattle.splice.proofs.repair_in_turn.Statement.{statement}
+use Rattle.splice.proofs.repair_in_turn.Tie as tie
 
 abbrev Inv-loop : tie.InvT-loop
 Inv-loop samples₀ marks₀ counts₀ journal₀ used₀ starts lens passes work₀ numbers₀ values₀ orders₀ k₀

@@ -1,13 +1,13 @@
--- `inpaint::several::inpaint_gaps` meets its contract: lists that are turned away end it, and else it is the spans one after the other.
+-- `splice::inpaint_gaps` meets its contract: lists that are turned away end it, and else it is the spans one after the other.
 -- Assumes nothing.
 use borrow.Author.Needs.{needs}
 use mathlib.Core.Path.{_≡_, sym, _∙_}
 use mathlib.Core.Bool.{false}
 use Rattle.recording.specs.Recording.{State, state}
-use Rattle.inpaint.specs.Several.{AnswerLists, answerLists, listsWrong}
-use Rattle.inpaint.proofs.several.Laws.{as-long, list-refused, list-taken}
-use Rattle.inpaint.proofs.several.inpaint_gaps.Statement.{statement}
-use Rattle.inpaint.proofs.several.inpaint_gaps.Tie as tie
+use Rattle.splice.specs.Several.{AnswerLists, answerLists, listsWrong}
+use Rattle.splice.proofs.Laws.{as-long, list-refused, list-taken}
+use Rattle.splice.proofs.inpaint_gaps.Statement.{statement}
+use Rattle.splice.proofs.inpaint_gaps.Tie as tie
 
 -- where the call begins, once the lengths of the lists are tested; the recording and the lists there
 abbrev start : tie.After-lengths-wrong → tie.Start

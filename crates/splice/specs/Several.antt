@@ -1,5 +1,5 @@
 -- Several gaps in one call: request P6 of document 02 and one sentence of request P8, which the comments quote. A span is one gap, as
--- Gap.antt has it, with the order of its model, as Order.antt does. Definitions only.
+-- specs/Gap.antt of the crate `inpaint` has it, with the order of its model, as Order.antt there does. Definitions only.
 use Prim.Native.Nat.{ℕ}
 use denote.Ref.{RefT, now}
 use denote.Triple.Both.{Both}

@@ -11,13 +11,13 @@ use Rattle.recording.specs.Recording.{State, workAfter}
 use Rattle.recording.specs.History.{run}
 use Rattle.recording.specs.declared.Answer.{Answer}
 use Rattle.recording.specs.declared.Answer.the-variants.{Done}
 use Rattle.inpaint.specs.Gap.{needed, gapRepair}
 use Rattle.inpaint.specs.Runs.{Stretch, singleCalls}
 use Rattle.inpaint.specs.Order.{gapOrder}
-use Rattle.inpaint.specs.Several.{spans, several, withAnswer, inTurn, gapsRepair}
-use Rattle.inpaint.specs.Consequences.{RefusedList, TakenList, EmptyList, CutAnywhere, OwnPlace, ListIsItsRepairs}
-use Rattle.inpaint.proofs.several.Laws.{list-refused, list-taken, answered-count}
+use Rattle.splice.specs.Several.{spans, several, withAnswer, inTurn, gapsRepair}
+use Rattle.splice.specs.Consequences.{RefusedList, TakenList, EmptyList, CutAnywhere, OwnPlace, ListIsItsRepairs}
+use Rattle.splice.proofs.Laws.{list-refused, list-taken, answered-count}
 use Rattle.inpaint.proofs.Scans.{work-count, run-first}
 
 -- ---- The call
 

@@ -1,10 +1,10 @@
-// Several gaps in one call.
+// Several gaps in one call, as a splice editor hands them over: each is repaired by the single call.
 ghost use mathlib.Core.Path.{_≡_};
 ghost use lib.ListN.{length};
 ghost use Rattle.recording.specs.Lent.{left, lent};
 ghost use Rattle.recording.specs.declared.Answer.the-variants.{Done};
-ghost use Rattle.inpaint.specs.Several.{spans, lengthsWrong, several, inTurn, gapsRepair, answersLent, answersLeft};
-use super::gap::inpaint_gap;
+ghost use Rattle.splice.specs.Several.{spans, lengthsWrong, several, inTurn, gapsRepair, answersLent, answersLeft};
+use inpaint::gap::inpaint_gap;
 use recording::Answer;
 use recording::Reason;
 use recording::numbers::number_of;

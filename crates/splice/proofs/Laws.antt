@@ -18,11 +18,11 @@ use Rattle.recording.specs.Recording.{State, Ended, ended, workAfter}
 use Rattle.recording.specs.declared.Reason.the-variants.{Setting}
 use Rattle.recording.specs.declared.Answer.{Answer}
 use Rattle.recording.specs.declared.Answer.the-variants.{Done, Refused}
 use Rattle.inpaint.specs.Gap.{needed, gapRepair}
 use Rattle.inpaint.specs.Runs.{Stretch, stretch}
 use Rattle.inpaint.specs.Order.{gapOrder}
-use Rattle.inpaint.specs.Several.{spans, AnswerLists, answerLists, lengthsWrong, listsWrong, Several, several, withAnswer}
-use Rattle.inpaint.specs.Several.{inTurn, gapsRepair}
+use Rattle.splice.specs.Several.{spans, AnswerLists, answerLists, lengthsWrong, listsWrong, Several, several, withAnswer}
+use Rattle.splice.specs.Several.{inTurn, gapsRepair}
 
 -- ---- The lists
 

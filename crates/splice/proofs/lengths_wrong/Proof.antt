@@ -1,7 +1,7 @@
--- `inpaint::several::lengths_wrong` meets its contract: each way out is a test of the rule. Assumes nothing.
-use Rattle.inpaint.proofs.several.Laws.{too-many, lens-differ, numbers-differ, values-differ, orders-tell}
-use Rattle.inpaint.proofs.several.lengths_wrong.Statement.{statement}
-use Rattle.inpaint.proofs.several.lengths_wrong.Tie as tie
+-- `splice::lengths_wrong` meets its contract: each way out is a test of the rule. Assumes nothing.
+use Rattle.splice.proofs.Laws.{too-many, lens-differ, numbers-differ, values-differ, orders-tell}
+use Rattle.splice.proofs.lengths_wrong.Statement.{statement}
+use Rattle.splice.proofs.lengths_wrong.Tie as tie
 
 returns : tie.Need-returns
 returns c = too-many _ _ _ _ _ (c .if1 .taken)

@@ -1,0 +1,3 @@
+-- A list of spans as it is repaired, and what it comes to.
+pub mod Laws
+pub mod InTurn
