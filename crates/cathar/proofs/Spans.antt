@@ -1,6 +1,6 @@
 -- Several gaps in one call, as the table of refusals and the demands have it: the call leaves what its single repairs leave, or nothing is
 -- done; its number is 4 or 0; and where it is 4 the recording stays. Assumes nothing.
-use mathlib.Core.Path.{_≡_, refl, sym, ap, _∙_}
+use mathlib.Core.Path.{_≡_, refl, ap, _∙_}
 use mathlib.Core.Bool.{not}
 use mathlib.Core.List.{List}
 use mathlib.Core.Logic.{inl, inr}
