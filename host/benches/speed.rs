@@ -1,7 +1,8 @@
 //! The time of the original Rust and of the library on the same inputs, in turn in one process, and whether they
 //! give the same samples: each repair in one recording, then how the times grow as the length of a gap doubles, or
-//! the number of samples; a list of gaps beside single calls; and the question whether a span was measured, beside
-//! looking at each mark. `host/bench` runs it.
+//! the number of samples; a list of gaps beside single calls; the question whether a span was measured, beside looking
+//! at each mark; and square roots, beside those whose digits are all worked out by hand, and the machine's own.
+//! `host/bench` runs it.
 mod speed {
     pub mod clock;
     pub mod inputs;
@@ -10,9 +11,10 @@ mod speed {
 
 use cathar_host::inpaint::MOST_GAPS;
 use cathar_host::recording::MOST_SAMPLES;
+use cathar_host::root::by_digits;
 use cathar_host::whole::Repair;
 use speed::inputs::{BITS, CLIP, DROPOUT, DROPOUT_STRETCH};
-use speed::tasks::{Task, Times, QUESTIONS};
+use speed::tasks::{Numbers, Task, Times, QUESTIONS, ROOTS};
 use std::env;
 use std::iter::successors;
 use std::time::Duration;
@@ -114,6 +116,14 @@ fn questions() {
     table_beside("each mark", &format!("{QUESTIONS} questions of a span"), true, lengths.map(line).collect());
 }
 
+/// Square roots: of any doubles, of the pivots of the longest gap, and of subnormals.
+fn roots(other: &str, beside: fn(f64) -> f64) {
+    let pivots = (format!("pivots of a gap of {LONGEST}"), Numbers::Pivots { len: LONGEST });
+    let numbers = [("any doubles".into(), Numbers::Doubles), pivots, ("subnormals".into(), Numbers::Subnormals)];
+    let lines = numbers.map(|(name, of)| (name, Task::Roots { of, beside }, SAMPLES));
+    table_beside(other, &format!("{ROOTS} square roots"), false, lines.into());
+}
+
 fn main() {
     let processor = env::var("CATHAR_PROCESSOR").unwrap_or_default();
     println!("processor: {}", if processor.is_empty() { "not known" } else { &processor });
@@ -132,4 +142,6 @@ fn main() {
     by_samples("undo of dequantize", Task::Undo);
     list();
     questions();
+    roots("by digits", by_digits::square_root);
+    roots("machine's", f64::sqrt);
 }

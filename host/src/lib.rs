@@ -17,6 +17,7 @@ pub mod prediction;
 pub mod question;
 pub mod recording;
 pub mod room;
+pub mod root;
 pub mod settings;
 pub mod shapes;
 pub mod sounds;

@@ -135,6 +135,18 @@ impl Window {
         let y = band.forward(&self.right_side(&b));
         band.backward(&y).into_iter().map(|x| x as f32).collect()
     }
+
+    /// The pivots of that fill, of each of which a square root is taken.
+    pub fn pivots(&self, model: &Model) -> Vec<f64> {
+        let b = model.autocorrelation();
+        let band = Band::factored(&b, self.gap.len());
+        band.rows.iter().map(|row| pivot(&b, &row[..row.len() - 1])).collect()
+    }
+}
+
+/// "Diagonal plus 1e-6*b[0]; .. pivot raised to at least 1e-12", of the row that has these places before its diagonal.
+fn pivot(b: &[f64], before: &[f64]) -> f64 {
+    before.iter().fold(b[0] + SHARE * b[0], |sum, x| sum - x * x).max(BOUND)
 }
 
 /// The lower triangle of the banded matrix: of each row the places from p before the diagonal on, or from the first one
@@ -145,7 +157,7 @@ struct Band {
 }
 
 impl Band {
-    /// "Diagonal plus 1e-6*b[0]; .. banded Cholesky, pivot raised to at least 1e-12 before its square root."
+    /// "Banded Cholesky, pivot raised to at least 1e-12 before its square root."
     fn factored(b: &[f64], len: usize) -> Band {
         let mut band = Band { p: b.len() - 1, rows: Vec::new() };
         for i in 0..len {
@@ -165,14 +177,12 @@ impl Band {
 
     /// The factor's place in row i and column j, which is the next one to be worked out.
     fn cell(&self, b: &[f64], i: usize, j: usize) -> f64 {
-        let laid = if i == j { b[0] + SHARE * b[0] } else { b[i - j] };
-        let above = &self.rows[j][self.first(i) - self.first(j)..];
-        let sum = self.rows[i].iter().zip(above).fold(laid, |sum, (x, y)| sum - x * y);
         if i == j {
-            sum.max(BOUND).sqrt()
-        } else {
-            sum / self.at(j, j)
+            return pivot(b, &self.rows[i]).sqrt();
         }
+        let above = &self.rows[j][self.first(i) - self.first(j)..];
+        let sum = self.rows[i].iter().zip(above).fold(b[i - j], |sum, (x, y)| sum - x * y);
+        sum / self.at(j, j)
     }
 
     fn at(&self, i: usize, j: usize) -> f64 {

@@ -1,5 +1,7 @@
-//! The recordings on which the times are taken.
+//! The recordings and the numbers on which the times are taken.
 use cathar_host::draw::Draw;
+use cathar_host::float::F64;
+use cathar_host::inpaint::Gap;
 
 /// A dropout has so many samples, and there is one in each stretch of so many.
 pub const DROPOUT: usize = 32;
@@ -51,4 +53,22 @@ pub fn worn(draw: &mut Draw, n: usize) -> Vec<f32> {
         stretch[WORN_STRETCH / 2..][..CLIPPED].fill(CLIP);
     }
     samples
+}
+
+/// Doubles above zero, of every exponent alike.
+pub fn doubles(draw: &mut Draw, n: usize) -> Vec<f64> {
+    (0..n).map(|_| f64::from_bits(F64.pattern(1 + draw.below(2046), draw.digits(52)))).collect()
+}
+
+/// Subnormal doubles above zero, of every number of digits alike.
+pub fn subnormals(draw: &mut Draw, n: usize) -> Vec<f64> {
+    let mut of_size = |size: u32| (1 << size) | (draw.word() & ((1 << size) - 1));
+    (0..n).map(|i| f64::from_bits(of_size(i as u32 % 52))).collect()
+}
+
+/// The pivots of a gap of this length in the middle of a tone of so many samples, over and over.
+pub fn pivots(draw: &mut Draw, samples: usize, len: usize, n: usize) -> Vec<f64> {
+    let words: Vec<u32> = tone(draw, samples).iter().map(|x| x.to_bits()).collect();
+    let window = Gap { start: (samples - len) / 2, len }.widened(&words);
+    window.pivots(&window.model()).into_iter().cycle().take(n).collect()
 }

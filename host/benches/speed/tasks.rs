@@ -19,6 +19,9 @@ const AT_LEAST: Duration = Duration::from_millis(50);
 /// How often the question is asked in one run.
 pub const QUESTIONS: u32 = 100;
 
+/// How many roots are taken in one run.
+pub const ROOTS: usize = 65_536;
+
 /// A scan's rate and limit, which is 48 samples.
 const RATE: u32 = 48_000;
 const LIMIT: f32 = 1.0;
@@ -39,6 +42,19 @@ pub enum Task {
     /// The question, so often, of a span of so many samples from the first on, all of which are measured. In the
     /// original's place it is answered by looking at each mark.
     Questions { len: usize },
+    /// Square roots, so many. In the original's place another function takes them.
+    Roots { of: Numbers, beside: fn(f64) -> f64 },
+}
+
+/// What square roots are taken of.
+#[derive(Clone, Copy)]
+pub enum Numbers {
+    Doubles,
+    /// The pivots of a gap of this length, in n samples.
+    Pivots {
+        len: usize,
+    },
+    Subnormals,
 }
 
 #[derive(Clone, Copy)]
@@ -66,6 +82,9 @@ impl Task {
             Task::Whole(repair) => whole(&inputs::worn(draw, n), repair),
             Task::Undo => undo(&inputs::worn(draw, n)),
             Task::Questions { len } => questions(&opened(&vec![0.0; n], 0), len),
+            Task::Roots { of: Numbers::Doubles, beside } => roots(&inputs::doubles(draw, ROOTS), beside),
+            Task::Roots { of: Numbers::Pivots { len }, beside } => roots(&inputs::pivots(draw, n, len, ROOTS), beside),
+            Task::Roots { of: Numbers::Subnormals, beside } => roots(&inputs::subnormals(draw, ROOTS), beside),
         }
     }
 }
@@ -165,6 +184,23 @@ fn asked(len: usize, is_yes: impl Fn(Span) -> bool) -> u32 {
     // The reference is to a number that lives on.
     let span = || Span { start: 0, len: unsafe { ptr::read_volatile(&len) } };
     (0..QUESTIONS).map(|_| u32::from(is_yes(span()))).sum()
+}
+
+/// The square roots of these numbers. All of them have to be the same.
+fn roots(numbers: &[f64], beside: fn(f64) -> f64) -> Times {
+    assert!(numbers.iter().all(|x| cathar::sqrt(*x).to_bits() == beside(*x).to_bits()), "the roots are not the same");
+    least(|| {
+        let (theirs, sum) = timed(|| sum_of_roots(numbers, beside));
+        let (ours, same) = timed(|| sum_of_roots(numbers, cathar::sqrt));
+        assert_eq!(sum, same);
+        Times { original: Some(theirs), library: ours }
+    })
+}
+
+/// The sum of the roots' patterns, each by a call.
+#[inline(never)]
+fn sum_of_roots(numbers: &[f64], root: fn(f64) -> f64) -> u64 {
+    numbers.iter().fold(0, |sum: u64, x| sum.wrapping_add(root(*x).to_bits()))
 }
 
 /// Both times of a repair that names at most so many samples. The library is lent a recording and a workspace anew

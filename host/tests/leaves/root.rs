@@ -159,14 +159,19 @@ fn is_near_tie(bits: u64, above: bool) -> bool {
 /// For a finite positive double, scaled by a power of 4 to a whole number n whose root has 53 digits:
 /// q, the whole number nearest to that root, by Rust, and n - q * q.
 fn excess(bits: u64) -> Option<(i128, i128)> {
+    let n = i128::from(whole_digits(bits)?) << 52;
+    let root = f64::from_bits(bits).sqrt().to_bits();
+    let q = i128::from(F64.digits(root));
+    Some((q, n - q * q))
+}
+
+/// For a finite positive double, scaled so: n / 2 ^ 52, which are its 53 digits, doubled where its scale is odd.
+pub fn whole_digits(bits: u64) -> Option<u64> {
     if bits == 0 || INFINITY <= bits {
         return None;
     }
     let (digits, odd) = scaled_digits(bits);
-    let n = i128::from(digits) << if odd { 53 } else { 52 };
-    let root = f64::from_bits(bits).sqrt().to_bits();
-    let q = i128::from(F64.digits(root));
-    Some((q, n - q * q))
+    Some(digits << u32::from(odd))
 }
 
 /// The 53 digits of a finite positive double, and whether its scale is odd.

@@ -1,14 +1,14 @@
 -- Squares of whole numbers, for the root of `specs/Root.antt`: the turns of the method by hand, the rounding at its end,
 -- that one number only is nearest to a root, and that `nearestRoot` gives it. Assumes nothing.
 use Prim.Native.Nat.{ℕ, zero, suc, _+_, _-_, _*_, _/_, _%_, _^_, _≤_, _<_, zero-le}
-use native.Mathlib.Nat.{le-antisymm, le-trans, lt-of-lt-of-le, lt-of-not-le, not-le-of-lt, zero-lt-suc, add-assoc}
+use native.Mathlib.Nat.{le-antisymm, le-trans, lt-of-lt-of-le, lt-of-le-of-lt, lt-of-not-le, not-le-of-lt, zero-lt-suc, add-assoc}
 use native.Mathlib.Nat.{pow-succ', two-pow-succ}
-use native.Mathlib.Nat.{add-mul, mul-add, mul-comm, mul-le-mul, mul-left-comm, mul-mul-mul-comm, mul-one, one-mul}
+use native.Mathlib.Nat.{add-mul, mul-add, mul-assoc, mul-comm, mul-le-mul, mul-left-comm, mul-mul-mul-comm, mul-one, mul-right-comm, one-mul}
 use native.Mathlib.Numerals.{add-one}
 use native.Mathlib.Omega.{arith}
 use mathlib.Core.Path.{_≡_, sym, ap, _∙_, subst}
 use mathlib.Core.Bool.{Bool, true, false, not, cond}
-use lib.Dec.{T, lit≤, leb, ltb, leb→le, nleb→lt, ltb→lt, nltb→le}
+use lib.Dec.{T, lit≤, lit<, leb, ltb, leb→le, nleb→lt, ltb→lt, nltb→le}
 use lib.Pow.{pow-mono}
 use Rattle.leaves.specs.Root.{Nearest, extend, wholeRoot, nearestRoot}
 
@@ -87,6 +87,46 @@ taken-all {digits} t e =
     let last = t .all ∙ ap (λ (n : ℕ). digits * 4 ^ n) e in
     omega arith
 
+-- ---- the square of a root in two halves
+
+-- a root of 53 digits, with its lower half of 26
+module _ (root : ℕ) where
+  abbrev pub high : ℕ
+  high = root / 2 ^ 26
+
+  abbrev pub low : ℕ
+  low = root % 2 ^ 26
+
+  -- its square, as it is taken away from the top down
+  pub square-of-halves : root * root ≡ high * high * 2 ^ 52 + 2 * high * low * 2 ^ 26 + low * low
+  square-of-halves =
+      let x = high * 2 ^ 26 in
+      let whole : root ≡ x + low = omega arith in
+      let square : (x + low) * (x + low) ≡ x * x + low * x + (x * low + low * low) = simp (mul-add, add-mul) in
+      let first : x * x ≡ high * high * 2 ^ 52 = mul-mul-mul-comm high (2 ^ 26) high (2 ^ 26) in
+      let second : x * low ≡ high * low * 2 ^ 26 = mul-right-comm high (2 ^ 26) low in
+      let third : low * x ≡ x * low = mul-comm low x in
+      let twice : 2 * high * low ≡ 2 * (high * low) = mul-assoc 2 high low in
+      let of-sum : root * root ≡ (x + low) * (x + low) = ap (λ (y : ℕ). y * y) whole in
+      omega arith
+
+  -- so that each part fits 64 digits
+  pub high-square-small : root < 2 ^ 53 → high * high < 2 ^ 54
+  high-square-small h =
+      let most : high ≤ 2 ^ 27 - 1 = omega arith in
+      lt-of-le-of-lt (mul-le-mul most most) (lit< tt)
+
+  pub product-small : root < 2 ^ 53 → 2 * high * low < 2 ^ 54
+  product-small h =
+      let most : 2 * high ≤ 2 ^ 28 - 2 = omega arith in
+      let below : low ≤ 2 ^ 26 - 1 = omega arith in
+      lt-of-le-of-lt (mul-le-mul most below) (lit< tt)
+
+  pub low-square-small : low * low < 2 ^ 52
+  low-square-small =
+      let most : low ≤ 2 ^ 26 - 1 = omega arith in
+      lt-of-le-of-lt (mul-le-mul most most) (lit< tt)
+
 -- ---- the number nearest to the root
 
 -- q + 1 is nearest to the root of n where that root lies between q + 1/2 and q + 3/2.
@@ -98,10 +138,17 @@ nearest-next n q low high =
     let next = square-of-next q in
     record { above = rw under (omega arith); below = omega arith }
 
--- n is root * root + rest, and root its whole root. Where rest is above root, the root is above root + 1/2, since n is
--- whole.
-pub nearest-up : (n rest root : ℕ) → n ≡ root * root + rest → rest ≤ 2 * root → root < rest → Nearest n (root + 1)
+-- n is root * root + rest. Where rest is above root, the root of n is above root + 1/2, since n is whole; and up to
+-- 3 * root + 2 it is below root + 3/2.
+pub nearest-up : (n rest root : ℕ) → n ≡ root * root + rest → rest ≤ 3 * root + 2 → root < rest → Nearest n (root + 1)
 nearest-up n rest root e w l = nearest-next n root (omega arith) (omega arith)
+
+-- from there up to 5 * root + 6 it is below root + 5/2
+pub nearest-two-up : (n rest root : ℕ) → n ≡ root * root + rest → rest ≤ 5 * root + 6 → 3 * root + 2 < rest → Nearest n (root + 2)
+nearest-two-up n rest root e w l =
+    let next = square-of-next root in
+    let two : root + 1 + 1 ≡ root + 2 = omega arith in
+    subst (λ (q : ℕ). Nearest n q) two (nearest-next n (root + 1) (omega arith) (omega arith))
 
 -- where it is not, the root is below root + 1/2
 pub nearest-down : (n rest root : ℕ) → n ≡ root * root + rest → 0 < n → rest ≤ root → Nearest n root

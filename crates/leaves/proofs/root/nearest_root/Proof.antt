@@ -1,97 +1,70 @@
--- `leaves::root::nearest_root` meets its contract. The invariant of its loop is `Taken` of `../Squares.antt`, which has
--- the arithmetic. The measure is how many turns are left. Assumes nothing.
-use Prim.Native.Nat.{_-_}
+-- `leaves::root::nearest_root` meets its contract: by what its rest is, `../Squares.antt` says which number is nearest.
+-- Assumes nothing.
+use borrow.Author.Needs.{needs}
 use native.Mathlib.Omega.{arith}
-use Rattle.leaves.proofs.root.Squares.{Taken, start, taken-small, turn-one, turn-zero, taken-all, nearest-up}
-use Rattle.leaves.proofs.root.Squares.{nearest-down}
+use Rattle.leaves.proofs.root.Squares.{nearest-down, nearest-up, nearest-two-up}
 use Rattle.leaves.proofs.root.nearest_root.Statement.{statement}
 use Rattle.leaves.proofs.root.nearest_root.Tie as tie
 
-abbrev Inv-loop : tie.InvT-loop
-Inv-loop digits left₀ rest₀ root₀ turns₀ left rest root turns = Taken digits left rest root turns
+guess-less-one-requires : tie.Need-guess-less-one-requires
+guess-less-one-requires c κs = search needs
 
-abbrev μ-loop : tie.MeasureT-loop
-μ-loop digits left₀ rest₀ root₀ turns₀ left rest root turns = 53 - turns
+rest-of-square-requires : tie.Need-rest-of-square-requires
+rest-of-square-requires c κs = search needs
 
-loop-holds : tie.Need-loop-holds Inv-loop μ-loop
-loop-holds c = start (c .args .digits) (c .pre .1)
+mul-if1 : tie.Need-mul-if1
+mul-if1 c = search needs
 
-add-turns : tie.Need-add-turns Inv-loop μ-loop
-add-turns c = omega arith
+add-if1 : tie.Need-add-if1
+add-if1 c = search needs
 
-mul-rest : tie.Need-mul-rest Inv-loop μ-loop
-mul-rest c = omega (arith, taken-small (c .before .loop .inv))
+root-by-digits-requires : tie.Need-root-by-digits-requires
+root-by-digits-requires c κs = search needs
 
-add-rest : tie.Need-add-rest Inv-loop μ-loop
-add-rest c = omega (arith, taken-small (c .before .loop .inv))
+mul-if2 : tie.Need-mul-if2
+mul-if2 c = search needs
 
-mul-left : tie.Need-mul-left Inv-loop μ-loop
-mul-left c = omega arith
+add-if2 : tie.Need-add-if2
+add-if2 c = search needs
 
-mul-root : tie.Need-mul-root Inv-loop μ-loop
-mul-root c = omega (arith, taken-small (c .before .loop .inv))
+add-result : tie.Need-add-result
+add-result c = search needs
 
-mul-if1 : tie.Need-mul-if1 Inv-loop μ-loop
-mul-if1 c = omega (arith, taken-small (c .before .loop .inv))
+add-result-2 : tie.Need-add-result-2
+add-result-2 c = search needs
 
-mul-rest-2 : tie.Need-mul-rest-2 Inv-loop μ-loop
-mul-rest-2 c = omega (arith, taken-small (c .before .before .loop .inv))
+returns : tie.Need-returns
+returns c = search needs
 
-add-rest-2 : tie.Need-add-rest-2 Inv-loop μ-loop
-add-rest-2 c = omega (arith, taken-small (c .before .before .loop .inv))
-
-sub-rest : tie.Need-sub-rest Inv-loop μ-loop
-sub-rest c = omega arith
-
-add-root : tie.Need-add-root Inv-loop μ-loop
-add-root c = omega (arith, taken-small (c .before .before .loop .inv))
-
-loop-less : tie.Need-loop-less Inv-loop μ-loop
-loop-less c = omega arith
-
-loop-again : tie.Need-loop-again Inv-loop μ-loop
-loop-again c = turn-one (c .before .loop-test .taken) (c .before .before .loop .inv) (c .if1 .taken)
-
-loop-less-2 : tie.Need-loop-less-2 Inv-loop μ-loop
-loop-less-2 c = omega arith
-
-loop-again-2 : tie.Need-loop-again-2 Inv-loop μ-loop
-loop-again-2 c = turn-zero (c .before .loop-test .taken) (c .before .before .loop .inv) (c .if1 .left)
-
-add-result : tie.Need-add-result Inv-loop μ-loop
-add-result c = omega (arith, taken-small (c .before .before .loop .inv))
-
-returns : tie.Need-returns Inv-loop μ-loop
-returns c =
-    let at = c .before .before .loop .inv in
-    nearest-up _ _ _ (taken-all at (omega arith)) (at .whole) (c .if2 .taken)
-
-returns-2 : tie.Need-returns-2 Inv-loop μ-loop
+returns-2 : tie.Need-returns-2
 returns-2 c =
-    let at = c .before .before .loop .inv in
-    nearest-down _ _ _ (taken-all at (omega arith)) (omega arith) (c .if2 .left)
+    let is = c .before .before .rest-of-square .ensures .0 (omega arith) in
+    nearest-two-up _ _ _ is (omega arith) (c .if2 .taken)
+
+returns-3 : tie.Need-returns-3
+returns-3 c =
+    let is = c .before .before .before .rest-of-square .ensures .0 (omega arith) in
+    nearest-up _ _ _ is (omega arith) (c .if3 .taken)
+
+returns-4 : tie.Need-returns-4
+returns-4 c =
+    let is = c .before .before .before .rest-of-square .ensures .0 (omega arith) in
+    nearest-down _ _ _ is (omega arith) (c .if3 .left)
 
 pub nearest-root-spec : {M : Type 1} → statement M
 nearest-root-spec =
     tie.close
     (tie.spec
-    Inv-loop
-    μ-loop
-    loop-holds
-    add-turns
-    mul-rest
-    add-rest
-    mul-left
-    mul-root
+    guess-less-one-requires
+    rest-of-square-requires
     mul-if1
-    mul-rest-2
-    add-rest-2
-    sub-rest
-    add-root
-    loop-less
-    loop-again
-    loop-less-2
-    loop-again-2
+    add-if1
+    root-by-digits-requires
+    mul-if2
+    add-if2
     add-result
+    add-result-2
     returns
-    returns-2)
+    returns-2
+    returns-3
+    returns-4)
