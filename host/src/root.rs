@@ -2,6 +2,28 @@
 //! without its contracts. It tells what the library cannot: how near its guess is, and how often the check turns one
 //! away.
 
+use crate::float::F64;
+
+/// For a finite positive double, scaled by a power of 4 to a whole number n whose root has 53 digits: n / 2 ^ 52, which
+/// is the double's 53 digits, doubled where its scale is odd.
+pub fn whole_digits(bits: u64) -> Option<u64> {
+    if bits == 0 || f64::INFINITY.to_bits() <= bits {
+        return None;
+    }
+    if F64.is_subnormal(bits) {
+        let shift = bits.leading_zeros() - 11;
+        return Some(bits << (shift + shift % 2));
+    }
+    Some(F64.digits(bits) << u32::from(F64.field(bits) % 2 == 0))
+}
+
+/// For such a double: q, the whole number nearest to the root, by Rust, and n - q * q.
+pub fn excess(bits: u64) -> Option<(i128, i128)> {
+    let n = i128::from(whole_digits(bits)?) << 52;
+    let q = i128::from(F64.digits(f64::from_bits(bits).sqrt().to_bits()));
+    Some((q, n - q * q))
+}
+
 /// What the text takes from `crates/leaves/src/words.rt`.
 mod words {
     pub const FIELD64: u64 = 1 << 52;

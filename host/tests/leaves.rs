@@ -17,7 +17,7 @@ use cathar_host::cathar;
 use cathar_host::draw::{self, Draw};
 use cathar_host::float::{word32, word64, F32, F64};
 use cathar_host::original::{self, Kind};
-use cathar_host::root::{by_guess, by_short_guess};
+use cathar_host::root::{by_guess, by_short_guess, whole_digits};
 use cathar_host::tally::Tally;
 use cathar_host::wrong;
 use leaves::{guess, narrow, root, whole};
@@ -59,7 +59,7 @@ fn guesses() {
     let (mut full, mut short) = (guess::Tally::default(), guess::Tally::default());
     while full.values() < draw::values() {
         root::turn(&mut draw, &mut |bits| {
-            if let Some(digits) = root::whole_digits(bits) {
+            if let Some(digits) = whole_digits(bits) {
                 let root = wrong::sqrt(f64::from_bits(bits)).to_bits();
                 full.take(by_guess::guess(digits), F64.digits(root));
                 short.take(by_short_guess::guess(digits), F64.digits(root));

@@ -1,13 +1,18 @@
 //! The library needs the floating-point state that a program starts with, as the header says. In another state it
-//! gives other words: these tests show two, and that in the usual state before and after it gives the right ones.
+//! gives other words: these tests show two, and that in the usual state before and after it gives the right ones. And
+//! one shows what does not depend on the rounding: the root, whose guess is made of floats and checked without them.
 #![cfg(target_arch = "x86_64")]
 use cathar_host::cathar;
+use cathar_host::draw::{Draw, SEED};
+use cathar_host::float::F64;
 use std::arch::asm;
 
-/// The words of the register that holds the state: as a program starts; with rounding upward; and with subnormals
-/// that are taken and given as zeros.
+/// The words of the register that holds the state: as a program starts; with rounding downward, upward and toward zero;
+/// and with subnormals that are taken and given as zeros.
 const USUAL: u32 = 0x1f80;
+const DOWNWARD: u32 = USUAL | 0x2000;
 const UPWARD: u32 = USUAL | 0x4000;
+const TOWARD_ZERO: u32 = USUAL | 0x6000;
 const FLUSHED: u32 = USUAL | 0x8040;
 
 fn set(state: u32) {
@@ -59,4 +64,17 @@ fn subnormals_flushed() {
     assert_eq!(cathar::sqrt(least).to_bits(), root.to_bits());
     assert_eq!(within(FLUSHED, || cathar::sqrt(least)).to_bits(), least.to_bits());
     assert_eq!(cathar::sqrt(least).to_bits(), root.to_bits());
+}
+
+/// The roots of doubles of any exponent.
+#[test]
+fn roots_in_any_rounding() {
+    let mut draw = Draw::new(SEED);
+    let mut number = || f64::from_bits(F64.pattern(1 + draw.below(2046), draw.digits(52)));
+    let numbers: Vec<f64> = (0..200_000).map(|_| number()).collect();
+    let usual: Vec<u64> = numbers.iter().map(|x| x.sqrt().to_bits()).collect();
+    for state in [USUAL, DOWNWARD, UPWARD, TOWARD_ZERO] {
+        let roots: Vec<u64> = within(state, || numbers.iter().map(|x| cathar::sqrt(*x).to_bits()).collect());
+        assert!(roots == usual, "in the state {state:#x}");
+    }
 }

@@ -89,10 +89,9 @@ fn rest_of_square(digits: u64, root: u64) -> u64
     brought_down(left, low * low)
 }
 
-// The whole number nearest to the root of digits * 2 ^ 52, which has 105 or 106 binary digits, so
-// that the root has 53. By hand, as in long division: each turn takes the next two digits, and the
-// root gains one. `rest` is what the digits so far exceed the square of the root by; `left` holds
-// the digits to come, the next two on top.
+// The whole number nearest to the root of digits * 2 ^ 52, by hand, as in long division: each turn takes
+// the next two of its 106 digits, and the root gains one. `rest` is what the digits so far exceed the
+// square of the root by; `left` holds the digits to come, the next two on top.
 fn root_by_digits(digits: u64) -> u64
     requires { ⌜ (2 ^ 52 ≤ digits) × (digits < 2 ^ 54) ⌝ }
     ensures { λ r. ⌜ Nearest (digits * 2 ^ 52) r ⌝ }

@@ -2,6 +2,7 @@
 use super::How::{Narrow, Root, Round};
 use super::{Finds, Standin, Table};
 use crate::float::F64;
+use crate::root::{by_guess, excess, whole_digits};
 
 pub(super) const TABLES: &[Table] = &[
     Table { file: "leaves", test: "square_root", finds: Finds::Always, standins: ROOTS },
@@ -25,6 +26,21 @@ const ROOTS: &[Standin] = &[
         name: "root_by_steps",
         says: "the root is approached by steps of half the sum of guess and quotient, and not rounded correctly after",
         how: Root(root_by_steps),
+    },
+    Standin {
+        name: "root_guess_unchecked",
+        says: "the library's own guess is given, without its check",
+        how: Root(|x| stepped(x.sqrt(), guess_off(x))),
+    },
+    Standin {
+        name: "root_guess_left_high",
+        says: "the library's own guess is given where it is one too high",
+        how: Root(|x| stepped(x.sqrt(), guess_off(x).max(0))),
+    },
+    Standin {
+        name: "root_guess_left_low",
+        says: "the library's own guess is given where it is one too low",
+        how: Root(|x| stepped(x.sqrt(), guess_off(x).min(0))),
     },
     Standin {
         name: "root_below_power_of_4",
@@ -123,35 +139,29 @@ const ROUNDINGS: &[Standin] = &[
 /// of `excess`.
 const NEAR: i128 = 64;
 
-/// For a finite positive double, scaled by a power of 4 to a whole number n whose root has 53 digits: q, the whole
-/// number nearest to that root, and n - q * q.
-fn excess(x: f64) -> Option<(i128, i128)> {
-    if !(x > 0.0 && x.is_finite()) {
-        return None;
-    }
-    let x = if x.is_normal() { x } else { x * 2f64.powi(54) };
-    let n = i128::from(F64.digits(x.to_bits())) << (52 + (1 - F64.field(x.to_bits()) % 2));
-    let q = i128::from(F64.digits(x.sqrt().to_bits()));
-    Some((q, n - q * q))
-}
-
 /// The double one step nearer to zero, or so many steps farther, for one that is no zero.
 fn stepped(x: f64, steps: i64) -> f64 {
     f64::from_bits(x.to_bits().wrapping_add(steps as u64))
 }
 
+/// How many steps the library's guess at the root is above it.
+fn guess_off(x: f64) -> i64 {
+    let above = |digits| by_guess::guess(digits) as i64 - F64.digits(x.sqrt().to_bits()) as i64;
+    whole_digits(x.to_bits()).map_or(0, above)
+}
+
 fn root_cut(x: f64) -> f64 {
-    let rounded_up = matches!(excess(x), Some((_, over)) if over < 0);
+    let rounded_up = matches!(excess(x.to_bits()), Some((_, over)) if over < 0);
     stepped(x.sqrt(), -i64::from(rounded_up))
 }
 
 fn root_low_above_tie(x: f64) -> f64 {
-    let above_tie = matches!(excess(x), Some((q, over)) if over < 0 && q + over <= NEAR);
+    let above_tie = matches!(excess(x.to_bits()), Some((q, over)) if over < 0 && q + over <= NEAR);
     stepped(x.sqrt(), -i64::from(above_tie))
 }
 
 fn root_high_below_tie(x: f64) -> f64 {
-    let below_tie = matches!(excess(x), Some((q, over)) if over > 0 && q - over <= NEAR);
+    let below_tie = matches!(excess(x.to_bits()), Some((q, over)) if over > 0 && q - over <= NEAR);
     stepped(x.sqrt(), i64::from(below_tie))
 }
 

@@ -1,6 +1,7 @@
 //! Doubles to take the square root of.
 use cathar_host::draw::Draw;
 use cathar_host::float::F64;
+use cathar_host::root::excess;
 use cathar_host::tally::Class;
 
 const INFINITY: u64 = 0x7ff0_0000_0000_0000;
@@ -154,31 +155,4 @@ fn is_near_tie(bits: u64, above: bool) -> bool {
         Some((q, over)) => (over < 0) == above && q - over.abs() <= i128::from(NEAR),
         None => false,
     }
-}
-
-/// For a finite positive double, scaled by a power of 4 to a whole number n whose root has 53 digits:
-/// q, the whole number nearest to that root, by Rust, and n - q * q.
-fn excess(bits: u64) -> Option<(i128, i128)> {
-    let n = i128::from(whole_digits(bits)?) << 52;
-    let root = f64::from_bits(bits).sqrt().to_bits();
-    let q = i128::from(F64.digits(root));
-    Some((q, n - q * q))
-}
-
-/// For a finite positive double, scaled so: n / 2 ^ 52, which are its 53 digits, doubled where its scale is odd.
-pub fn whole_digits(bits: u64) -> Option<u64> {
-    if bits == 0 || INFINITY <= bits {
-        return None;
-    }
-    let (digits, odd) = scaled_digits(bits);
-    Some(digits << u32::from(odd))
-}
-
-/// The 53 digits of a finite positive double, and whether its scale is odd.
-fn scaled_digits(bits: u64) -> (u64, bool) {
-    if F64.field(bits) > 0 {
-        return (F64.digits(bits), F64.field(bits) % 2 == 0);
-    }
-    let shift = bits.leading_zeros() - 11;
-    (bits << shift, shift % 2 == 1)
 }

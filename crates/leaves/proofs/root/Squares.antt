@@ -1,5 +1,6 @@
--- Squares of whole numbers, for the root of `specs/Root.antt`: the turns of the method by hand, the rounding at its end,
--- that one number only is nearest to a root, and that `nearestRoot` gives it. Assumes nothing.
+-- Squares of whole numbers, for the root of `specs/Root.antt`: the turns of the method by hand, a square in two halves,
+-- which number is nearest by what is left of a square, that one number only is nearest to a root, and that `nearestRoot`
+-- gives it. Assumes nothing.
 use Prim.Native.Nat.{ℕ, zero, suc, _+_, _-_, _*_, _/_, _%_, _^_, _≤_, _<_, zero-le}
 use native.Mathlib.Nat.{le-antisymm, le-trans, lt-of-lt-of-le, lt-of-le-of-lt, lt-of-not-le, not-le-of-lt, zero-lt-suc, add-assoc}
 use native.Mathlib.Nat.{pow-succ', two-pow-succ}
@@ -87,9 +88,9 @@ taken-all {digits} t e =
     let last = t .all ∙ ap (λ (n : ℕ). digits * 4 ^ n) e in
     omega arith
 
--- ---- the square of a root in two halves
+-- ---- a square in two halves
 
--- a root of 53 digits, with its lower half of 26
+-- the two halves of a root, the lower of 26 digits
 module _ (root : ℕ) where
   abbrev pub high : ℕ
   high = root / 2 ^ 26
@@ -97,7 +98,7 @@ module _ (root : ℕ) where
   abbrev pub low : ℕ
   low = root % 2 ^ 26
 
-  -- its square, as it is taken away from the top down
+  -- the square by its three parts, from the top down
   pub square-of-halves : root * root ≡ high * high * 2 ^ 52 + 2 * high * low * 2 ^ 26 + low * low
   square-of-halves =
       let x = high * 2 ^ 26 in
@@ -110,7 +111,7 @@ module _ (root : ℕ) where
       let of-sum : root * root ≡ (x + low) * (x + low) = ap (λ (y : ℕ). y * y) whole in
       omega arith
 
-  -- so that each part fits 64 digits
+  -- of a root of 53 digits each part fits 64 digits
   pub high-square-small : root < 2 ^ 53 → high * high < 2 ^ 54
   high-square-small h =
       let most : high ≤ 2 ^ 27 - 1 = omega arith in
@@ -150,7 +151,7 @@ nearest-two-up n rest root e w l =
     let two : root + 1 + 1 ≡ root + 2 = omega arith in
     subst (λ (q : ℕ). Nearest n q) two (nearest-next n (root + 1) (omega arith) (omega arith))
 
--- where it is not, the root is below root + 1/2
+-- where rest is at most root, it is below root + 1/2
 pub nearest-down : (n rest root : ℕ) → n ≡ root * root + rest → 0 < n → rest ≤ root → Nearest n root
 nearest-down n rest zero e p l = record { above = omega arith; below = omega arith }
 nearest-down n rest (suc k) e p l =
