@@ -14,7 +14,7 @@ use cathar_host::recording::MOST_SAMPLES;
 use cathar_host::root::by_digits;
 use cathar_host::whole::Repair;
 use speed::inputs::{BITS, CLIP, DROPOUT, DROPOUT_STRETCH};
-use speed::tasks::{Numbers, Task, Times, QUESTIONS, ROOTS};
+use speed::tasks::{in_turn, on_their_own, How, Numbers, Task, Times, QUESTIONS, ROOTS};
 use std::env;
 use std::iter::successors;
 use std::time::Duration;
@@ -117,11 +117,11 @@ fn questions() {
 }
 
 /// Square roots: of any doubles, of the pivots of the longest gap, and of subnormals.
-fn roots(other: &str, beside: fn(f64) -> f64) {
+fn roots(other: &str, beside: fn(f64) -> f64, what: &str, how: How) {
     let pivots = (format!("pivots of a gap of {LONGEST}"), Numbers::Pivots { len: LONGEST });
     let numbers = [("any doubles".into(), Numbers::Doubles), pivots, ("subnormals".into(), Numbers::Subnormals)];
-    let lines = numbers.map(|(name, of)| (name, Task::Roots { of, beside }, SAMPLES));
-    table_beside(other, &format!("{ROOTS} square roots"), false, lines.into());
+    let lines = numbers.map(|(name, of)| (name, Task::Roots { of, how, beside }, SAMPLES));
+    table_beside(other, &format!("{ROOTS} square roots{what}"), false, lines.into());
 }
 
 fn main() {
@@ -142,6 +142,8 @@ fn main() {
     by_samples("undo of dequantize", Task::Undo);
     list();
     questions();
-    roots("by digits", by_digits::square_root);
-    roots("machine's", f64::sqrt);
+    for (other, beside) in [("by digits", by_digits::square_root as fn(f64) -> f64), ("machine's", f64::sqrt)] {
+        roots(other, beside, "", on_their_own);
+        roots(other, beside, ", in turn", in_turn);
+    }
 }

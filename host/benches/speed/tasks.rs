@@ -42,9 +42,13 @@ pub enum Task {
     /// The question, so often, of a span of so many samples from the first on, all of which are measured. In the
     /// original's place it is answered by looking at each mark.
     Questions { len: usize },
-    /// Square roots, so many. In the original's place another function takes them.
-    Roots { of: Numbers, beside: fn(f64) -> f64 },
+    /// Square roots, so many, each on its own or after the one before it. In the original's place another function
+    /// takes them.
+    Roots { of: Numbers, how: How, beside: fn(f64) -> f64 },
 }
+
+/// Square roots of numbers, and something of them that shows that they were taken.
+pub type How = fn(&[f64], fn(f64) -> f64) -> u64;
 
 /// What square roots are taken of.
 #[derive(Clone, Copy)]
@@ -55,6 +59,16 @@ pub enum Numbers {
         len: usize,
     },
     Subnormals,
+}
+
+impl Numbers {
+    fn drawn(self, draw: &mut Draw, n: usize) -> Vec<f64> {
+        match self {
+            Numbers::Doubles => inputs::doubles(draw, ROOTS),
+            Numbers::Pivots { len } => inputs::pivots(draw, n, len, ROOTS),
+            Numbers::Subnormals => inputs::subnormals(draw, ROOTS),
+        }
+    }
 }
 
 #[derive(Clone, Copy)]
@@ -82,9 +96,7 @@ impl Task {
             Task::Whole(repair) => whole(&inputs::worn(draw, n), repair),
             Task::Undo => undo(&inputs::worn(draw, n)),
             Task::Questions { len } => questions(&opened(&vec![0.0; n], 0), len),
-            Task::Roots { of: Numbers::Doubles, beside } => roots(&inputs::doubles(draw, ROOTS), beside),
-            Task::Roots { of: Numbers::Pivots { len }, beside } => roots(&inputs::pivots(draw, n, len, ROOTS), beside),
-            Task::Roots { of: Numbers::Subnormals, beside } => roots(&inputs::subnormals(draw, ROOTS), beside),
+            Task::Roots { of, how, beside } => roots(&of.drawn(draw, n), how, beside),
         }
     }
 }
@@ -187,20 +199,26 @@ fn asked(len: usize, is_yes: impl Fn(Span) -> bool) -> u32 {
 }
 
 /// The square roots of these numbers. All of them have to be the same.
-fn roots(numbers: &[f64], beside: fn(f64) -> f64) -> Times {
+fn roots(numbers: &[f64], how: How, beside: fn(f64) -> f64) -> Times {
     assert!(numbers.iter().all(|x| cathar::sqrt(*x).to_bits() == beside(*x).to_bits()), "the roots are not the same");
     least(|| {
-        let (theirs, sum) = timed(|| sum_of_roots(numbers, beside));
-        let (ours, same) = timed(|| sum_of_roots(numbers, cathar::sqrt));
-        assert_eq!(sum, same);
+        let (theirs, shown) = timed(|| how(numbers, beside));
+        let (ours, same) = timed(|| how(numbers, cathar::sqrt));
+        assert_eq!(shown, same);
         Times { original: Some(theirs), library: ours }
     })
 }
 
-/// The sum of the roots' patterns, each by a call.
+/// Each root on its own, so that the processor may begin with the next before one is done: the sum of their patterns.
 #[inline(never)]
-fn sum_of_roots(numbers: &[f64], root: fn(f64) -> f64) -> u64 {
+pub fn on_their_own(numbers: &[f64], root: fn(f64) -> f64) -> u64 {
     numbers.iter().fold(0, |sum: u64, x| sum.wrapping_add(root(*x).to_bits()))
+}
+
+/// Each root after the one before it, of which 0 times as much is added to its number: the pattern of the last.
+#[inline(never)]
+pub fn in_turn(numbers: &[f64], root: fn(f64) -> f64) -> u64 {
+    numbers.iter().fold(0.0, |last, x| root(x + 0.0 * last)).to_bits()
 }
 
 /// Both times of a repair that names at most so many samples. The library is lent a recording and a workspace anew
