@@ -2,7 +2,7 @@
 //! root (`src/root.rs`).
 use std::env;
 use std::fs;
-use std::path::PathBuf;
+use std::path::{Path, PathBuf};
 
 fn main() {
     let host = PathBuf::from(env::var_os("CARGO_MANIFEST_DIR").expect("cargo sets CARGO_MANIFEST_DIR"));
@@ -21,7 +21,7 @@ fn main() {
 
 /// Writes three files for `src/root.rs`: the root as it is, with the digits by hand under another name, so that they
 /// can be counted; with a guess of one step less; and with the digits by hand for every number.
-fn write_roots(source: &PathBuf) {
+fn write_roots(source: &Path) {
     println!("cargo:rerun-if-changed={}", source.display());
     let text = fs::read_to_string(source).expect("the text of the root");
     let root = as_rust(&text);
