@@ -1,6 +1,7 @@
 -- Every call of the library on a recording, under one type, and what it ends in. What an exported function promises is the
--- equation between what it leaves and `ran` of its call, or `opening`; of the one that reads frames, `toldOf` what these deliver, and of the
--- one that asks whether a span was measured, `spanToldOf` the verdict. Definitions only.
+-- equation between what it leaves and `ran` of its call, or `opening`; of the one that reads frames, `toldOf` what these deliver; of the
+-- one that asks whether a span was measured, `spanToldOf` the verdict; and of the three of the crackle detector, `begunTold` or `heardTold`
+-- what their call on its words ends in. Definitions only.
 use Prim.Native.Nat.{ℕ}
 use mathlib.Core.List.{List, [], _∷_}
 use lib.ListN.{length}
@@ -16,6 +17,7 @@ use Rattle.redraw.specs.Whole as whole
 use Rattle.declip.specs.Declip.{declipRepair}
 use Rattle.decrackle.specs.Decrackle.{decrackleRepair}
 use Rattle.dequant.specs.Dequant.{dequantizeRepair, cosparseRepair}
+use Rattle.crackle.specs.Kept.{Kept}
 use Rattle.frames.specs.Frames.{Delivered}
 
 -- a call with its settings and the workspace that it is lent: doubles for a gap, for several and for the automatic scan, 32-bit words for
@@ -114,3 +116,20 @@ spanTold k affirmed = record { number = k; yes = affirmed }
 
 abbrev pub spanToldOf : Verdict → SpanTold
 spanToldOf v = spanTold (verdictNumber v) (verdictYes v)
+
+-- a call on the crackle detector, which is no call on a recording, leaves its number, its value if it has one, the words that keep the
+-- detector, and the room for flags; an announcement has neither value nor room
+pub record CrackleTold : Type 0 where
+  pub number : ℕ
+  pub values : List ℕ
+  pub words : List ℕ
+  pub room : List ℕ
+
+abbrev pub crackleTold : ℕ → List ℕ → List ℕ → List ℕ → CrackleTold
+crackleTold k values words room = record { number = k; values = values; words = words; room = room }
+
+abbrev pub begunTold : Kept → CrackleTold
+begunTold c = crackleTold (number (c .answer)) [] (c .words) (c .room)
+
+abbrev pub heardTold : Kept → CrackleTold
+heardTold c = crackleTold (number (c .answer)) (value (c .answer) ∷ []) (c .words) (c .room)

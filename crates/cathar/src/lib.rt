@@ -9,6 +9,8 @@ ghost use Rattle.leaves.specs.Root.{Rooted};
 ghost use Rattle.cathar.specs.Calls.{gap, gaps, answersOf, scan, declip, decrackle, dequantize, cosparse, undo};
 ghost use Rattle.cathar.specs.Calls.{none, doubles, words, outcome, ran};
 ghost use Rattle.cathar.specs.Calls.{asMeasured, asReceived, opening, framesTold, toldOf, spanTold, spanToldOf};
+ghost use Rattle.cathar.specs.Calls.{crackleTold, begunTold, heardTold};
+ghost use Rattle.crackle.specs.Kept.{beginKept, pieceKept, endKept};
 ghost use Rattle.frames.specs.Frames.{framesRead};
 ghost use Rattle.inpaint.specs.Order.{gapOrder, scanOrders};
 ghost use Rattle.splice.specs.Several.{answersLent, answersLeft};
@@ -328,6 +330,46 @@ pub extern "C" fn cathar_measured(
     let verdict = recording::question::measured(marks, counts, start, len);
     *yes = verdict_yes(verdict);
     verdict_number(verdict)
+}
+
+// Announces a recording of so many samples to the crackle detector, which is kept in the first 8 words of
+// state. The number of the refusal, 6 for fewer words, 2 or 4, or 0; a refusal leaves the words as they were.
+#[no_mangle]
+pub extern "C" fn cathar_crackle_begin(total: usize, sensitivity: f32, state: &mut [u32]) -> u32
+    ensures { λ r. ⌜ crackleTold r [] (now (state .exit)) [] ≡ begunTold (beginKept total sensitivity (now (state .entry))) ⌝ }
+{
+    let answer = crackle::kept::begin(total, sensitivity, state);
+    number_of(answer)
+}
+
+// Gives the crackle detector the next samples, and writes the flags that this brings, those of all places up to
+// the last sample but one. The number of the refusal, 13, 6 or 7, or 0; value becomes how many flags were
+// written, the place in the whole for 7, and 0 for the other refusals.
+#[no_mangle]
+pub extern "C" fn cathar_crackle_piece(
+    state: &mut [u32],
+    piece: &[u32],
+    flags: &mut [u8],
+    value: &mut usize,
+) -> u32
+    ensures { λ r. ⌜ crackleTold r (now (value .exit) ∷ []) (now (state .exit)) (now (flags .exit))
+        ≡ heardTold (pieceKept (now (state .entry)) (now (piece .entry)) (now (flags .entry))) ⌝ }
+{
+    let answer = crackle::kept::piece(state, piece, flags);
+    *value = value_of(answer);
+    number_of(answer)
+}
+
+// Ends the run of the crackle detector, and writes the last flag, or none where no sample was announced. The
+// number of the refusal, 13 or 6, or 0; value becomes how many flags were written, and 0 for a refusal.
+#[no_mangle]
+pub extern "C" fn cathar_crackle_end(state: &mut [u32], flags: &mut [u8], value: &mut usize) -> u32
+    ensures { λ r. ⌜ crackleTold r (now (value .exit) ∷ []) (now (state .exit)) (now (flags .exit))
+        ≡ heardTold (endKept (now (state .entry)) (now (flags .entry))) ⌝ }
+{
+    let answer = crackle::kept::finish(state, flags);
+    *value = value_of(answer);
+    number_of(answer)
 }
 
 // IEEE 754's square root, correctly rounded: a NaN and a number below zero give a NaN, a zero of

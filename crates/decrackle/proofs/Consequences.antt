@@ -11,7 +11,7 @@ use Rattle.leaves.proofs.Choice.{picks}
 use Rattle.redraw.specs.Whole.{Drawn, drawn, untouched}
 use Rattle.redraw.proofs.Runs.{over-keeps}
 use Rattle.redraw.proofs.Ending.{whole-lawful}
-use Rattle.decrackle.specs.Decrackle.{allowed, flagsOf, repairHermite, smoothed, decrackled, decracklePlan}
+use Rattle.decrackle.specs.Decrackle.{allowed, leastSamples, flagsOf, repairHermite, smoothed, decrackled, decracklePlan}
 use Rattle.decrackle.specs.Consequences.{DecrackleIsLawful}
 use Rattle.decrackle.proofs.Curves.{length-rewritten}
 
@@ -25,7 +25,7 @@ decrackle-counts : (sensitivity : Float) (samples : List ℕ) → length (decrac
 unfolding decrackled
 decrackle-counts sensitivity samples =
     let flags = flagsOf sensitivity samples in
-    picks (λ (d : Drawn). length (d .words) ≡ length samples) (ltb (length samples) 8) (untouched samples) (drawn (smoothed flags samples) flags)
+    picks (λ (d : Drawn). length (d .words) ≡ length samples) (ltb (length samples) leastSamples) (untouched samples) (drawn (smoothed flags samples) flags)
     refl (length-smoothed flags samples)
 
 pub decrackle-lawful : DecrackleIsLawful

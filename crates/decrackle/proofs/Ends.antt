@@ -74,14 +74,14 @@ nought-passes factor floor h =
     unsigned-not-below (factor *₃₂ larger floor leastFloor) (mul-unsigned binary32 factor (larger floor leastFloor) h least)
 
 -- the first place or the last
-abbrev End : List ℕ → ℕ → Type 0
+abbrev pub End : List ℕ → ℕ → Type 0
 End s i = (i ≡ 0) ⊎ (i + 1 ≡ length s)
 
 or-true : (b : Bool) → b || true ≡ true
 or-true true = refl
 or-true false = refl
 
-end-detector : (s : List ℕ) (i : ℕ) → End s i → detector s i ≡ nought
+pub end-detector : (s : List ℕ) (i : ℕ) → End s i → detector s i ≡ nought
 unfolding detector
 end-detector s i (inl h) = rw (eq-eqb _ _ h) refl
 end-detector s i (inr h) = rw (eq-eqb _ _ h, or-true (eqb i 0)) refl

@@ -19,7 +19,7 @@ use Rattle.redraw.specs.Whole.{drawn}
 use Rattle.redraw.specs.Inner.{wordsIn, flagWord, flaggedAt, Holds, Room}
 use Rattle.redraw.proofs.Workspace.{flagged-there}
 use Rattle.redraw.proofs.Flags as stored
-use Rattle.decrackle.specs.Decrackle.{factorFor, detector, openingFloor, leastFloor, alpha, floorAfter, flagged, flagsFrom, flagsOf}
+use Rattle.decrackle.specs.Decrackle.{factorFor, fromMiddle, detector, openingFloor, leastFloor, alpha, floorAfter, flagged, flagsFrom, flagsOf}
 
 -- ---- The code's literals
 
@@ -46,6 +46,10 @@ pub factor-is : (sensitivity x : Float) → x ≡ held (ofBits binary32 10653532
 unfolding factorFor
 factor-is sensitivity x e = rw (e, one-word, ten, twelve) refl
 
+pub middle-is : (before here behind : Float) → here -₃₂ ofBits binary32 1056964608 *₃₂ (before +₃₂ behind) ≡ fromMiddle before here behind
+unfolding fromMiddle
+middle-is before here behind = rw half-word refl
+
 module _ (s : List ℕ) (i : ℕ) where
   pub detector-first : i ≡ 0 → ofBits binary32 0 ≡ detector s i
   unfolding detector
@@ -56,22 +60,20 @@ module _ (s : List ℕ) (i : ℕ) where
     unfolding detector
     detector-last h = rw (ne-eqb _ _ later, eq-eqb _ _ h) nought-word
 
-    pub detector-between : (x before behind : Float) → (i + 1 ≡ length s → ⊥)
+    pub detector-between : (x before behind r : Float) → (i + 1 ≡ length s → ⊥)
         → before ≡ ofBits binary32 (getD s (i - 1) 0) → behind ≡ ofBits binary32 (getD s (i + 1) 0) → x ≡ ofBits binary32 (getD s i 0)
-        → x -₃₂ ofBits binary32 1056964608 *₃₂ (before +₃₂ behind) ≡ detector s i
+        → r ≡ fromMiddle before x behind → r ≡ detector s i
     unfolding detector float
-    detector-between x before behind h eb ea ex = rw (ne-eqb _ _ later, ne-eqb _ _ h, half-word, eb, ea, ex) refl
+    detector-between x before behind r h eb ea ex er = rw (ne-eqb _ _ later, ne-eqb _ _ h, er, eb, ea, ex) refl
 
 pub floor-is : (floor a : Float)
     → floor *₃₂ (ofBits binary32 1065353216 -₃₂ ofBits binary32 981668463) +₃₂ a *₃₂ ofBits binary32 981668463 ≡ floorAfter floor a
 unfolding floorAfter alpha
 floor-is floor a = rw (one-word, thousandth) refl
 
--- the word of a flag, by what the test found
-pub flag-is : (factor floor a least : Float) (b : Bool) → least ≡ larger floor (ofBits binary32 897988541) → lt (factor *₃₂ least) a ≡ b
-    → flagWord b ≡ flagWord (flagged factor floor a)
+pub out-is : (factor floor a least : Float) → least ≡ larger floor (ofBits binary32 897988541) → lt (factor *₃₂ least) a ≡ flagged factor floor a
 unfolding flagged leastFloor
-flag-is factor floor a least b e h = rw (← h, e, millionth) refl
+out-is factor floor a least e = rw (e, millionth) refl
 
 -- ---- The flags, stored one by one
 

@@ -26,12 +26,17 @@ factorFor sensitivity = count 12 -₃₂ held one (count 10) sensitivity
 
 -- ---- The flags
 
+-- the formula of "elsewhere s[i]−0.5*(s[i−1]+s[i+1])", from the samples at i-1, i and i+1
+unfoldable pub fromMiddle : Float → Float → Float → Float
+unfolding add sub mul
+fromMiddle before here behind = here -₃₂ half *₃₂ (before +₃₂ behind)
+
 -- "Detector 0 at both ends, elsewhere s[i]−0.5*(s[i−1]+s[i+1])."
 unfoldable pub detector : List ℕ → ℕ → Float
-unfolding float add sub mul
+unfolding float fromMiddle
 detector s i =
     if eqb i 0 || eqb (i + 1) (length s) then nought
-    else sample s i -₃₂ half *₃₂ (sample s (i - 1) +₃₂ sample s (i + 1))
+    else fromMiddle (sample s (i - 1)) (sample s i) (sample s (i + 1))
 
 -- "Floor starts at 1e-6"
 unfoldable pub openingFloor : Float
@@ -116,12 +121,16 @@ unfoldable pub smoothed : List Bool → List ℕ → List ℕ
 unfolding overRuns repairHermite
 smoothed flags out = overRuns (λ i. getD flags i false) repairHermite 0 (length flags) out
 
+-- the 8 of "Under 8 samples: nothing named."
+abbrev pub leastSamples : ℕ
+leastSamples = 8
+
 -- "Under 8 samples: nothing named." "Named: the flagged places."
 unfoldable pub decrackled : Float → List ℕ → Drawn
 unfolding flagsOf smoothed
 decrackled sensitivity samples =
     let flags = flagsOf sensitivity samples in
-    if ltb (length samples) 8 then untouched samples else drawn (smoothed flags samples) flags
+    if ltb (length samples) leastSamples then untouched samples else drawn (smoothed flags samples) flags
 
 -- its plan: refusals 4, 6 and 7, or the mark and the named samples
 unfoldable pub decracklePlan : Float → ℕ → List ℕ → Plan

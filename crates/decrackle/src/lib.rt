@@ -11,7 +11,7 @@ ghost use Rattle.recording.specs.Inner.{flags};
 ghost use Rattle.recording.specs.Runs.{begins, runLength};
 ghost use Rattle.redraw.specs.Whole.{drawn, untouched, needed};
 ghost use Rattle.redraw.specs.Inner.{wordsIn, flagsIn, drawnIn, flagWord, flaggedAt, Holds, Room};
-ghost use Rattle.decrackle.specs.Decrackle.{factorFor, detector, floorAfter, flagged, flagsOf, slopeBefore, slopeBehind};
+ghost use Rattle.decrackle.specs.Decrackle.{factorFor, fromMiddle, detector, floorAfter, flagged, flagsOf, slopeBefore, slopeBehind};
 ghost use Rattle.decrackle.specs.Decrackle.{hermiteAt, repairHermite, smoothed, decrackled, decrackleRepair};
 use leaves::order::clamp32;
 use leaves::order::larger32;
@@ -25,24 +25,31 @@ use redraw::begin;
 use redraw::finish;
 
 // A shorter recording has nothing named.
-const LEAST_SAMPLES: usize = 8;
+pub const LEAST_SAMPLES: usize = 8;
 
 // The floor before the first sample, the least that a sample is held against, and how much of a sample's
 // magnitude the floor takes in.
-const OPENING_FLOOR: f32 = 1e-6;
+pub const OPENING_FLOOR: f32 = 1e-6;
 
 const LEAST_FLOOR: f32 = 1e-6;
 
 const ALPHA: f32 = 0.001;
 
 // How far above the floor a flagged sample stands: 11 at sensitivity 1, 2 at 10.
-fn factor_for(sensitivity: f32) -> f32
+pub fn factor_for(sensitivity: f32) -> f32
     ensures { λ r. ⌜ r ≡ factorFor sensitivity ⌝ }
 {
     12.0 - clamp32(sensitivity, 1.0, 10.0)
 }
 
-// How far a sample lies from the middle of its neighbours; 0 at both ends, which have one neighbour.
+// How far a sample lies from the middle of its neighbours.
+pub fn from_middle(before: f32, here: f32, behind: f32) -> f32
+    ensures { λ r. ⌜ r ≡ fromMiddle before here behind ⌝ }
+{
+    here - 0.5 * (before + behind)
+}
+
+// The detector's value at place i: 0 at both ends, which have one neighbour.
 fn detector_at(samples: &[u32], i: usize) -> f32
     requires { ⌜ i < length (now samples) ⌝ }
     ensures { λ r. ⌜ r ≡ detector (now (samples .entry)) i ⌝ }
@@ -55,25 +62,28 @@ fn detector_at(samples: &[u32], i: usize) -> f32
     }
     let before = f32_of_word(samples[i - 1]);
     let behind = f32_of_word(samples[i + 1]);
-    f32_of_word(samples[i]) - 0.5 * (before + behind)
+    from_middle(before, f32_of_word(samples[i]), behind)
 }
 
 // The floor once it has taken in the detector's magnitude a.
-fn raise_floor(floor: f32, a: f32) -> f32
+pub fn raise_floor(floor: f32, a: f32) -> f32
     ensures { λ r. ⌜ r ≡ floorAfter floor a ⌝ }
 {
     floor * (1.0 - ALPHA) + a * ALPHA
+}
+
+// Whether a sample with the detector's magnitude a is flagged: it stands above the floor so many times.
+pub fn stands_out(factor: f32, floor: f32, a: f32) -> bool
+    ensures { λ r. ⌜ r ≡ flagged factor floor a ⌝ }
+{
+    factor * larger32(floor, LEAST_FLOOR) < a
 }
 
 // 1 where a sample with the detector's magnitude a is flagged, and else 0.
 fn flag_word(factor: f32, floor: f32, a: f32) -> u32
     ensures { λ r. ⌜ r ≡ flagWord (flagged factor floor a) ⌝ }
 {
-    if factor * larger32(floor, LEAST_FLOOR) < a {
-        1
-    } else {
-        0
-    }
+    if stands_out(factor, floor, a) { 1 } else { 0 }
 }
 
 // Flags the samples that stand out: each raises the floor first, and is then held against it.

@@ -2,7 +2,7 @@
 use Prim.Native.Nat.{ℕ}
 use Rattle.recording.specs.declared.Reason.{Reason}
 use Rattle.recording.specs.declared.Reason.the-variants.{Counts, TooMany, Used, Setting, Gap, Workspace, Read}
-use Rattle.recording.specs.declared.Reason.the-variants.{Result, Room, Nothing, Malformed, Frames, Blocks}
+use Rattle.recording.specs.declared.Reason.the-variants.{Result, Room, Nothing, Malformed, Frames, Pieces, Blocks}
 use Rattle.recording.specs.declared.Answer.{Answer}
 use Rattle.recording.specs.declared.Answer.the-variants.{Done, Refused}
 use Rattle.recording.specs.declared.Verdict.{Verdict}
@@ -22,6 +22,7 @@ reasonNumber Room = 9
 reasonNumber Nothing = 10
 reasonNumber Malformed = 11
 reasonNumber Frames = 12
+reasonNumber Pieces = 13
 reasonNumber Blocks = 14
 
 -- "the reason carries the sample's place for 7 and 8"; for the others 0 stands there
@@ -38,6 +39,7 @@ reasonPlace Room = 0
 reasonPlace Nothing = 0
 reasonPlace Malformed = 0
 reasonPlace Frames = 0
+reasonPlace Pieces = 0
 reasonPlace Blocks = 0
 
 -- 0 for an acceptance, and else the number of the refusal

@@ -38,6 +38,9 @@ pub enum Reason {
     Malformed,
     // 12: the bus's input is not whole frames, or the room for its samples or marks is short.
     Frames,
+    // 13: the crackle detector was given other than as many samples as were announced, or its run has stopped
+    // or ended.
+    Pieces,
     // 14: the number of counts is not that of the blocks.
     Blocks,
 }

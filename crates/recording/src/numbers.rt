@@ -22,6 +22,7 @@ fn reason_number(why: Reason) -> u32
         Reason::Nothing => 10,
         Reason::Malformed => 11,
         Reason::Frames => 12,
+        Reason::Pieces => 13,
         Reason::Blocks => 14,
     }
 }
@@ -43,6 +44,7 @@ fn reason_place(why: Reason) -> usize
         Reason::Nothing => 0,
         Reason::Malformed => 0,
         Reason::Frames => 0,
+        Reason::Pieces => 0,
         Reason::Blocks => 0,
     }
 }

@@ -46,13 +46,17 @@ shared-slice-read-f32-of-word-3 c = search needs
 f32-of-word-requires-3 : tie.Need-f32-of-word-requires-3
 f32-of-word-requires-3 c κs = search needs
 
+from-middle-requires : tie.Need-from-middle-requires
+from-middle-requires c κs = search needs
+
 returns-3 : tie.Need-returns-3
 returns-3 c =
-    let behind = c .before .before in
+    let here = c .before in
+    let behind = here .before .before in
     let ahead = behind .before .before in
     let inner = ahead .before .before in
-    detector-between _ _ (inner .before .if1 .left) _ _ _ (inner .if2 .left) (ahead .f32-of-word .ensures) (behind .f32-of-word2 .ensures)
-    (c .f32-of-word3 .ensures)
+    detector-between _ _ (inner .before .if1 .left) _ _ _ _ (inner .if2 .left) (ahead .f32-of-word .ensures) (behind .f32-of-word2 .ensures)
+    (here .f32-of-word3 .ensures) (c .from-middle .ensures)
 
 pub detector-at-spec : {M : Type 1} → statement M
 detector-at-spec =
@@ -72,4 +76,5 @@ detector-at-spec =
     mul-f32-of-word-3
     shared-slice-read-f32-of-word-3
     f32-of-word-requires-3
+    from-middle-requires
     returns-3)

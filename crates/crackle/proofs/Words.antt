@@ -1,0 +1,192 @@
+-- A detector in words: what a call leaves there is the detector that it leaves by value, so that calls on the words go as by value
+-- (specs/Cuts.antt, the last statement). Assumes nothing.
+use mathlib.Core.Path.{_≡_, refl, sym, ap, subst, _∙_}
+use mathlib.Core.Bool.{Bool, true, false}
+use mathlib.Core.List.{List, [], _∷_, _++_, map}
+use mathlib.Core.Logic.{_⊎_, inl, inr}
+use Prim.Native.Nat.{ℕ, _+_, _≤_, _<_}
+use native.Mathlib.Omega.{arith}
+use borrow.Author.Tests.{le-ltb}
+use lib.Dec.{T, ltb, eqb}
+use lib.ListN.{length, drop}
+use lib.Seq.{sets, sets-eq, length-sets}
+use lib.Ieee.{Float, binary32, fits, ofBits, toBits}
+use lib.Ieee.Bits.{ofBits-toBits, ofBits-fits}
+use lib.Ieee.Fits.{add-fits, sub-fits, round-fits}
+use Rattle.leaves.specs.Arithmetic.{near, float}
+use Rattle.leaves.specs.Choice.{if_then_else_}
+use Rattle.leaves.specs.Floats.{magnitude}
+use Rattle.leaves.proofs.Choice.{picks}
+use Rattle.recording.specs.Answers.{number}
+use Rattle.recording.specs.declared.Reason.the-variants.{Workspace}
+use Rattle.recording.specs.declared.Answer.{Answer}
+use Rattle.recording.specs.declared.Answer.the-variants.{Done, Refused}
+use Rattle.decrackle.specs.Decrackle.{factorFor, openingFloor, floorAfter}
+use Rattle.crackle.specs.declared.Detector.{Detector}
+use Rattle.crackle.specs.declared.Announced.the-variants.{Begun}
+use Rattle.crackle.specs.Pieces.{begun, announced, floorWith, valueBefore, withSample, withPiece}
+use Rattle.crackle.specs.Pieces.{flagByte, Told, told, closed, pieceTold, endTold}
+use Rattle.crackle.specs.Kept.{stateWords, wordsOf, detectorOf, Kept, wordsAfter, keptTold, beginKept, pieceKept, endKept}
+use Rattle.crackle.specs.Cuts.{wholeFlags, Offer, flagsGiven, Run, handed, Each, AcceptedWithRoom}
+use Rattle.crackle.specs.Cuts.{KeptRun, handedKept, KeptAlike, HoweverCutInWords}
+use Rattle.crackle.proofs.Consequences.{piece-by, end-by}
+use Rattle.crackle.proofs.Cuts.{however-cut}
+
+-- ---- A detector whose floats are all f32s
+
+record Fitting (d : Detector) : Type 0 where
+  factor-fits : T (fits binary32 (d .factor))
+  floor-fits : T (fits binary32 (d .floor))
+  before-fits : T (fits binary32 (d .before))
+  last-fits : T (fits binary32 (d .last))
+
+read-fits : (words : List ℕ) → Fitting (detectorOf words)
+unfolding detectorOf float
+read-fits words =
+    record {
+      factor-fits = ofBits-fits binary32 _;
+      floor-fits = ofBits-fits binary32 _;
+      before-fits = ofBits-fits binary32 _;
+      last-fits = ofBits-fits binary32 _;
+    }
+
+sample-fits : (d : Detector) (w : ℕ) → Fitting d → Fitting (withSample d (float w))
+unfolding withSample floorWith floorAfter float
+sample-fits d w f =
+    record {
+      factor-fits = f .factor-fits;
+      floor-fits = picks (λ (x : Float). T (fits binary32 x)) (eqb (d .taken) 0) _ _ (f .floor-fits) (add-fits binary32 _ _);
+      before-fits = f .last-fits;
+      last-fits = ofBits-fits binary32 w;
+    }
+
+piece-fits : (d : Detector) (ws : List ℕ) → Fitting d → Fitting (withPiece d ws)
+unfolding withPiece
+piece-fits d [] f = f
+piece-fits d (w ∷ ws) f = piece-fits (withSample d (float w)) ws (sample-fits d w f)
+
+closed-fits : (d : Detector) → Fitting d → Fitting (closed d)
+closed-fits d f =
+    record { factor-fits = f .factor-fits; floor-fits = f .floor-fits; before-fits = f .before-fits; last-fits = f .last-fits }
+
+-- ---- Written, and read back
+
+written : (d : Detector) (words : List ℕ) → Fitting d → stateWords ≤ length words → detectorOf (sets words 0 (wordsOf d)) ≡ d
+unfolding wordsOf detectorOf float
+written d words f h =
+    ap detectorOf (sets-eq (wordsOf d) words 0 h)
+    ∙ rw (runs (d .running), ofBits-toBits binary32 _ (f .factor-fits), ofBits-toBits binary32 _ (f .floor-fits),
+    ofBits-toBits binary32 _ (f .before-fits), ofBits-toBits binary32 _ (f .last-fits)) refl
+  where
+    runs : (b : Bool) → eqb (if b then 1 else 0) 1 ≡ b
+    runs true = refl
+    runs false = refl
+
+-- ---- Behind a call
+
+-- it was refused by 6 and left the detector, or the words are written
+abbrev Left : Detector → Told → Type 0
+Left d t = ((t .answer ≡ Refused Workspace) × (t .detector ≡ d)) ⊎ ((eqb (number (t .answer)) 6 ≡ false) × Fitting (t .detector))
+
+piece-left : (d : Detector) (piece room : List ℕ) → Fitting d → Left d (pieceTold d piece room)
+piece-left d piece room f =
+    piece-by (Left d) d room (inr (refl, closed-fits d f)) (inl (refl, refl)) piece (λ i. inr (refl, closed-fits d f))
+    (λ enough. inr (refl, piece-fits d piece f))
+
+-- what the words then hold
+told-words : (words : List ℕ) (t : Told) → stateWords ≤ length words → Left (detectorOf words) t
+    → (detectorOf (wordsAfter (t .answer) (t .detector) words) ≡ t .detector) × (length (wordsAfter (t .answer) (t .detector) words) ≡ length words)
+told-words words t h (inl (six, same)) = rw six (sym same, refl)
+told-words words t h (inr (other, f)) = rw other (written (t .detector) words f h, length-sets words 0 _)
+
+-- ---- Calls in turn
+
+-- the calls on words and the calls by value
+record Alike (words : List ℕ) (d : Detector) (offers : List Offer) : Type 0 where
+  numbers-are : handedKept words offers .numbers ≡ handed d offers .numbers
+  flags-are : handedKept words offers .flags ≡ handed d offers .flags
+  holds : detectorOf (handedKept words offers .words) ≡ handed d offers .detector
+  as-many : length (handedKept words offers .words) ≡ length words
+
+alike : (words : List ℕ) (offers : List Offer) → stateWords ≤ length words → Alike words (detectorOf words) offers
+unfolding handed handedKept
+alike words [] h = record { numbers-are = refl; flags-are = refl; holds = refl; as-many = refl }
+alike words (o ∷ os) h =
+    record {
+      numbers-are = rw told-so (ap (λ (ks : List ℕ). number (t .answer) ∷ ks) (later .numbers-are));
+      flags-are = rw told-so (ap (λ (fs : List ℕ). flagsGiven (t .answer) (t .room) ++ fs) (later .flags-are));
+      holds = rw told-so (later .holds);
+      as-many = rw told-so (later .as-many ∙ left .1);
+    }
+  where
+    t : Told
+    t = pieceTold (detectorOf words) (o .piece) (o .room)
+
+    told-so : pieceKept words (o .piece) (o .room) ≡ keptTold t words
+    unfolding pieceKept
+    told-so = rw (le-ltb (length words) stateWords h) refl
+
+    next : List ℕ
+    next = wordsAfter (t .answer) (t .detector) words
+
+    left : (detectorOf next ≡ t .detector) × (length next ≡ length words)
+    left = told-words words t h (piece-left (detectorOf words) (o .piece) (o .room) (read-fits words))
+
+    later : Alike next (t .detector) os
+    later = subst (λ (d : Detector). Alike next d os) (left .0) (alike next os (omega (arith, h, left .1)))
+
+pub kept-alike : KeptAlike
+kept-alike words offers h = let all = alike words offers h in (all .numbers-are, all .flags-are, all .holds)
+
+-- ---- A whole run
+
+begun-fits : (total : ℕ) (sensitivity : Float) → Fitting (begun total sensitivity)
+unfolding begun factorFor openingFloor near
+begun-fits total sensitivity =
+    record {
+      factor-fits = sub-fits binary32 _ _;
+      floor-fits = round-fits binary32 false 1 1000000;
+      before-fits = tt;
+      last-fits = tt;
+    }
+
+end-left : (d : Detector) (room : List ℕ) → Fitting d → Left d (endTold d room)
+end-left d room f =
+    end-by (Left d) d room (inr (refl, closed-fits d f)) (inl (refl, refl)) (λ enough. inr (refl, closed-fits d f))
+
+pub however-cut-in-words : HoweverCutInWords
+however-cut-in-words sensitivity s offers words room may few good enough-words cut enough =
+    rw (begun-so, end-so, kept .flags-are, kept .numbers-are) (refl, cuts .1, cuts .2, cuts .3)
+  where
+    first : Detector
+    first = begun (length s) sensitivity
+
+    cuts : (announced (length s) sensitivity ≡ Begun first)
+        × Each AcceptedWithRoom (handed first offers .numbers)
+        × (number (endTold (handed first offers .detector) room .answer) ≡ 0)
+        × (handed first offers .flags ++ flagsGiven (endTold (handed first offers .detector) room .answer) (endTold (handed first offers .detector) room .room)
+        ≡ map flagByte (wholeFlags sensitivity s))
+    cuts = however-cut sensitivity s offers room may few good cut enough
+
+    start : List ℕ
+    start = sets words 0 (wordsOf first)
+
+    many : length start ≡ length words
+    many = length-sets words 0 (wordsOf first)
+
+    begun-so : beginKept (length s) sensitivity words ≡ record { answer = Done 0; words = start; room = [] }
+    unfolding beginKept
+    begun-so = rw (le-ltb (length words) stateWords enough-words, cuts .0) refl
+
+    holds : detectorOf start ≡ first
+    holds = written first words (begun-fits (length s) sensitivity) enough-words
+
+    kept : Alike start first offers
+    kept = subst (λ (d : Detector). Alike start d offers) holds (alike start offers (omega (arith, enough-words, many)))
+
+    last : List ℕ
+    last = handedKept start offers .words
+
+    end-so : endKept last room ≡ keptTold (endTold (handed first offers .detector) room) last
+    unfolding endKept
+    end-so = rw (le-ltb (length last) stateWords (omega (arith, enough-words, many, kept .as-many)), kept .holds) refl

@@ -1,0 +1,4 @@
+pub mod Pieces
+pub mod Kept
+pub mod Consequences
+pub mod Cuts

@@ -1,0 +1,105 @@
+// A detector kept in lent words between calls, for callers that take numbers.
+ghost use mathlib.Core.Path.{_≡_};
+ghost use mathlib.Core.List.{[]};
+ghost use Prim.Native.Nat.{_≤_};
+ghost use lib.ListN.{length};
+ghost use lib.Seq.{sets};
+ghost use Rattle.crackle.specs.Kept.{stateWords, wordsOf, detectorOf, wordsAfter, kept, beginKept, pieceKept, endKept};
+use super::Announced;
+use super::Detector;
+use super::Heard;
+use super::announce;
+use leaves::words::f32_of_word;
+use leaves::words::word_of_f32;
+use recording::Answer;
+use recording::Reason;
+use recording::numbers::number_of;
+
+// As many words belong to the detector; what lies behind them is never touched.
+const STATE_WORDS: usize = 8;
+
+// The word of a run that goes on; every other says that it does not.
+const RUNNING: u32 = 1;
+
+// The refusal that takes nothing in.
+const NO_ROOM: u32 = 6;
+
+// The detector that the words hold.
+fn read_detector(words: &[u32]) -> Detector
+    requires { ⌜ stateWords ≤ length (now words) ⌝ }
+    ensures { λ r. ⌜ r ≡ detectorOf (now (words .entry)) ⌝ }
+{
+    Detector {
+        total: words[0],
+        taken: words[1],
+        running: words[2] == RUNNING,
+        factor: f32_of_word(words[3]),
+        floor: f32_of_word(words[4]),
+        before: f32_of_word(words[5]),
+        last: f32_of_word(words[6]),
+    }
+}
+
+// Writes the detector into the first words, the eighth of which is not needed.
+fn write_detector(detector: Detector, words: &mut [u32])
+    requires { ⌜ stateWords ≤ length (now words) ⌝ }
+    ensures { λ _. ⌜ now (words .exit) ≡ sets (now (words .entry)) 0 (wordsOf detector) ⌝ }
+{
+    words[0] = detector.total;
+    words[1] = detector.taken;
+    words[2] = if detector.running { RUNNING } else { 0 };
+    words[3] = word_of_f32(detector.factor);
+    words[4] = word_of_f32(detector.floor);
+    words[5] = word_of_f32(detector.before);
+    words[6] = word_of_f32(detector.last);
+    words[7] = 0;
+}
+
+// Keeps what a call left, and hands its answer on; after refusal 6 the words stay as they are.
+fn keep(heard: Heard, words: &mut [u32]) -> Answer
+    requires { ⌜ stateWords ≤ length (now words) ⌝ }
+    ensures { λ r. ⌜ (r ≡ heard .answer) × (now (words .exit) ≡ wordsAfter (heard .answer) (heard .detector) (now (words .entry))) ⌝ }
+{
+    let answer = heard.answer;
+    if number_of(answer) != NO_ROOM {
+        write_detector(heard.detector, words);
+    }
+    answer
+}
+
+// Begins a run and keeps its detector: refusals 6, for fewer words than it needs, 2 and 4, in this order,
+// leave the words as they were.
+pub fn begin(total: usize, sensitivity: f32, words: &mut [u32]) -> Answer
+    ensures { λ r. ⌜ kept r (now (words .exit)) [] ≡ beginKept total sensitivity (now (words .entry)) ⌝ }
+{
+    if words.len() < STATE_WORDS {
+        return Answer::Refused(Reason::Workspace);
+    }
+    match announce(total, sensitivity) {
+        Announced::Begun(detector) => {
+            write_detector(detector, words);
+            Answer::Done(0)
+        }
+        Announced::TurnedAway(why) => Answer::Refused(why),
+    }
+}
+
+// Gives the kept detector a piece: refusal 6 for fewer words than it needs, and else all is as of `piece`.
+pub fn piece(words: &mut [u32], piece: &[u32], flags: &mut [u8]) -> Answer
+    ensures { λ r. ⌜ kept r (now (words .exit)) (now (flags .exit)) ≡ pieceKept (now (words .entry)) (now (piece .entry)) (now (flags .entry)) ⌝ }
+{
+    if words.len() < STATE_WORDS {
+        return Answer::Refused(Reason::Workspace);
+    }
+    keep(super::piece(read_detector(words), piece, flags), words)
+}
+
+// Ends the run of the kept detector: refusal 6 for fewer words than it needs, and else all is as of `finish`.
+pub fn finish(words: &mut [u32], flags: &mut [u8]) -> Answer
+    ensures { λ r. ⌜ kept r (now (words .exit)) (now (flags .exit)) ≡ endKept (now (words .entry)) (now (flags .entry)) ⌝ }
+{
+    if words.len() < STATE_WORDS {
+        return Answer::Refused(Reason::Workspace);
+    }
+    keep(super::finish(read_detector(words), flags), words)
+}
