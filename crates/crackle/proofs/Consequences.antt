@@ -12,13 +12,14 @@ use lib.ListN.{length, drop, length-map}
 use lib.Seq.{sets, length-sets}
 use Rattle.leaves.proofs.Choice.{picks, picks-by}
 use Rattle.leaves.proofs.Parts.{drop-sets}
-use Rattle.recording.specs.Answers.{number}
+use Rattle.recording.specs.Answers.{reasonNumber, number}
 use Rattle.recording.specs.Recording.{readable}
 use Rattle.recording.specs.declared.Reason.{Reason}
 use Rattle.recording.specs.declared.Reason.the-variants.{Workspace, Read, Pieces}
 use Rattle.recording.specs.declared.Answer.{Answer}
 use Rattle.recording.specs.declared.Answer.the-variants.{Done, Refused}
 use Rattle.recording.proofs.read.Laws.{ReadEnds, readable-ends}
+use Rattle.redraw.proofs.Ending.{done-not-refused}
 use Rattle.crackle.specs.declared.Detector.{Detector}
 use Rattle.crackle.specs.Pieces.{withPiece, flagsBefore, flagsDue, Told, told, flagByte, flagsIn, closed, tooMuch, notAll, unlessOut}
 use Rattle.crackle.specs.Pieces.{pieceTold, lastFlag, endTold}
@@ -47,7 +48,7 @@ module _ (P : Told → Type 0) (d : Detector) (room : List ℕ) (stopped : P (to
       read : (a : Answer) → ReadEnds a → flagsDue (d .taken) n ≤ length room
           → P (unlessOut a d room (told (Done (flagsDue (d .taken) n)) (withPiece d piece) (flagsIn room (flagsBefore d piece))))
       read (Done m) e h = taken h
-      read (Refused why) (inl e) h = cc
+      read (Refused why) (inl e) h = absurd (done-not-refused 0 why (sym e))
       read (Refused why) (inr (i, e)) h = rw e (out i)
 
   pub end-by : (length (lastFlag d) ≤ length room → P (told (Done (length (lastFlag d))) (closed d) (flagsIn room (lastFlag d))))
@@ -62,9 +63,6 @@ module _ (P : Told → Type 0) (d : Detector) (room : List ℕ) (stopped : P (to
 same-reason : (v w : Reason) → Refused v ≡ Refused w → v ≡ w
 same-reason v w h = cc
 
-no-refusal : {A : Type 0} (m : ℕ) (why : Reason) → Done m ≡ Refused why → A
-no-refusal m why h = cc
-
 module _ (d : Detector) (room : List ℕ) where
   -- 6
   keeps : Ends d room (told (Refused Workspace) d room)
@@ -74,29 +72,29 @@ module _ (d : Detector) (room : List ℕ) where
         nothing-in = λ h. refl;
         stops = λ w h. inl (sym (same-reason Workspace w h));
         as-long = refl;
-        behind = λ m h. no-refusal m Workspace (sym h);
+        behind = λ m h. absurd (done-not-refused m Workspace (sym h));
       }
 
   -- any other
   stops-run : (why : Reason) → (why ≡ Workspace → ⊥) → Ends d room (told (Refused why) (closed d) room)
-  stops-run why no =
+  stops-run why other =
       record {
         unwritten = λ w h. refl;
-        nothing-in = λ h. absurd (no (same-reason why Workspace h));
+        nothing-in = λ h. absurd (other (same-reason why Workspace h));
         stops = λ w h. inr refl;
         as-long = refl;
-        behind = λ m h. no-refusal m why (sym h);
+        behind = λ m h. absurd (done-not-refused m why (sym h));
       }
 
   -- an acceptance
   gives : (e : Detector) (fs : List Bool) (m : ℕ) → length fs ≡ m → Ends d room (told (Done m) e (flagsIn room fs))
   gives e fs m many =
       record {
-        unwritten = λ w h. no-refusal m w h;
-        nothing-in = λ h. no-refusal m Workspace h;
-        stops = λ w h. no-refusal m w h;
+        unwritten = λ w h. absurd (done-not-refused m w h);
+        nothing-in = λ h. absurd (done-not-refused m Workspace h);
+        stops = λ w h. absurd (done-not-refused m w h);
         as-long = length-sets room 0 (map flagByte fs);
-        behind = λ k h. drop-sets room (map flagByte fs) 0 k (omega (arith, length-map flagByte fs, many, same-count k h));
+        behind = λ k h. drop-sets room (map flagByte fs) 0 k (omega (arith, length-map fs flagByte, many, same-count k h));
       }
     where
       same-count : (k : ℕ) → Done m ≡ Done k → m ≡ k
@@ -104,15 +102,15 @@ module _ (d : Detector) (room : List ℕ) where
 
 pub piece-ends : PieceEnds
 piece-ends d piece room =
-    piece-by (Ends d room) d room (stops-run d room Pieces (λ h. cc)) (keeps d room) piece (λ i. stops-run d room (Read i) (λ h. cc))
+    piece-by (Ends d room) d room (stops-run d room Pieces (λ h. omega (arith, ap reasonNumber h))) (keeps d room) piece (λ i. stops-run d room (Read i) (λ h. omega (arith, ap reasonNumber h)))
     (λ enough. gives d room _ (flagsBefore d piece) _ (due-length d piece))
 
 pub end-ends : EndEnds
-end-ends d room = end-by (Ends d room) d room (stops-run d room Pieces (λ h. cc)) (keeps d room) (λ enough. gives d room _ (lastFlag d) _ refl)
+end-ends d room = end-by (Ends d room) d room (stops-run d room Pieces (λ h. omega (arith, ap reasonNumber h))) (keeps d room) (λ enough. gives d room _ (lastFlag d) _ refl)
 
 pub only-these-refusals : OnlyTheseRefusals
 only-these-refusals d piece room = (
   piece-by (λ (t : Told). let k = number (t .answer) in (k ≡ 0) ⊎ (k ≡ 13) ⊎ (k ≡ 6) ⊎ (k ≡ 7)) d room (inr (inl refl)) (inr (inr (inl refl)))
-  piece (λ i. inr (inr (inr refl))) (λ enough. inl refl),
+      piece (λ i. inr (inr (inr refl))) (λ enough. inl refl),
   end-by (λ (t : Told). let k = number (t .answer) in (k ≡ 0) ⊎ (k ≡ 13) ⊎ (k ≡ 6)) d room (inr (inl refl)) (inr (inr refl)) (λ enough. inl refl),
 )

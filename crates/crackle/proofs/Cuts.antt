@@ -23,6 +23,7 @@ use Rattle.recording.specs.declared.Reason.the-variants.{Workspace, Read, Piece
 use Rattle.recording.specs.declared.Answer.{Answer}
 use Rattle.recording.specs.declared.Answer.the-variants.{Done, Refused}
 use Rattle.redraw.specs.Whole.{sample, untouched, drawn}
+use Rattle.redraw.proofs.Ending.{done-not-refused}
 use Rattle.decrackle.specs.Decrackle.{allowed, leastSamples, factorFor, fromMiddle, detector, openingFloor, floorAfter, flagged, flagsFrom, flagsOf, smoothed, decrackled}
 use Rattle.decrackle.proofs.Ends.{end-detector}
 use Rattle.crackle.specs.declared.Detector.{Detector}
@@ -65,11 +66,10 @@ abbrev left : List ℕ → Detector → ℕ → List Bool
 left s d t = flagsLeft s d (givenBy t) (length s - givenBy t)
 
 length-left : (s : List ℕ) (d : Detector) (i k : ℕ) → length (flagsLeft s d i k) ≡ k
-unfolding flagsLeft
+unfolding flagsLeft flagsFrom
 length-left s d i k = go (ltb (d .total) leastSamples)
   where
     many : (floor : Float) (j m : ℕ) → length (flagsFrom (d .factor) s floor j m) ≡ m
-    unfolding flagsFrom
     many floor j zero = refl
     many floor j (suc m) = ap suc (many _ (j + 1) m)
 
@@ -82,6 +82,7 @@ length-left s d i k = go (ltb (d .total) leastSamples)
 record At (s : List ℕ) (t : ℕ) (d : Detector) : Type 0 where
   total-is : d .total ≡ length s
   taken-is : d .taken ≡ t
+  inside : t ≤ length s
   goes-on : d .running ≡ true
   last-is : 1 ≤ t → d .last ≡ sample s (t - 1)
   before-is : 2 ≤ t → d .before ≡ sample s (t - 2)
@@ -103,32 +104,41 @@ value-there s t d at some more = elim (truth (eqb t 1)) [ inl h ↦ first (eqb-t
         let two : 2 ≤ t = omega (arith, some, h) in
         rw (at .taken-is, ne-eqb t 1 h, inner, whole, back, here, at .last-is some, at .before-is two) refl
 
-next-there : (s : List ℕ) (t : ℕ) (d : Detector) → At s t d → At s (t + 1) (withSample d (sample s t))
+next-there : (s : List ℕ) (t : ℕ) (d : Detector) → At s t d → t < length s → At s (t + 1) (withSample d (sample s t))
 unfolding withSample
-next-there s t d at =
+next-there s t d at more =
     record {
       total-is = at .total-is;
       taken-is = ap (λ (k : ℕ). k + 1) (at .taken-is);
+      inside = omega (arith, more);
       goes-on = at .goes-on;
       last-is = λ h. let same : t ≡ t + 1 - 1 = omega arith in ap (sample s) same;
       before-is = λ h. let same : t - 1 ≡ t + 1 - 2 = omega arith in at .last-is (omega (arith, h)) ∙ ap (sample s) same;
     }
 
+-- the very first sample gives nothing
+first-gives : (s : List ℕ) (t : ℕ) (d : Detector) (x : Float) → At s t d → t ≡ 0
+    → flagBefore d x ++ left s (withSample d x) (t + 1) ≡ left s d t
+unfolding flagBefore withSample flagsLeft
+first-gives s t d x at h =
+    let none : eqb (d .taken) 0 ≡ true = eq-eqb (d .taken) 0 (at .taken-is ∙ h) in
+    let same : t + 1 - 1 ≡ t - 1 = omega (arith, h) in
+    rw (none, same) refl
+
+-- any other moves the floor
+moved : (d : Detector) (x : Float) → eqb (d .taken) 0 ≡ false
+    → (flagBefore d x ≡ flagWith d (valueBefore d x) ∷ []) × (withSample d x .floor ≡ floorWith d (valueBefore d x))
+    × (withSample d x .total ≡ d .total) × (withSample d x .factor ≡ d .factor)
+unfolding flagBefore withSample
+moved d x some = (rw some refl, rw some refl, refl, refl)
+
 -- one sample: what it gives is the first of what was left
 sample-gives : (s : List ℕ) (t : ℕ) (d : Detector) → At s t d → t < length s
     → flagBefore d (sample s t) ++ left s (withSample d (sample s t)) (t + 1) ≡ left s d t
-unfolding flagBefore withSample
-sample-gives s t d at more = elim (truth (eqb t 0)) [ inl h ↦ first (eqb-true t 0 h) | inr h ↦ later (eqb-false t 0 h) ]
+sample-gives s t d at more = elim (truth (eqb t 0)) [ inl h ↦ first-gives s t d x at (eqb-true t 0 h) | inr h ↦ later (eqb-false t 0 h) ]
   where
     x : Float
     x = sample s t
-
-    first : t ≡ 0 → flagBefore d x ++ left s (withSample d x) (t + 1) ≡ left s d t
-    unfolding flagsLeft
-    first h =
-        let none : eqb (d .taken) 0 ≡ true = eq-eqb (d .taken) 0 (at .taken-is ∙ h) in
-        let same : t + 1 - 1 ≡ t - 1 = omega (arith, h) in
-        rw (none, same) refl
 
     later : (t ≡ 0 → ⊥) → flagBefore d x ++ left s (withSample d x) (t + 1) ≡ left s d t
     later h =
@@ -137,15 +147,21 @@ sample-gives s t d at more = elim (truth (eqb t 0)) [ inl h ↦ first (eqb-true 
         let next : t - 1 + 1 ≡ t + 1 - 1 = omega (arith, one) in
         let fewer : length s - (t - 1) ≡ suc (length s - (t + 1 - 1)) = omega (arith, one, more) in
         let value = value-there s t d at one more in
-        let judged = first-judged s d (withSample d x) (t - 1) (length s - (t + 1 - 1)) (valueBefore d x) value refl refl (rw some refl) in
-        rw some (sym (ap (flagsLeft s d (t - 1)) fewer ∙ judged ∙ ap (λ (i : ℕ). flagWith d (valueBefore d x) ∷ flagsLeft s (withSample d x) i (length s - (t + 1 - 1))) next))
+        let there = moved d x some in
+        let judged =
+        first-judged s d (withSample d x) (t - 1) (length s - (t + 1 - 1)) (valueBefore d x) value (there .2) (there .3) (there .1) in
+        ap (λ (l : List Bool). l ++ left s (withSample d x) (t + 1)) (there .0)
+        ∙ sym
+        (ap (flagsLeft s d (t - 1)) fewer
+        ∙ judged
+        ∙ ap (λ (i : ℕ). flagWith d (valueBefore d x) ∷ flagsLeft s (withSample d x) i (length s - (t + 1 - 1))) next)
 
 -- a piece of the recording
 piece-gives : (s ws rest : List ℕ) (t : ℕ) (d : Detector) → At s t d → drop t s ≡ ws ++ rest
     → At s (t + length ws) (withPiece d ws) × (flagsBefore d ws ++ left s (withPiece d ws) (t + length ws) ≡ left s d t)
 unfolding withPiece flagsBefore
 piece-gives s [] rest t d at e = (rw (add-zero t) at, rw (add-zero t) refl)
-piece-gives s (w ∷ ws) rest t d at e = rw (word, count) (go (piece-gives s ws rest (t + 1) (withSample d (sample s t)) (next-there s t d at) later))
+piece-gives s (w ∷ ws) rest t d at e = rw (word, count) (go (piece-gives s ws rest (t + 1) (withSample d (sample s t)) (next-there s t d at more) later))
   where
     none : t + 0 ≡ t
     none = omega arith
@@ -175,8 +191,8 @@ piece-gives s (w ∷ ws) rest t d at e = rw (word, count) (go (piece-gives s ws 
     go (stands, gives) = (
       stands,
       append-assoc (flagBefore d (sample s t)) (flagsBefore there ws) _
-      ∙ ap (λ (l : List Bool). flagBefore d (sample s t) ++ l) gives
-      ∙ sample-gives s t d at more,
+          ∙ ap (λ (l : List Bool). flagBefore d (sample s t) ++ l) gives
+          ∙ sample-gives s t d at more,
     )
 
 -- ---- A call
@@ -205,22 +221,36 @@ with-room s t d piece room a at h enough e =
 
 -- the flags stand in the room
 flags-there : (room : List ℕ) (fs : List Bool) (m : ℕ) → length fs ≡ m → m ≤ length room → take m (flagsIn room fs) ≡ map flagByte fs
-flags-there room fs m e h = part-of-sets room (map flagByte fs) 0 m (length-map flagByte fs ∙ e) h
+flags-there room fs m e h = part-of-sets room (map flagByte fs) 0 m (length-map fs flagByte ∙ e) (omega (arith, h))
 
 -- the samples of a piece and those behind it, tested one after the other
 readable-both : (i : ℕ) (xs ys : List ℕ) → readable i (xs ++ ys) ≡ Done 0 → (readable i xs ≡ Done 0) × (readable (i + length xs) ys ≡ Done 0)
 unfolding readable
 readable-both i [] ys h = (refl, rw (add-zero i) h)
-readable-both i (x ∷ xs) ys h = one (truth (inRange x))
-  where
-    one : EitherWay (inRange x) → (readable i (x ∷ xs) ≡ Done 0) × (readable (i + suc (length xs)) ys ≡ Done 0)
-    one (inl good) =
-        let more : i + 1 + length xs ≡ i + suc (length xs) = omega arith in
-        let both = readable-both (i + 1) xs ys (rw good at h) in
-        (rw good (both .0), rw (← more) (both .1))
-    one (inr bad) = let no : Refused (Read i) ≡ Done 0 = rw bad at h in cc
+readable-both i (x ∷ xs) ys h =
+    elim (truth (inRange x)) [
+      | inl good ↦
+          let both = readable-both (i + 1) xs ys (rw good at h) in
+          let more : i + 1 + length xs ≡ i + suc (length xs) = omega arith in
+          (rw good (both .0), ap (λ (k : ℕ). readable k ys) (sym more) ∙ both .1)
+      | inr bad ↦ let never : Refused (Read i) ≡ Done 0 = rw bad at h in absurd (done-not-refused 0 (Read i) (sym never))
+    ]
 
 -- ---- Calls in turn
+
+-- the first of them, and then the others
+abbrev from : Told → List Offer → Run
+from t os =
+    let later = handed (t .detector) os in
+    record {
+      numbers = number (t .answer) ∷ later .numbers;
+      flags = flagsGiven (t .answer) (t .room) ++ later .flags;
+      detector = later .detector;
+    }
+
+pub first-told : (d : Detector) (o : Offer) (os : List Offer) (t : Told) → pieceTold d (o .piece) (o .room) ≡ t → handed d (o ∷ os) ≡ from t os
+unfolding handed
+first-told d o os t e = ap (λ (u : Told). from u os) e
 
 -- what calls that bring in the samples q leave
 record Brought (s : List ℕ) (t : ℕ) (d : Detector) (q : List ℕ) (run : Run) : Type 0 where
@@ -228,71 +258,85 @@ record Brought (s : List ℕ) (t : ℕ) (d : Detector) (q : List ℕ) (run : Run
   stands : At s (t + length q) (run .detector)
   gives : run .flags ++ map flagByte (left s (run .detector) (t + length q)) ≡ map flagByte (left s d t)
 
+-- a piece that is taken in, and then such calls
+module _ (s : List ℕ) (t : ℕ) (d : Detector) (q rest : List ℕ) (at : At s t d) (e : drop t s ≡ q ++ rest) (good : readable t q ≡ Done 0)
+    (o : Offer) (os : List Offer) (more : List ℕ) (enough : flagsDue t (length (o .piece)) ≤ length (o .room)) (parts : q ≡ o .piece ++ more) where
+  abbrev n : ℕ
+  n = length (o .piece)
+
+  abbrev fs : List Bool
+  fs = flagsBefore d (o .piece)
+
+  abbrev next : Detector
+  next = withPiece d (o .piece)
+
+  left-over : drop t s ≡ o .piece ++ (more ++ rest)
+  left-over = e ∙ ap (λ (l : List ℕ). l ++ rest) parts ∙ append-assoc (o .piece) more rest
+
+  within : t + n ≤ length s
+  within = omega (arith, at .inside, length-drop t s, ap length left-over, length-append (o .piece) (more ++ rest))
+
+  tested : (readable t (o .piece) ≡ Done 0) × (readable (t + n) more ≡ Done 0)
+  tested = readable-both t (o .piece) more (sym (ap (readable t) parts) ∙ good)
+
+  gave : At s (t + n) next × (fs ++ left s next (t + n) ≡ left s d t)
+  gave = piece-gives s (o .piece) (more ++ rest) t d at left-over
+
+  behind : drop (t + n) s ≡ more ++ rest
+  behind = sym (drop-drop n t s) ∙ ap (drop n) left-over ∙ drop-append-seam (o .piece) (more ++ rest)
+
+  told-so : pieceTold d (o .piece) (o .room) ≡ told (Done (flagsDue t n)) next (flagsIn (o .room) fs)
+  told-so = with-room s t d (o .piece) (o .room) (Done 0) at within enough (tested .0)
+
+  written : take (flagsDue t n) (flagsIn (o .room) fs) ≡ map flagByte fs
+  written = flags-there (o .room) fs (flagsDue t n) (due-length d (o .piece) ∙ ap (λ (k : ℕ). flagsDue k n) (at .taken-is)) enough
+
+  whole : t + length q ≡ t + n + length more
+  whole = omega (arith, ap length parts, length-append (o .piece) more)
+
+  taken-and-more : Brought s (t + n) next more (handed next os) → Brought s t d q (handed d (o ∷ os))
+  taken-and-more later =
+      let run = handed next os in
+      subst (Brought s t d q) (sym (first-told d o os _ told-so))
+      (record {
+        only-room = (inl refl, later .only-room);
+        stands = rw whole (later .stands);
+        gives =
+            ap (λ (k : ℕ). take (flagsDue t n) (flagsIn (o .room) fs) ++ run .flags ++ map flagByte (left s (run .detector) k)) whole
+            ∙ ap (λ (l : List ℕ). l ++ run .flags ++ map flagByte (left s (run .detector) (t + n + length more))) written
+            ∙ append-assoc (map flagByte fs) (run .flags) _
+            ∙ ap (λ (l : List ℕ). map flagByte fs ++ l) (later .gives)
+            ∙ sym (map-append flagByte fs (left s next (t + n)))
+            ∙ ap (map flagByte) (gave .1);
+      })
+
+none-bring : (s : List ℕ) (t : ℕ) (d : Detector) → At s t d → Brought s t d [] (handed d [])
+unfolding handed
+none-bring s t d at =
+    record {
+      only-room = tt;
+      stands = subst (λ (k : ℕ). At s k d) (sym (add-zero t)) at;
+      gives = ap (λ (k : ℕ). map flagByte (left s d k)) (add-zero t);
+    }
+
 calls-bring : (s : List ℕ) (offers : List Offer) (t : ℕ) (d : Detector) (q rest : List ℕ) → At s t d → drop t s ≡ q ++ rest
     → readable t q ≡ Done 0 → Cut (length s) t offers q → Brought s t d q (handed d offers)
 unfolding handed Cut
-calls-bring s [] t d q rest at e good cut = rw (cut, add-zero t) (record { only-room = tt; stands = at; gives = refl })
-calls-bring s (o ∷ os) t d q rest at e good (inl (short, within, cut)) =
-    let told-so = no-room s t d (o .piece) (o .room) at within short in
+calls-bring s [] t d q rest at e good cut = rw cut (none-bring s t d at)
+calls-bring s (o ∷ os) t d q rest at e good (inl (short, fit, cut)) =
+    let told-so = no-room s t d (o .piece) (o .room) at fit short in
     let later = calls-bring s os t d q rest at e good cut in
-    rw told-so (record { only-room = (inr refl, later .only-room); stands = later .stands; gives = later .gives })
-calls-bring s (o ∷ os) t d q rest at e good (inr (enough, more, parts, cut)) = rw (told-so, whole) (record {
-      only-room = (inl refl, later .only-room);
-      stands = later .stands;
-      gives =
-          append-assoc mine (run .flags) _
-          ∙ ap (λ (l : List ℕ). mine ++ l) (later .gives)
-          ∙ ap (λ (l : List ℕ). l ++ map flagByte (left s next (t + n))) (flags-there (o .room) fs due (due-length d (o .piece) ∙ ap (λ (k : ℕ). flagsDue k n) (at .taken-is)) enough)
-          ∙ sym (map-append flagByte fs (left s next (t + n)))
-          ∙ ap (map flagByte) (gave .1);
-    })
-  where
-    n : ℕ
-    n = length (o .piece)
-
-    due : ℕ
-    due = flagsDue t n
-
-    fs : List Bool
-    fs = flagsBefore d (o .piece)
-
-    next : Detector
-    next = withPiece d (o .piece)
-
-    mine : List ℕ
-    mine = take due (flagsIn (o .room) fs)
-
-    run : Run
-    run = handed next os
-
-    left-over : drop t s ≡ o .piece ++ (more ++ rest)
-    left-over = e ∙ ap (λ (l : List ℕ). l ++ rest) parts ∙ append-assoc (o .piece) more rest
-
-    within : t + n ≤ length s
-    within = omega (arith, length-drop t s, ap length left-over, length-append (o .piece) (more ++ rest))
-
-    tested : (readable t (o .piece) ≡ Done 0) × (readable (t + n) more ≡ Done 0)
-    tested = readable-both t (o .piece) more (sym (ap (readable t) parts) ∙ good)
-
-    told-so : pieceTold d (o .piece) (o .room) ≡ told (Done due) next (flagsIn (o .room) fs)
-    told-so = with-room s t d (o .piece) (o .room) (Done 0) at within enough (tested .0)
-
-    gave : At s (t + n) next × (fs ++ left s next (t + n) ≡ left s d t)
-    gave = piece-gives s (o .piece) (more ++ rest) t d at left-over
-
-    behind : drop (t + n) s ≡ more ++ rest
-    behind = sym (drop-drop n t s) ∙ ap (drop n) left-over ∙ drop-append-seam (o .piece) (more ++ rest)
-
-    later : Brought s (t + n) next more run
-    later = calls-bring s os (t + n) next more rest (gave .0) behind (tested .1) cut
-
-    whole : t + length q ≡ t + n + length more
-    whole = omega (arith, ap length parts, length-append (o .piece) more)
+    subst (Brought s t d q) (sym (first-told d o os _ told-so))
+    (record { only-room = (inr refl, later .only-room); stands = later .stands; gives = later .gives })
+calls-bring s (o ∷ os) t d q rest at e good (inr (enough, (more, parts, cut))) =
+    taken-and-more s t d q rest at e good o os more enough parts
+    (calls-bring s os (t + length (o .piece)) (withPiece d (o .piece)) more rest (gave s t d q rest at e good o os more enough parts .0)
+    (behind s t d q rest at e good o os more enough parts) (tested s t d q rest at e good o os more enough parts .1) cut)
 
 -- ---- From the announcement on
 
 module _ (sensitivity : Float) (s : List ℕ) where
-  first : Detector
+  abbrev first : Detector
   first = begun (length s) sensitivity
 
   begun-there : At s 0 first
@@ -301,6 +345,7 @@ module _ (sensitivity : Float) (s : List ℕ) where
       record {
         total-is = refl;
         taken-is = refl;
+        inside = omega arith;
         goes-on = refl;
         last-is = λ h. absurd (omega (arith, h));
         before-is = λ h. absurd (omega (arith, h));
@@ -312,7 +357,7 @@ module _ (sensitivity : Float) (s : List ℕ) where
   left-whole = rw (sub-zero (length s)) refl
 
   module _ (p rest : List ℕ) (offers : List Offer) (parts : s ≡ p ++ rest) (good : InRange p) (cut : Cut (length s) 0 offers p) where
-    run : Run
+    abbrev run : Run
     run = handed first offers
 
     brought : Brought s 0 first p run
@@ -338,13 +383,15 @@ module _ (sensitivity : Float) (s : List ℕ) where
         take-map (suc k) [] = refl
         take-map (suc k) (b ∷ bs) = ap (λ (l : List ℕ). flagByte b ∷ l) (take-map k bs)
 
+        rest-flags : List Bool
+        rest-flags = left s (run .detector) (length p)
+
         count : length (run .flags) + (length s - givenBy (length p)) ≡ length s
         count =
-            ap (λ (k : ℕ). length (run .flags) + k) (sym (length-left s (run .detector) _ _))
-            ∙ ap (λ (k : ℕ). length (run .flags) + k) (sym (length-map flagByte _))
-            ∙ sym (length-append (run .flags) _)
+            ap (λ (k : ℕ). length (run .flags) + k) (sym (length-map rest-flags flagByte ∙ length-left s (run .detector) _ _))
+            ∙ sym (length-append (run .flags) (map flagByte rest-flags))
             ∙ ap length run-gives
-            ∙ length-map flagByte _
+            ∙ length-map (wholeFlags sensitivity s) flagByte
             ∙ ap length (sym left-whole)
             ∙ length-left s first 0 (length s - 0)
             ∙ sub-zero (length s)
@@ -362,6 +409,11 @@ flags-so-far sensitivity p rest offers good cut =
 
 -- ---- The end
 
+-- of no place none is left
+no-flag : (s : List ℕ) (e : Detector) (i k : ℕ) → k ≡ 0 → flagsLeft s e i k ≡ []
+unfolding flagsLeft flagsFrom
+no-flag s e i k h = rw h (picks (λ (l : List Bool). l ≡ []) (ltb (e .total) leastSamples) [] [] refl refl)
+
 -- the flag that the end gives is the last one that is left
 end-gives : (s : List ℕ) (d : Detector) → At s (length s) d → lastFlag d ≡ left s d (length s)
 unfolding lastFlag
@@ -370,12 +422,8 @@ end-gives s d at = elim (truth (eqb (length s) 0)) [ inl h ↦ none (eqb-true _ 
     n : ℕ
     n = length s
 
-    no-flag : (e : Detector) (i k : ℕ) → k ≡ 0 → flagsLeft s e i k ≡ []
-    unfolding flagsLeft flagsFrom
-    no-flag e i k h = rw h (picks (λ (l : List Bool). l ≡ []) (ltb (e .total) leastSamples) [] [] refl refl)
-
     none : n ≡ 0 → lastFlag d ≡ left s d n
-    none h = rw (eq-eqb (d .taken) 0 (at .taken-is ∙ h)) (sym (no-flag d (n - 1) (n - (n - 1)) (omega (arith, h))))
+    none h = rw (eq-eqb (d .taken) 0 (at .taken-is ∙ h)) (sym (no-flag s d (n - 1) (n - (n - 1)) (omega (arith, h))))
 
     one : (n ≡ 0 → ⊥) → lastFlag d ≡ left s d n
     one h =
@@ -383,7 +431,7 @@ end-gives s d at = elim (truth (eqb (length s) 0)) [ inl h ↦ none (eqb-true _ 
         let last : n - 1 + 1 ≡ n = omega (arith, h) in
         let single : n - (n - 1) ≡ 1 = omega (arith, h) in
         let judged = first-judged s d behind (n - 1) 0 nought (sym (end-detector s (n - 1) (inr last))) refl refl refl in
-        rw some (sym (ap (flagsLeft s d (n - 1)) single ∙ judged ∙ ap (λ (l : List Bool). flagWith d nought ∷ l) (no-flag behind (n - 1 + 1) 0 refl)))
+        rw some (sym (ap (flagsLeft s d (n - 1)) single ∙ judged ∙ ap (λ (l : List Bool). flagWith d nought ∷ l) (no-flag s behind (n - 1 + 1) 0 refl)))
       where
         behind : Detector
         behind =
@@ -409,11 +457,11 @@ end-told s d room at enough =
 pub however-cut : HoweverCut
 unfolding announced
 however-cut sensitivity s offers room may few good cut enough = (
-    rw (le-ltb mostSamples (length s) few, may) refl,
-    brought sensitivity s s [] offers whole good cut .only-room,
-    rw ends refl,
-    rw ends given,
-  )
+  rw (le-ltb mostSamples (length s) few, may) refl,
+  brought sensitivity s s [] offers whole good cut .only-room,
+  rw ends refl,
+  rw ends given,
+)
   where
     whole : s ≡ s ++ []
     whole = sym (append-nil s)
@@ -460,16 +508,30 @@ closed-is d h =
     record { total = d .total; taken = d .taken; running = b; factor = d .factor; floor = d .floor; before = d .before; last = d .last })
     (sym h)
 
+closed-end : (d : Detector) (room : List ℕ) → d .running ≡ false → endTold d room ≡ told (Refused Pieces) d room
+unfolding endTold
+closed-end d room h = subst (λ (e : Detector). endTold e room ≡ told (Refused Pieces) e room) (closed-is d h) refl
+
 closed-piece : (d : Detector) (piece room : List ℕ) → d .running ≡ false → pieceTold d piece room ≡ told (Refused Pieces) d room
 unfolding pieceTold
-closed-piece d piece room h = rw h (ap (λ (e : Detector). told (Refused Pieces) e room) (closed-is d h))
+closed-piece d piece room h = subst (λ (e : Detector). pieceTold e piece room ≡ told (Refused Pieces) e room) (closed-is d h) refl
+
+-- no call gives anything
+abbrev Over : Detector → Run → Type 0
+Over d run = Each (λ k. k ≡ 13) (run .numbers) × (run .flags ≡ []) × (run .detector ≡ d)
+
+closed-calls : (d : Detector) (offers : List Offer) → d .running ≡ false → Over d (handed d offers)
+unfolding handed
+closed-calls d [] h = (tt, refl, refl)
+closed-calls d (o ∷ os) h =
+    let later = closed-calls d os h in
+    subst (Over d) (sym (first-told d o os _ (closed-piece d (o .piece) (o .room) h))) ((refl, later .0), later .1, later .2)
 
 pub closed-for-good : ClosedForGood
-unfolding handed endTold
-closed-for-good d [] room h = (tt, refl, refl, rw h refl, rw h refl)
-closed-for-good d (o ∷ os) room h =
-    let later = closed-for-good d os room h in
-    rw (closed-piece d (o .piece) (o .room) h) ((refl, later .0), later .1, later .2, later .3, later .4)
+closed-for-good d offers room h =
+    let calls = closed-calls d offers h in
+    let end = closed-end d room h in
+    (calls .0, calls .1, calls .2, ap (λ (t : Told). number (t .answer)) end, ap (λ (t : Told). t .room) end)
 
 pub flags-are-named : FlagsAreNamed
 unfolding wholeFlags decrackled

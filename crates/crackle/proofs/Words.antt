@@ -8,29 +8,30 @@ use Prim.Native.Nat.{ℕ, _+_, _≤_, _<_}
 use native.Mathlib.Omega.{arith}
 use borrow.Author.Tests.{le-ltb}
 use lib.Dec.{T, ltb, eqb}
-use lib.ListN.{length, drop}
+use lib.ListN.{length, getD, drop}
 use lib.Seq.{sets, sets-eq, length-sets}
 use lib.Ieee.{Float, binary32, fits, ofBits, toBits}
 use lib.Ieee.Bits.{ofBits-toBits, ofBits-fits}
 use lib.Ieee.Fits.{add-fits, sub-fits, round-fits}
-use Rattle.leaves.specs.Arithmetic.{near, float}
+use Rattle.leaves.specs.Arithmetic.{_-₃₂_, _*₃₂_, nought, one, near, float, count}
 use Rattle.leaves.specs.Choice.{if_then_else_}
-use Rattle.leaves.specs.Floats.{magnitude}
+use Rattle.leaves.specs.Floats.{magnitude, held}
 use Rattle.leaves.proofs.Choice.{picks}
+use Rattle.leaves.proofs.Literals.{nought-word}
 use Rattle.recording.specs.Answers.{number}
 use Rattle.recording.specs.declared.Reason.the-variants.{Workspace}
 use Rattle.recording.specs.declared.Answer.{Answer}
 use Rattle.recording.specs.declared.Answer.the-variants.{Done, Refused}
-use Rattle.decrackle.specs.Decrackle.{factorFor, openingFloor, floorAfter}
+use Rattle.decrackle.specs.Decrackle.{factorFor, openingFloor, alpha, floorAfter}
 use Rattle.crackle.specs.declared.Detector.{Detector}
 use Rattle.crackle.specs.declared.Announced.the-variants.{Begun}
 use Rattle.crackle.specs.Pieces.{begun, announced, floorWith, valueBefore, withSample, withPiece}
 use Rattle.crackle.specs.Pieces.{flagByte, Told, told, closed, pieceTold, endTold}
-use Rattle.crackle.specs.Kept.{stateWords, wordsOf, detectorOf, Kept, wordsAfter, keptTold, beginKept, pieceKept, endKept}
+use Rattle.crackle.specs.Kept.{stateWords, wordsOf, detectorOf, Kept, kept, wordsAfter, keptTold, beginKept, pieceKept, endKept}
 use Rattle.crackle.specs.Cuts.{wholeFlags, Offer, flagsGiven, Run, handed, Each, AcceptedWithRoom}
 use Rattle.crackle.specs.Cuts.{KeptRun, handedKept, KeptAlike, HoweverCutInWords}
 use Rattle.crackle.proofs.Consequences.{piece-by, end-by}
-use Rattle.crackle.proofs.Cuts.{however-cut}
+use Rattle.crackle.proofs.Cuts.{first-told, however-cut}
 
 -- ---- A detector whose floats are all f32s
 
@@ -44,18 +45,23 @@ read-fits : (words : List ℕ) → Fitting (detectorOf words)
 unfolding detectorOf float
 read-fits words =
     record {
-      factor-fits = ofBits-fits binary32 _;
-      floor-fits = ofBits-fits binary32 _;
-      before-fits = ofBits-fits binary32 _;
-      last-fits = ofBits-fits binary32 _;
+      factor-fits = ofBits-fits binary32 (getD words 3 0);
+      floor-fits = ofBits-fits binary32 (getD words 4 0);
+      before-fits = ofBits-fits binary32 (getD words 5 0);
+      last-fits = ofBits-fits binary32 (getD words 6 0);
     }
 
+floor-stays : (d : Detector) (value : Float) → T (fits binary32 (floorWith d value))
+unfolding floorWith floorAfter
+floor-stays d value = add-fits binary32 (d .floor *₃₂ (one -₃₂ alpha)) (magnitude value *₃₂ alpha)
+
 sample-fits : (d : Detector) (w : ℕ) → Fitting d → Fitting (withSample d (float w))
-unfolding withSample floorWith floorAfter float
+unfolding withSample float
 sample-fits d w f =
     record {
       factor-fits = f .factor-fits;
-      floor-fits = picks (λ (x : Float). T (fits binary32 x)) (eqb (d .taken) 0) _ _ (f .floor-fits) (add-fits binary32 _ _);
+      floor-fits = picks (λ (x : Float). T (fits binary32 x)) (eqb (d .taken) 0) (d .floor) (floorWith d (valueBefore d (float w))) (f .floor-fits)
+          (floor-stays d (valueBefore d (float w)));
       before-fits = f .last-fits;
       last-fits = ofBits-fits binary32 w;
     }
@@ -75,8 +81,13 @@ written : (d : Detector) (words : List ℕ) → Fitting d → stateWords ≤ len
 unfolding wordsOf detectorOf float
 written d words f h =
     ap detectorOf (sets-eq (wordsOf d) words 0 h)
-    ∙ rw (runs (d .running), ofBits-toBits binary32 _ (f .factor-fits), ofBits-toBits binary32 _ (f .floor-fits),
-    ofBits-toBits binary32 _ (f .before-fits), ofBits-toBits binary32 _ (f .last-fits)) refl
+    ∙ rw (
+      runs (d .running),
+      ofBits-toBits binary32 _ (f .factor-fits),
+      ofBits-toBits binary32 _ (f .floor-fits),
+      ofBits-toBits binary32 _ (f .before-fits),
+      ofBits-toBits binary32 _ (f .last-fits),
+    ) refl
   where
     runs : (b : Bool) → eqb (if b then 1 else 0) 1 ≡ b
     runs true = refl
@@ -97,7 +108,7 @@ piece-left d piece room f =
 told-words : (words : List ℕ) (t : Told) → stateWords ≤ length words → Left (detectorOf words) t
     → (detectorOf (wordsAfter (t .answer) (t .detector) words) ≡ t .detector) × (length (wordsAfter (t .answer) (t .detector) words) ≡ length words)
 told-words words t h (inl (six, same)) = rw six (sym same, refl)
-told-words words t h (inr (other, f)) = rw other (written (t .detector) words f h, length-sets words 0 _)
+told-words words t h (inr (other, f)) = rw other (written (t .detector) words f h, length-sets words 0 (wordsOf (t .detector)))
 
 -- ---- Calls in turn
 
@@ -108,55 +119,93 @@ record Alike (words : List ℕ) (d : Detector) (offers : List Offer) : Type 0 wh
   holds : detectorOf (handedKept words offers .words) ≡ handed d offers .detector
   as-many : length (handedKept words offers .words) ≡ length words
 
+-- one call, and then the others
+module _ (words : List ℕ) (o : Offer) (os : List Offer) (h : stateWords ≤ length words) where
+  abbrev t : Told
+  t = pieceTold (detectorOf words) (o .piece) (o .room)
+
+  abbrev next : List ℕ
+  next = wordsAfter (t .answer) (t .detector) words
+
+  told-so : pieceKept words (o .piece) (o .room) ≡ keptTold t words
+  unfolding pieceKept
+  told-so = rw (le-ltb (length words) stateWords h) refl
+
+  leaves : (detectorOf next ≡ t .detector) × (length next ≡ length words)
+  leaves = told-words words t h (piece-left (detectorOf words) (o .piece) (o .room) (read-fits words))
+
+  abbrev from : Kept → KeptRun
+  from k =
+      let later = handedKept (k .words) os in
+      record {
+        numbers = number (k .answer) ∷ later .numbers;
+        flags = flagsGiven (k .answer) (k .room) ++ later .flags;
+        words = later .words;
+      }
+
+  first-kept : handedKept words (o ∷ os) ≡ from (keptTold t words)
+  unfolding handedKept
+  first-kept = ap from told-so
+
+  and-others : Alike next (t .detector) os → Alike words (detectorOf words) (o ∷ os)
+  and-others later =
+      let first = first-told (detectorOf words) o os t refl in
+      record {
+        numbers-are =
+            ap (λ (r : KeptRun). r .numbers) first-kept
+            ∙ ap (λ (ks : List ℕ). number (t .answer) ∷ ks) (later .numbers-are)
+            ∙ sym (ap (λ (r : Run). r .numbers) first);
+        flags-are =
+            ap (λ (r : KeptRun). r .flags) first-kept
+            ∙ ap (λ (fs : List ℕ). flagsGiven (t .answer) (t .room) ++ fs) (later .flags-are)
+            ∙ sym (ap (λ (r : Run). r .flags) first);
+        holds =
+            ap (λ (r : KeptRun). detectorOf (r .words)) first-kept ∙ later .holds ∙ sym (ap (λ (r : Run). r .detector) first);
+        as-many = ap (λ (r : KeptRun). length (r .words)) first-kept ∙ later .as-many ∙ leaves .1;
+      }
+
 alike : (words : List ℕ) (offers : List Offer) → stateWords ≤ length words → Alike words (detectorOf words) offers
 unfolding handed handedKept
 alike words [] h = record { numbers-are = refl; flags-are = refl; holds = refl; as-many = refl }
 alike words (o ∷ os) h =
-    record {
-      numbers-are = rw told-so (ap (λ (ks : List ℕ). number (t .answer) ∷ ks) (later .numbers-are));
-      flags-are = rw told-so (ap (λ (fs : List ℕ). flagsGiven (t .answer) (t .room) ++ fs) (later .flags-are));
-      holds = rw told-so (later .holds);
-      as-many = rw told-so (later .as-many ∙ left .1);
-    }
-  where
-    t : Told
-    t = pieceTold (detectorOf words) (o .piece) (o .room)
-
-    told-so : pieceKept words (o .piece) (o .room) ≡ keptTold t words
-    unfolding pieceKept
-    told-so = rw (le-ltb (length words) stateWords h) refl
-
-    next : List ℕ
-    next = wordsAfter (t .answer) (t .detector) words
-
-    left : (detectorOf next ≡ t .detector) × (length next ≡ length words)
-    left = told-words words t h (piece-left (detectorOf words) (o .piece) (o .room) (read-fits words))
-
-    later : Alike next (t .detector) os
-    later = subst (λ (d : Detector). Alike next d os) (left .0) (alike next os (omega (arith, h, left .1)))
+    let there = leaves words o os h in
+    and-others words o os h
+    (subst (λ (d : Detector). Alike (next words o os h) d os) (there .0) (alike (next words o os h) os (omega (arith, h, there .1))))
 
 pub kept-alike : KeptAlike
 kept-alike words offers h = let all = alike words offers h in (all .numbers-are, all .flags-are, all .holds)
 
 -- ---- A whole run
 
+nought-fits : T (fits binary32 nought)
+nought-fits = subst (λ (x : Float). T (fits binary32 x)) nought-word (ofBits-fits binary32 0)
+
 begun-fits : (total : ℕ) (sensitivity : Float) → Fitting (begun total sensitivity)
 unfolding begun factorFor openingFloor near
 begun-fits total sensitivity =
     record {
-      factor-fits = sub-fits binary32 _ _;
+      factor-fits = sub-fits binary32 (count 12) (held one (count 10) sensitivity);
       floor-fits = round-fits binary32 false 1 1000000;
-      before-fits = tt;
-      last-fits = tt;
+      before-fits = nought-fits;
+      last-fits = nought-fits;
     }
 
 end-left : (d : Detector) (room : List ℕ) → Fitting d → Left d (endTold d room)
 end-left d room f =
     end-by (Left d) d room (inr (refl, closed-fits d f)) (inl (refl, refl)) (λ enough. inr (refl, closed-fits d f))
 
+begun-told : (total : ℕ) (sensitivity : Float) (words : List ℕ) → stateWords ≤ length words → announced total sensitivity ≡ Begun (begun total sensitivity)
+    → beginKept total sensitivity words ≡ kept (Done 0) (sets words 0 (wordsOf (begun total sensitivity))) []
+unfolding beginKept
+begun-told total sensitivity words h e = rw (le-ltb (length words) stateWords h, e) refl
+
+end-told : (d : Detector) (words room : List ℕ) → stateWords ≤ length words → detectorOf words ≡ d → endKept words room ≡ keptTold (endTold d room) words
+unfolding endKept
+end-told d words room h e = rw (le-ltb (length words) stateWords h) (ap (λ (f : Detector). keptTold (endTold f room) words) e)
+
 pub however-cut-in-words : HoweverCutInWords
 however-cut-in-words sensitivity s offers words room may few good enough-words cut enough =
-    rw (begun-so, end-so, kept .flags-are, kept .numbers-are) (refl, cuts .1, cuts .2, cuts .3)
+    rw (begun-so, end-so, run-alike .flags-are, run-alike .numbers-are) (refl, cuts .1, cuts .2, cuts .3)
   where
     first : Detector
     first = begun (length s) sensitivity
@@ -174,19 +223,17 @@ however-cut-in-words sensitivity s offers words room may few good enough-words c
     many : length start ≡ length words
     many = length-sets words 0 (wordsOf first)
 
-    begun-so : beginKept (length s) sensitivity words ≡ record { answer = Done 0; words = start; room = [] }
-    unfolding beginKept
-    begun-so = rw (le-ltb (length words) stateWords enough-words, cuts .0) refl
+    begun-so : beginKept (length s) sensitivity words ≡ kept (Done 0) start []
+    begun-so = begun-told (length s) sensitivity words enough-words (cuts .0)
 
     holds : detectorOf start ≡ first
     holds = written first words (begun-fits (length s) sensitivity) enough-words
 
-    kept : Alike start first offers
-    kept = subst (λ (d : Detector). Alike start d offers) holds (alike start offers (omega (arith, enough-words, many)))
+    run-alike : Alike start first offers
+    run-alike = subst (λ (d : Detector). Alike start d offers) holds (alike start offers (omega (arith, enough-words, many)))
 
     last : List ℕ
     last = handedKept start offers .words
 
     end-so : endKept last room ≡ keptTold (endTold (handed first offers .detector) room) last
-    unfolding endKept
-    end-so = rw (le-ltb (length last) stateWords (omega (arith, enough-words, many, kept .as-many)), kept .holds) refl
+    end-so = end-told (handed first offers .detector) last room (omega (arith, enough-words, many, run-alike .as-many)) (run-alike .holds)

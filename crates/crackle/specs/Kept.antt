@@ -23,13 +23,17 @@ use Rattle.crackle.specs.Pieces.{Told, announced, pieceTold, endTold}
 abbrev pub stateWords : ℕ
 stateWords = 8
 
--- numbers as they are, 1 for a run that goes on, floats as their patterns; the eighth word is not needed, and is 0
+-- 1 for a run that goes on, and else 0
+abbrev pub runningWord : Bool → ℕ
+runningWord running = if running then 1 else 0
+
+-- numbers as they are, floats as their patterns; the eighth word is not needed, and is 0
 unfoldable pub wordsOf : Detector → List ℕ
 unfolding toBits
 wordsOf d =
     d .total
     ∷ d .taken
-    ∷ (if d .running then 1 else 0)
+    ∷ runningWord (d .running)
     ∷ toBits binary32 (d .factor)
     ∷ toBits binary32 (d .floor)
     ∷ toBits binary32 (d .before)

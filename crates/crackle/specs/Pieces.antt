@@ -172,7 +172,7 @@ lastFlag d = if eqb (d .taken) 0 then [] else flagWith d nought ∷ []
 unfoldable pub endTold : Detector → List ℕ → Told
 unfolding lastFlag
 endTold d room =
-    let due = length (lastFlag d) in
+    let flags = lastFlag d in
     if notAll d then told (Refused Pieces) (closed d) room else
-    if ltb (length room) due then told (Refused Workspace) d room else
-    told (Done due) (closed d) (flagsIn room (lastFlag d))
+    if ltb (length room) (length flags) then told (Refused Workspace) d room else
+    told (Done (length flags)) (closed d) (flagsIn room flags)

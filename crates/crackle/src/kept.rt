@@ -4,7 +4,7 @@ ghost use mathlib.Core.List.{[]};
 ghost use Prim.Native.Nat.{_≤_};
 ghost use lib.ListN.{length};
 ghost use lib.Seq.{sets};
-ghost use Rattle.crackle.specs.Kept.{stateWords, wordsOf, detectorOf, wordsAfter, kept, beginKept, pieceKept, endKept};
+ghost use Rattle.crackle.specs.Kept.{stateWords, runningWord, wordsOf, detectorOf, wordsAfter, kept, beginKept, pieceKept, endKept};
 use super::Announced;
 use super::Detector;
 use super::Heard;
@@ -40,6 +40,13 @@ fn read_detector(words: &[u32]) -> Detector
     }
 }
 
+// The word of a run that goes on, or not.
+fn running_word(running: bool) -> u32
+    ensures { λ r. ⌜ r ≡ runningWord running ⌝ }
+{
+    if running { RUNNING } else { 0 }
+}
+
 // Writes the detector into the first words, the eighth of which is not needed.
 fn write_detector(detector: Detector, words: &mut [u32])
     requires { ⌜ stateWords ≤ length (now words) ⌝ }
@@ -47,7 +54,7 @@ fn write_detector(detector: Detector, words: &mut [u32])
 {
     words[0] = detector.total;
     words[1] = detector.taken;
-    words[2] = if detector.running { RUNNING } else { 0 };
+    words[2] = running_word(detector.running);
     words[3] = word_of_f32(detector.factor);
     words[4] = word_of_f32(detector.floor);
     words[5] = word_of_f32(detector.before);

@@ -31,7 +31,7 @@ twelve : ofBits binary32 1094713344 ≡ count 12
 unfolding ofBits count ofInt
 twelve = refl
 
-millionth : ofBits binary32 897988541 ≡ near binary32 1 1000000
+pub millionth : ofBits binary32 897988541 ≡ near binary32 1 1000000
 unfolding ofBits near round
 millionth = refl
 

@@ -104,7 +104,7 @@ module _ (samples w v : List ℕ) (a : Answer) (m : ℕ) (accepts : a ≡ Done m
 abbrev tests : State → Answer → Bool → Bool → Answer → Plan → Ended
 tests s f b c r p = unlessRefused f s (carried s (if b then refuse Setting else if c then refuse Workspace else unlessRead r p))
 
-done-not-refused : (m : ℕ) (why : Reason) → Done m ≡ Refused why → ⊥
+pub done-not-refused : (m : ℕ) (why : Reason) → Done m ≡ Refused why → ⊥
 done-not-refused m why both = let none : _≡_ {A = ℕ} 0 1 = cc in omega arith
 
 refused-not-done : (m : ℕ) (why : Reason) → Refused why ≡ Done m → ⊥

@@ -1,55 +1,49 @@
+-- `crackle::finish` meets its contract: each way out is a line of the rule. Assumes nothing.
 use borrow.Author.Needs.{needs}
+use Rattle.crackle.proofs.Steps.{end-early, end-empty, end-short, end-one}
 use Rattle.crackle.proofs.finish.Statement.{statement}
 use Rattle.crackle.proofs.finish.Tie as tie
-use Rattle.crackle.proofs.finish.Reads as reads
-use Rattle.crackle.proofs.finish.Lts as lts
-use Rattle.crackle.proofs.close.Reads as close-reads
-use Rattle.crackle.proofs.judge.Reads as judge-reads
-use Rattle.crackle.proofs.not_all.Reads as not-all-reads
 
--- src/lib.rt:276:8
 not-all-requires : tie.Need-not-all-requires
 not-all-requires c κs = search needs
 
--- src/lib.rt:279:23
 close-requires : tie.Need-close-requires
 close-requires c κs = search needs
 
--- src/lib.rt:277:9
 returns : tie.Need-returns
-returns c = ?
+returns c = end-early _ _ _ (c .before .before .not-all .ensures) _ (c .before .if1 .taken) (c .close .ensures)
 
--- src/lib.rt:285:23
 close-requires-2 : tie.Need-close-requires-2
 close-requires-2 c κs = search needs
 
--- src/lib.rt:283:9
 returns-2 : tie.Need-returns-2
-returns-2 c = ?
+returns-2 c =
+    let called = c .before .before .before in
+    end-empty _ _ _ (called .before .not-all .ensures) (called .if1 .left) _ (c .before .if2 .taken) (c .close2 .ensures)
 
--- src/lib.rt:289:9
 returns-3 : tie.Need-returns-3
-returns-3 c = ?
+returns-3 c =
+    let called = c .before .before .before in
+    end-short _ _ _ (called .before .not-all .ensures) (called .if1 .left) (c .before .if2 .left) (c .if3 .taken)
 
--- src/lib.rt:294:9
 judge-requires : tie.Need-judge-requires
 judge-requires c κs = search needs
 
--- src/lib.rt:295:5
 slice-write-flags : tie.Need-slice-write-flags
 slice-write-flags c = search needs
 
--- src/lib.rt:298:19
 close-requires-3 : tie.Need-close-requires-3
 close-requires-3 c κs = search needs
 
--- src/lib.rt:273:1
 same-length : tie.Need-same-length
 same-length c = search needs
 
--- src/lib.rt:273:1
 returns-4 : tie.Need-returns-4
-returns-4 c = ?
+returns-4 c =
+    let long = c .before .before in
+    let called = long .before .before .before in
+    end-one _ _ _ (called .before .not-all .ensures) (called .if1 .left) (long .before .if2 .left) _ _ (long .if3 .left)
+    (c .before .judge .ensures .0) (c .close3 .ensures)
 
 pub finish-spec : {M : Type 1} → statement M
 finish-spec =

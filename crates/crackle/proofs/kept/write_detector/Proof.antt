@@ -1,65 +1,60 @@
+-- `crackle::kept::write_detector` meets its contract: each field is written in its word. Assumes nothing.
 use borrow.Author.Needs.{needs}
+use native.Mathlib.Omega.{arith}
+use lib.ListN.{length-set}
+use Rattle.crackle.proofs.Keeping.{written-so}
 use Rattle.crackle.proofs.kept.write_detector.Statement.{statement}
 use Rattle.crackle.proofs.kept.write_detector.Tie as tie
-use Rattle.crackle.proofs.kept.write_detector.Reads as reads
-use Rattle.crackle.proofs.kept.write_detector.Lts as lts
-use Rattle.leaves.proofs.words.word_of_f32.Reads as word-of-f32-reads
 
--- src/kept.rt:48:5
 slice-write-words : tie.Need-slice-write-words
 slice-write-words c = search needs
 
--- src/kept.rt:49:5
 slice-write-words-2 : tie.Need-slice-write-words-2
-slice-write-words-2 c = ?
+slice-write-words-2 c = simp length-set (omega arith)
 
--- src/kept.rt:50:5
+running-word-requires : tie.Need-running-word-requires
+running-word-requires c κs = search needs
+
 slice-write-words-3 : tie.Need-slice-write-words-3
-slice-write-words-3 c = ?
+slice-write-words-3 c = simp length-set (omega arith)
 
--- src/kept.rt:51:16
 word-of-f32-requires : tie.Need-word-of-f32-requires
 word-of-f32-requires c κs = search needs
 
--- src/kept.rt:51:5
 slice-write-words-4 : tie.Need-slice-write-words-4
-slice-write-words-4 c = ?
+slice-write-words-4 c = simp length-set (omega arith)
 
--- src/kept.rt:52:16
 word-of-f32-requires-2 : tie.Need-word-of-f32-requires-2
 word-of-f32-requires-2 c κs = search needs
 
--- src/kept.rt:52:5
 slice-write-words-5 : tie.Need-slice-write-words-5
-slice-write-words-5 c = ?
+slice-write-words-5 c = simp length-set (omega arith)
 
--- src/kept.rt:53:16
 word-of-f32-requires-3 : tie.Need-word-of-f32-requires-3
 word-of-f32-requires-3 c κs = search needs
 
--- src/kept.rt:53:5
 slice-write-words-6 : tie.Need-slice-write-words-6
-slice-write-words-6 c = ?
+slice-write-words-6 c = simp length-set (omega arith)
 
--- src/kept.rt:54:16
 word-of-f32-requires-4 : tie.Need-word-of-f32-requires-4
 word-of-f32-requires-4 c κs = search needs
 
--- src/kept.rt:54:5
 slice-write-words-7 : tie.Need-slice-write-words-7
-slice-write-words-7 c = ?
+slice-write-words-7 c = simp length-set (omega arith)
 
--- src/kept.rt:55:5
 slice-write-words-8 : tie.Need-slice-write-words-8
-slice-write-words-8 c = ?
+slice-write-words-8 c = simp length-set (omega arith)
 
--- src/kept.rt:44:1
 same-length : tie.Need-same-length
 same-length c = search needs
 
--- src/kept.rt:44:1
 returns : tie.Need-returns
-returns c = ?
+returns c =
+    let before = c .before in
+    let floor = before .before in
+    let factor = floor .before in
+    written-so _ _ _ _ _ _ _ (factor .before .running-word .ensures) (factor .word-of-f32 .ensures) (floor .word-of-f322 .ensures)
+    (before .word-of-f323 .ensures) (c .word-of-f324 .ensures)
 
 pub write-detector-spec : {M : Type 1} → statement M
 write-detector-spec =
@@ -67,6 +62,7 @@ write-detector-spec =
     (tie.spec
     slice-write-words
     slice-write-words-2
+    running-word-requires
     slice-write-words-3
     word-of-f32-requires
     slice-write-words-4

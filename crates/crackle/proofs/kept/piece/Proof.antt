@@ -1,0 +1,42 @@
+-- `crackle::kept::piece` meets its contract: what the call by value leaves is kept. Assumes nothing.
+use borrow.Author.Needs.{needs}
+use Rattle.crackle.proofs.Keeping.{piece-few, piece-so}
+use Rattle.crackle.proofs.kept.piece.Statement.{statement}
+use Rattle.crackle.proofs.kept.piece.Tie as tie
+
+returns : tie.Need-returns
+returns c = piece-few _ _ _ (c .if1 .taken)
+
+read-detector-requires : tie.Need-read-detector-requires
+read-detector-requires c κs = search needs
+
+piece-requires : tie.Need-piece-requires
+piece-requires c κs = search needs
+
+keep-requires : tie.Need-keep-requires
+keep-requires c κs = search needs
+
+same-length : tie.Need-same-length
+same-length c = search needs
+
+same-length-2 : tie.Need-same-length-2
+same-length-2 c = search needs
+
+returns-2 : tie.Need-returns-2
+returns-2 c =
+    let keeping = c .before .before in
+    let called = keeping .before .before .before .before in
+    let read = called .before .before in
+    piece-so _ _ (read .before .before .if1 .left) _ _ _ _ _ _ (read .read-detector .ensures) (keeping .keep .ensures) _ (called .piece .ensures)
+
+pub piece-spec : {M : Type 1} → statement M
+piece-spec =
+    tie.close
+    (tie.spec
+    returns
+    read-detector-requires
+    piece-requires
+    keep-requires
+    same-length
+    same-length-2
+    returns-2)
