@@ -122,11 +122,11 @@ spanToldOf v = spanTold (verdictNumber v) (verdictYes v)
 pub record CrackleTold : Type 0 where
   pub number : ℕ
   pub values : List ℕ
-  pub words : List ℕ
+  pub held : List ℕ
   pub room : List ℕ
 
 abbrev pub crackleTold : ℕ → List ℕ → List ℕ → List ℕ → CrackleTold
-crackleTold k values words room = record { number = k; values = values; words = words; room = room }
+crackleTold k values held room = record { number = k; values = values; held = held; room = room }
 
 abbrev pub begunTold : Kept → CrackleTold
 begunTold c = crackleTold (number (c .answer)) [] (c .words) (c .room)
