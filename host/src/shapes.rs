@@ -111,3 +111,17 @@ fn growth(draw: &mut Draw, n: usize) -> Vec<u32> {
     }
     found
 }
+
+/// So many samples, at least two, that bend at the chosen places, the digits of a number, and nowhere else: elsewhere
+/// decrackle's detector is 0. Sums and products of these few powers of 2 are exact.
+pub fn bent(draw: &mut Draw, n: usize, chosen: usize) -> Vec<u32> {
+    let unit = f32::from_bits((127 - 8 + draw.below(17) as u32) << 23);
+    let mut any = || unit * (draw.below(5) as f32 - 2.0);
+    let mut samples = vec![any(), any()];
+    for place in 1..n - 1 {
+        let sign = if draw.below(2) == 0 { 1.0 } else { -1.0 };
+        let detector = if chosen >> place & 1 == 1 { unit * sign } else { 0.0 };
+        samples.push(2.0 * samples[place] - samples[place - 1] - 2.0 * detector);
+    }
+    samples.iter().map(|x| x.to_bits()).collect()
+}

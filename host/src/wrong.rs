@@ -12,6 +12,7 @@ macro_rules! library {
 }
 
 mod counts;
+mod crackle;
 mod frames;
 mod gaps;
 mod held;
@@ -28,11 +29,13 @@ mod whole;
 
 use crate::call::Call;
 use crate::cathar;
+use crate::crackle::{self as model_of_crackle, Areas};
 use crate::frames::{self as model_of_frames, Read, Rooms};
+use crate::lent::crackle::Crackle;
 use crate::lent::frames::Frames;
 use crate::lent::Lent;
 use crate::question::{self as model_of_question, Span, Told};
-use crate::recording::{not_measured, Recording, BLOCK};
+use crate::recording::{not_measured, Answer, Recording, BLOCK};
 use std::env;
 
 /// A wrong stand-in.
@@ -58,6 +61,11 @@ enum How {
     Reader(fn(&mut Frames) -> u32),
     /// In the place of both readers alike.
     Readers(fn(&[u8], &mut Rooms) -> Read),
+    /// In the place of the library's crackle detector: it makes the call, at times by the library's own, and gives the
+    /// answer.
+    Detector(fn(&mut Crackle, model_of_crackle::Call) -> u32),
+    /// In the place of both detectors alike.
+    Detectors(fn(&mut Areas, model_of_crackle::Call) -> Answer),
     /// In the place of the library's answer to the question: it is asked, at times by the library's own, and gives the
     /// number.
     Asked(fn(&mut Lent, Span) -> u32),
@@ -95,7 +103,7 @@ pub enum Finds {
 }
 
 /// All of them.
-pub const TABLES: [&[Table]; 14] = [
+pub const TABLES: [&[Table]; 15] = [
     leaves::TABLES,
     recording::TABLES,
     received::TABLES,
@@ -109,6 +117,7 @@ pub const TABLES: [&[Table]; 14] = [
     counts::TABLES,
     question::TABLES,
     frames::TABLES,
+    crackle::TABLES,
     second::TABLES,
 ];
 
@@ -192,6 +201,31 @@ pub(crate) fn model_reader(input: &[u8], rooms: &mut Rooms) -> Read {
     match how() {
         Some(How::Readers(reads)) => reads(input, rooms),
         _ => model_of_frames::read_frames(input, rooms),
+    }
+}
+
+/// The library's crackle detector makes the call on what it is lent, or what stands in for it does.
+pub(crate) fn detector(lent: &mut Crackle, call: model_of_crackle::Call) -> u32 {
+    match how() {
+        Some(How::Detector(makes)) => makes(lent, call),
+        Some(How::Detectors(makes)) => {
+            let mut areas = lent.areas();
+            let answer = makes(&mut areas, call);
+            lent.put(&areas);
+            if !matches!(call, model_of_crackle::Call::Begin { .. }) {
+                lent.set_value(answer.value());
+            }
+            answer.number()
+        }
+        _ => lent.call(call),
+    }
+}
+
+/// The model's detector makes the call on these areas, or what stands in for it does.
+pub(crate) fn model_detector(areas: &mut Areas, call: model_of_crackle::Call) -> Answer {
+    match how() {
+        Some(How::Detectors(makes)) => makes(areas, call),
+        _ => areas.make(call),
     }
 }
 
