@@ -1,7 +1,7 @@
-//! Crackle detection as the sound arrives, as request P4 of document 02 has it, in the words of a state as the interface
-//! lays them out. It is written from these texts alone, and to be seen right rather than to be fast, so that the library
-//! can be held to it. What the flags have to be in all is not worked out here: that is document 01's on the whole
-//! recording (`whole.rs`), and what the original Rust rewrites.
+//! Crackle detection as the sound arrives, as request P4 of document 02 has it, in the words of a state as the
+//! interface lays them out. It is written from these texts alone, and to be seen right rather than to be fast, so that
+//! the library can be held to it. What the flags have to be in all is not worked out here: that is document 01's on the
+//! whole recording (`whole.rs`), and what the original Rust rewrites.
 use crate::float::word32;
 use crate::recording::{first_of, in_range, Answer, MOST_SAMPLES};
 use crate::whole::{curve, stretches};
@@ -32,8 +32,8 @@ pub struct Areas {
     pub flags: Vec<u8>,
 }
 
-/// A run as the words of its state have it. "The detector keeps the running floor and the last two samples, carried from
-/// piece to piece."
+/// A run as the words of its state have it. "The detector keeps the running floor and the last two samples, carried
+/// from piece to piece."
 #[derive(Clone, Copy, Debug)]
 pub struct Run {
     /// How many samples were announced, and how many are in.
@@ -159,9 +159,9 @@ impl Areas {
         Answer::Accepted(0)
     }
 
-    /// "Then 13, more samples than announced [..], or a call after a stop or the end; 6, no room for this call's flags; 7
-    /// with the place in the whole; tested in that order. 13 and 7 stop the run, 6 takes nothing in, and all leave the
-    /// flag room unwritten."
+    /// "Then 13, more samples than announced [..], or a call after a stop or the end; 6, no room for this call's flags;
+    /// 7 with the place in the whole; tested in that order. 13 and 7 stop the run, 6 takes nothing in, and all leave
+    /// the flag room unwritten."
     fn piece(&mut self) -> Answer {
         let mut run = Run::read(&self.state);
         if !run.goes_on || run.has_too_many_with(self.piece.len()) {

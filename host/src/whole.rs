@@ -126,8 +126,8 @@ pub fn fills(samples: &[f32], threshold: f32) -> Vec<Range<usize>> {
     stretches(&clipped).into_iter().filter_map(between).collect()
 }
 
-/// Which samples decrackle flags. "Sensitivity not NaN, held to 1..10; factor 12−sensitivity. Under 8 samples: nothing
-/// named. Detector 0 at both ends, elsewhere s[i]−0.5*(s[i−1]+s[i+1]). Floor starts at 1e-6;
+/// Which samples decrackle flags. "Sensitivity not NaN, held to 1..10; factor 12−sensitivity. Under 8 samples:
+/// nothing named. Detector 0 at both ends, elsewhere s[i]−0.5*(s[i−1]+s[i+1]). Floor starts at 1e-6;
 /// floor=floor*(1−0.001)+a*0.001, then flag if a>factor*max(floor,1e-6)."
 pub fn flags(samples: &[f32], sensitivity: f32) -> Vec<bool> {
     let n = samples.len();
@@ -152,9 +152,9 @@ pub fn flagged(samples: &[f32], sensitivity: f32) -> Vec<Range<usize>> {
     stretches(&flags(samples, sensitivity))
 }
 
-/// The new samples of a flagged run, as `repair_hermite` has them: the cubic from the sample before it to the one behind
-/// it, with the slopes that those have on their other side, 0 where there is none. Behind a run to the end the sample
-/// before it is taken once more.
+/// The new samples of a flagged run, as `repair_hermite` has them: the cubic from the sample before it to the one
+/// behind it, with the slopes that those have on their other side, 0 where there is none. Behind a run to the end the
+/// sample before it is taken once more.
 pub fn curve(samples: &[f32], run: &Range<usize>) -> Vec<f32> {
     let left = samples[run.start - 1];
     let right = *samples.get(run.end).unwrap_or(&left);

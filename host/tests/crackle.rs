@@ -1,7 +1,7 @@
-//! The crackle detector in pieces against the model of its calls: every answer and value, and every byte of state, piece
-//! and room, with what stands around each lent area. Beside the model each call is held to an account of what was given
-//! before it, and the flags of all calls joined to those of the whole recording: worked out by document 01's rules, as
-//! the original Rust shows them by what it rewrites, and as the library's own decrackle names them.
+//! The crackle detector in pieces against the model of its calls: every answer and value, and every byte of state,
+//! piece and room, with what stands around each lent area. Beside the model each call is held to an account of what was
+//! given before it, and the flags of all calls joined to those of the whole recording: worked out by document 01's
+//! rules, as the original Rust shows them by what it rewrites, and as the library's own decrackle names them.
 //!
 //! `CATHAR_SEED` sets the seed.
 mod crackle {
@@ -20,7 +20,7 @@ use cathar_host::damage;
 use cathar_host::draw::{self, Draw};
 use cathar_host::recording::{Answer, MOST_SAMPLES};
 use cathar_host::settings;
-use cathar_host::shapes::{bent, Shape};
+use cathar_host::shapes::{at_limit, bent, Shape};
 use crackle::classes::{Calls, ANNOUNCED, CUT, STOPPED, WILD};
 use crackle::feed::{give, give_in_turn, Feed};
 use crackle::joined::{Recordings, CLASSES, LONG};
@@ -84,6 +84,12 @@ fn however_it_is_cut() {
     calls.begin("every cut of up to 10 samples");
     recordings.begin("every cut of up to 10 samples");
     every_cut((&mut calls, &mut recordings), &mut draw);
+    calls.begin("a click at the limit, in silence");
+    recordings.begin("a click at the limit, in silence");
+    at_limit(&mut |samples, sensitivity| {
+        let lengths = cuts::any(&mut draw, samples.len());
+        give((&mut calls, &mut recordings), &mut draw, samples.to_vec(), sensitivity, lengths);
+    });
     calls.begin("cut at random");
     recordings.begin("cut at random");
     for _ in 0..PAIRS {

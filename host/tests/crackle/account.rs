@@ -4,7 +4,8 @@ use cathar_host::both::Wrong;
 use cathar_host::crackle::{Areas, Call, STATE_WORDS};
 use cathar_host::lent::crackle::Crackle;
 use cathar_host::recording::{in_range, Answer, MOST_SAMPLES};
-use cathar_host::whole::{flags, floats};
+use cathar_host::whole::floats;
+use cathar_host::wrong::flags;
 
 /// How a run stands.
 #[derive(Clone, Copy, Debug, PartialEq, Eq)]

@@ -66,8 +66,8 @@ pub fn each_of(n: usize, length: usize) -> Vec<usize> {
     lengths
 }
 
-/// Any cut of n samples: all in one piece, in two, in pieces of 1, of one length, or of any; half of the time with empty
-/// pieces put in.
+/// Any cut of n samples: all in one piece, in two, in pieces of 1, of one length, or of any; half of the time with
+/// empty pieces put in.
 pub fn any(draw: &mut Draw, n: usize) -> Vec<usize> {
     let mut lengths = match draw.below(8) {
         0 => vec![n],

@@ -7,7 +7,8 @@ use cathar_host::count::{Class, Count};
 use cathar_host::crackle::rewritten;
 use cathar_host::original;
 use cathar_host::recording::{blocks, entry_words};
-use cathar_host::whole::{flags, floats, needed};
+use cathar_host::whole::{floats, needed};
+use cathar_host::wrong::flags;
 use std::fmt;
 
 /// How many pieces are told.

@@ -106,8 +106,8 @@ fn try_case(calls: &mut Calls, draw: &mut Draw, standing: Standing, case: &Case)
     anew(calls, draw, &mut run);
 }
 
-/// Tries every choice: how many samples are in, how long the piece is and whether it fits, which of its samples are not in
-/// range, how much room there is, and how the run stands.
+/// Tries every choice: how many samples are in, how long the piece is and whether it fits, which of its samples are not
+/// in range, how much room there is, and how the run stands.
 pub fn each(calls: &mut Calls, draw: &mut Draw) {
     for (taken, n) in [0, 1, 2, 9].into_iter().flat_map(|taken| (0..=4).map(move |n| (taken, n))) {
         for beside in [0, 1, 2, 6] {

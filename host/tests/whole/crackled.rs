@@ -2,8 +2,7 @@
 use super::calls::Call;
 use cathar_host::count::Class;
 use cathar_host::draw::Draw;
-use cathar_host::settings;
-use cathar_host::shapes::bent;
+use cathar_host::shapes::{bent, least_limit};
 use cathar_host::whole::{flagged, floats, Repair};
 use std::ops::Range;
 
@@ -16,26 +15,6 @@ pub fn each(draw: &mut Draw, put: &mut dyn FnMut(&mut Draw, &[u32])) {
         for chosen in 0..1 << (n - 2) {
             let samples = bent(draw, n, chosen << 1);
             put(draw, &samples);
-        }
-    }
-}
-
-/// The limit by the least floor: above it a detector value's sample is flagged.
-fn least_limit(sensitivity: f32) -> f32 {
-    (12.0 - sensitivity.clamp(1.0, 10.0)) * 1e-6
-}
-
-/// Hands on silence with one click in it, at which the detector's magnitude is just the limit by the least floor, or one
-/// step below it or above. The floor has to have fallen below 1e-6 by then, so that there are some samples before.
-pub fn at_limit(put: &mut dyn FnMut(&[u32], Repair)) {
-    for sensitivity in settings::SENSITIVITIES {
-        let limit = least_limit(sensitivity).to_bits();
-        for word in limit - 1..limit + 2 {
-            for place in 1..40 {
-                let mut samples = vec![0; 41];
-                samples[place] = word;
-                put(&samples, Repair::Decrackle { sensitivity });
-            }
         }
     }
 }
