@@ -72,37 +72,75 @@ fn spares_ends(flags: &[bool]) -> bool {
     flags.first() != Some(&true) && flags.last() != Some(&true)
 }
 
-impl Joined {
-    /// A recording of these samples, all in range, for which these flags were given; and what is wrong with them. Where
-    /// decrackle is refused by 8, for a result out of range, it names nothing.
-    pub fn new(samples: &[u32], sensitivity: f32, lengths: Vec<usize>, given: &[u8]) -> (Joined, Wrong) {
-        let (floats, given): (_, Vec<bool>) = (floats(samples), given.iter().map(|flag| *flag != 0).collect());
-        let whole = flags(&floats, sensitivity);
-        let after = original::decrackle(&floats, sensitivity);
-        let (decrackled, named) = named(samples, sensitivity);
-        let changes = |place: &usize| after[*place].to_bits() != samples[*place];
-        let changed: Vec<usize> = (0..samples.len()).filter(changes).collect();
-        let stands_out = {
-            let mut longer = floats.clone();
-            longer.resize(samples.len().max(8), floats.last().copied().unwrap_or(0.0));
-            flags(&longer, sensitivity)[..samples.len().saturating_sub(1)].contains(&true)
-        };
-        let as_many = given.len() == samples.len();
+/// Whether one of these samples but the last is flagged, where there are at least 8 of them; fewer are made 8 by the
+/// last one.
+fn stands_out(samples: &[f32], sensitivity: f32) -> bool {
+    let mut longer = samples.to_vec();
+    longer.resize(samples.len().max(8), samples.last().copied().unwrap_or(0.0));
+    flags(&longer, sensitivity)[..samples.len().saturating_sub(1)].contains(&true)
+}
+
+/// What is known of a whole recording: its flags by document 01, what the original leaves of it, and what the library's
+/// decrackle answers and names.
+struct Whole {
+    samples: Vec<f32>,
+    flags: Vec<bool>,
+    after: Vec<f32>,
+    decrackled: u32,
+    named: Vec<bool>,
+}
+
+impl Whole {
+    fn new(words: &[u32], sensitivity: f32) -> Whole {
+        let (samples, (decrackled, named)) = (floats(words), named(words, sensitivity));
+        let (flags, after) = (flags(&samples, sensitivity), original::decrackle(&samples, sensitivity));
+        Whole { samples, flags, after, decrackled, named }
+    }
+
+    /// The places at which the original leaves another word.
+    fn changed(&self) -> impl Iterator<Item = usize> + '_ {
+        let changes = |place: &usize| self.after[*place].to_bits() != self.samples[*place].to_bits();
+        (0..self.samples.len()).filter(changes)
+    }
+
+    /// Whether rewriting the flagged runs leaves what the original leaves. So a sample that is flagged and that the
+    /// original does not change is one whose new word is the old one.
+    fn is_rewritten_by(&self, given: &[bool]) -> bool {
+        spares_ends(given) && patterns(&rewritten(&self.samples, given)) == patterns(&self.after)
+    }
+
+    /// What does not hold of the flags that were given for it. Where decrackle is refused by 8, for a result out of
+    /// range, it names nothing.
+    fn broken(&self, given: &[bool]) -> Wrong {
+        let as_many = given.len() == self.samples.len();
         let holds = [
             ("as many flags as samples", as_many),
-            ("flags of the whole", given == whole),
-            ("what the original rewrites is flagged", as_many && changed.iter().all(|place| given[*place])),
-            (
-                "rewritten by these flags as the original does",
-                as_many && spares_ends(&given) && patterns(&rewritten(&floats, &given)) == patterns(&after),
-            ),
-            ("what cathar_decrackle names", decrackled == 8 || decrackled == 0 && given == named),
+            ("flags of the whole", given == self.flags),
+            ("what the original rewrites is flagged", as_many && self.changed().all(|place| given[place])),
+            ("rewritten by these flags as the original does", as_many && self.is_rewritten_by(given)),
+            ("what cathar_decrackle names", self.decrackled == 8 || self.decrackled == 0 && given == self.named),
         ];
-        let wrong = holds.into_iter().filter(|(_, holds)| !holds).map(|(name, _)| name).collect();
-        let (n, changed) = (samples.len(), changed.len());
-        let (copied, in_turn) = (false, false);
-        let flags = whole;
-        (Joined { n, sensitivity, lengths, flags, changed, decrackled, stands_out, copied, in_turn }, wrong)
+        holds.into_iter().filter(|(_, holds)| !holds).map(|(name, _)| name).collect()
+    }
+}
+
+impl Joined {
+    /// A recording of these samples, all in range, for which these flags were given; and what is wrong with them.
+    pub fn new(words: &[u32], sensitivity: f32, lengths: Vec<usize>, given: &[u8]) -> (Joined, Wrong) {
+        let whole = Whole::new(words, sensitivity);
+        let wrong = whole.broken(&given.iter().map(|flag| *flag != 0).collect::<Vec<bool>>());
+        let joined = Joined {
+            n: words.len(),
+            sensitivity,
+            lengths,
+            changed: whole.changed().count(),
+            decrackled: whole.decrackled,
+            stands_out: stands_out(&whole.samples, sensitivity),
+            flags: whole.flags,
+            copied: false,
+            in_turn: false,
+        };
+        (joined, wrong)
     }
 
     fn is_flagged(&self, place: usize) -> bool {
