@@ -1,6 +1,6 @@
 /* The functions of libcathar.a, for programs on x86-64 Linux, with names for limits, marks and answers, and
- * functions that say how much memory a call needs. examples/repair.c and examples/gaps.c are such programs, each
- * with the command that compiles it.
+ * functions that say how much memory a call needs. examples/repair.c, examples/gaps.c and examples/crackle.c are such
+ * programs, each with the command that compiles it.
  *
  * Each is total: it asks nothing of its arguments but what C asks of a pointer, always returns, and touches
  * no memory but its own stack and what is lent to it. What each gives and leaves in that memory is proved,
@@ -73,6 +73,7 @@ float cathar_round(float x);
 #define CATHAR_FRAME_WORDS 16
 #define CATHAR_MOST_MISSING 1000        /* the most frames that may be missing before one that is read */
 #define CATHAR_MISSING_WORD 0x7FC00000  /* a NaN, the word of each sample of a missing frame */
+#define CATHAR_CRACKLE_STATE 8          /* the words that a run of the crackle detector needs between its calls */
 
 /* The marks. A repair names the samples that it writes, and no others. Each gets its result, which may be the word
  * that it had, and the repair's mark, which is 1 to 5. So, where nothing but these calls writes a recording, a mark of
@@ -101,9 +102,11 @@ static inline size_t cathar_counts(size_t n)
     return n / CATHAR_BLOCK + (n % CATHAR_BLOCK != 0);
 }
 
-/* The answers. Each call on a recording, the question cathar_measured and the reading of frames answer CATHAR_ACCEPTED,
- * and else the number of the refusal. Where several apply, it is the first in the list of the call's refusals: they are
- * tested in the order of their numbers, but 14 directly after 1, and 4 of cathar_inpaint_gaps before all others.
+/* The answers. Each call on a recording, the question cathar_measured, the reading of frames and the three calls of the
+ * crackle detector answer CATHAR_ACCEPTED, and else the number of the refusal. Where several apply, it is the first in
+ * the list of the call's refusals: they are tested in the order of their numbers, but 14 directly after 1, and 4 of
+ * cathar_inpaint_gaps before all others. The crackle detector tests 13 before 6 and 7, and 6 for a state that is too
+ * short before all else.
  *
  * A call that is refused leaves samples, marks, counts, journal and used as they were. Of its workspace 8 and 9 leave
  * the needed part cleared, and the others leave all of it. A scan, cathar_inpaint_auto, is several repairs, and answers
@@ -116,13 +119,14 @@ static inline size_t cathar_counts(size_t n)
 #define CATHAR_REFUSED_USED 3           /* used exceeds the journal's length */
 #define CATHAR_REFUSED_SETTING 4        /* a setting is not allowed; too many gaps, or lists of different lengths */
 #define CATHAR_REFUSED_GAP 5            /* gap length 0, start at or past the end, or gap past the end; span past it */
-#define CATHAR_REFUSED_WORKSPACE 6      /* workspace shorter than needed */
-#define CATHAR_REFUSED_READ 7           /* a sample that the repair reads is not in range */
+#define CATHAR_REFUSED_WORKSPACE 6      /* workspace shorter than needed; crackle: room for flags, or the state, is */
+#define CATHAR_REFUSED_READ 7           /* a sample that the repair or the crackle detector reads is not in range */
 #define CATHAR_REFUSED_RESULT 8         /* a result at a named sample is not in range */
 #define CATHAR_REFUSED_ROOM 9           /* fewer than 3m+2 free journal words, where m samples are named, at least 1 */
 #define CATHAR_REFUSED_NOTHING 10       /* undo: used is 0 */
 #define CATHAR_REFUSED_MALFORMED 11     /* undo: the last entry is malformed */
 #define CATHAR_REFUSED_FRAMES 12        /* frames: the input is not whole frames, or samples or marks lack room */
+#define CATHAR_REFUSED_PIECES 13        /* crackle: more samples than announced, fewer at the end, or the run is over */
 #define CATHAR_REFUSED_BLOCKS 14        /* the number of counts is not that of the blocks */
 
 /* Reads what the bus sent, frames_n bytes, into the samples and marks of a recording, which cathar_open_received
@@ -379,6 +383,58 @@ uint32_t cathar_dequantize_cosparse(uint32_t *samples, size_t n, uint8_t *marks,
                                     uint32_t *journal, size_t journal_n, size_t *used,
                                     uint32_t bits, float strength, uint32_t iterations,
                                     uint32_t *work, size_t work_n, size_t *value);
+
+/* The crackle detector flags samples as the sound arrives, when there is no whole recording yet for cathar_decrackle.
+ * A run of it is announced by cathar_crackle_begin, with the number of all its samples. These are then given to
+ * cathar_crackle_piece in consecutive pieces of any length, 0 among them, and cathar_crackle_end ends the run. Each
+ * sample gets a flag, in the samples' order: a byte that is 1 where the sample is flagged, and else 0. Whether a sample
+ * stands out shows when the one behind it is in: its flag comes with that one, so one sample late, and the flag of the
+ * last comes at the end. Where all samples are in range, the flags of all calls joined are those of the whole
+ * recording, however it is cut: flagged are exactly the samples that cathar_decrackle would name in it at the same
+ * sensitivity. The first and the last never are, and where fewer than 8 samples are announced none is.
+ *
+ * Flags only tell. These calls know of no recording, rewrite no sample and set no mark.
+ *
+ * state is state_n words, of which the first CATHAR_CRACKLE_STATE are the library's from the announcement on: the
+ * running floor, the last two samples, and what it counts by. Nothing else of a run is kept anywhere, so that runs side
+ * by side have a state each, and a run may go on from a copy of these bytes, elsewhere or later. Who writes them gets
+ * flags that say nothing. Words behind them stay.
+ *
+ * flags is the room for the flags of one call, flags_n bytes of any contents. The call writes them from the first byte
+ * on, and nothing behind them; where it is refused, nothing at all.
+ * value receives how many flags the call gave, for refusal 7 the sample's place, counted from the first one of the run,
+ * and 0 for the other refusals; what it held has no say.
+ *
+ * A run is over when it was ended, and it is stopped, and so over too, by refusals 13 and 7. From then on each piece,
+ * an empty one too, and each end is refused by 13, until a run is announced anew. The flags that were given before
+ * stand; the piece that stops a run gives none. Refusal 6 takes nothing in, leaves the state as it was, and stops
+ * nothing: the same call may be made again with more room.
+ *
+ * No two areas overlap, value among them, and no pointer is null, not even that of an area of length 0. */
+
+/* Announces a run of total samples. What the state held has no say, so that one that is not over is given up. The
+ * sensitivity is held to 1..10, as in cathar_decrackle. Where it was refused, the state stays as it was.
+ * Refusals: 6, 2, 4, tested in this order. They are given where
+ *   6    state_n is less than CATHAR_CRACKLE_STATE,
+ *   2    total exceeds CATHAR_MOST_SAMPLES, and
+ *   4    sensitivity is a NaN. */
+uint32_t cathar_crackle_begin(size_t total, float sensitivity, uint32_t *state, size_t state_n);
+
+/* Gives the run its next piece_n samples, each a word as those of a recording are. It gives a flag for each of them,
+ * that of the sample before it; the very first of the run gives none. So piece_n flags come, and one less as long as no
+ * sample was in; room for piece_n is always enough.
+ * Refusals: 13, 6, 7, tested in this order, but 6 before all else where the state is too short. They are given where
+ *   13   the run is over, or with this piece there are more samples than were announced: the run is stopped,
+ *   6    flags_n is less than the number of these flags, or state_n than CATHAR_CRACKLE_STATE, and
+ *   7    a sample of the piece is not in range, the lowest such place being told: the run is stopped. */
+uint32_t cathar_crackle_piece(uint32_t *state, size_t state_n, const uint32_t *piece, size_t piece_n,
+                              uint8_t *flags, size_t flags_n, size_t *value);
+
+/* Ends the run, and gives the flag of its last sample; none, where 0 samples were announced.
+ * Refusals: 13, 6, tested in this order, but 6 before all else where the state is too short. They are given where
+ *   13   the run is over, or fewer samples are in than were announced: the run is stopped, and
+ *   6    there is no room for that flag, or state_n is less than CATHAR_CRACKLE_STATE. */
+uint32_t cathar_crackle_end(uint32_t *state, size_t state_n, uint8_t *flags, size_t flags_n, size_t *value);
 
 #ifdef __cplusplus
 }

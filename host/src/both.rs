@@ -1,8 +1,10 @@
 //! A recording on both sides: the model's, and the same words lent to the library. The two make each call, and
 //! what is then not the same is told.
 use crate::call::Call;
+use crate::crackle::{self, Areas};
 use crate::frames::{Read, Rooms};
 use crate::inpaint::{self, Gap, GapAnswer, Lists, Scan, Several};
+use crate::lent::crackle::Crackle;
 use crate::lent::frames::Frames;
 use crate::lent::{Lent, VALUE_BEFORE};
 use crate::question::{Span, Told};
@@ -140,6 +142,39 @@ pub fn read_frames(input: &[u8], rooms: &mut Rooms, lent: &mut Frames) -> (Read,
     let read = wrong::model_reader(input, rooms);
     let number = lent.read();
     (read, with_answer(lent.wrong(input, rooms, read), number, read.number))
+}
+
+/// The crackle detector on both sides: the model's areas, and the same lent to the library.
+pub struct Detector {
+    pub model: Areas,
+    pub lent: Crackle,
+}
+
+impl Detector {
+    /// The library is lent a state of these words.
+    pub fn new(state: Vec<u32>) -> Detector {
+        let model = Areas { state, ..Areas::default() };
+        let lent = Crackle::new(&model);
+        Detector { model, lent }
+    }
+
+    /// From here on both sides are lent this piece, and room of these bytes.
+    pub fn lend(&mut self, piece: &[u32], flags: Vec<u8>) {
+        self.lent.lend(piece, &flags);
+        self.model.piece = piece.to_vec();
+        self.model.flags = flags;
+    }
+
+    /// Both sides make the call. An announcement hands no value back.
+    pub fn make(&mut self, call: crackle::Call) -> (Answer, Wrong) {
+        let answer = wrong::model_detector(&mut self.model, call);
+        let number = self.lent.make(call);
+        let value = match call {
+            crackle::Call::Begin { .. } => VALUE_BEFORE,
+            _ => answer.value(),
+        };
+        (answer, with_answer(self.lent.wrong(&self.model, value), number, answer.number()))
+    }
 }
 
 /// The answer is among what is wrong where the numbers differ.

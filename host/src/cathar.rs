@@ -184,6 +184,23 @@ mod exports {
             work_n: usize,
             value: *mut usize,
         ) -> u32;
+        pub fn cathar_crackle_begin(total: usize, sensitivity: f32, state: *mut u32, state_n: usize) -> u32;
+        pub fn cathar_crackle_piece(
+            state: *mut u32,
+            state_n: usize,
+            piece: *const u32,
+            piece_n: usize,
+            flags: *mut u8,
+            flags_n: usize,
+            value: *mut usize,
+        ) -> u32;
+        pub fn cathar_crackle_end(
+            state: *mut u32,
+            state_n: usize,
+            flags: *mut u8,
+            flags_n: usize,
+            value: *mut usize,
+        ) -> u32;
     }
 }
 
@@ -578,4 +595,33 @@ pub fn dequantize_cosparse(
             value,
         )
     }
+}
+
+/// Announces a run of the crackle detector over `total` samples. Answers 0, or the number of the refusal.
+pub fn crackle_begin(total: usize, sensitivity: f32, state: &mut [u32]) -> u32 {
+    // As above.
+    unsafe { exports::cathar_crackle_begin(total, sensitivity, state.as_mut_ptr(), state.len()) }
+}
+
+/// Gives the run its next samples. Answers 0, with how many flags it gave in `value`, or the number of the refusal, with
+/// the place there for 7 and 0 for the others.
+pub fn crackle_piece(state: &mut [u32], piece: &[u32], flags: &mut [u8], value: &mut usize) -> u32 {
+    // As above.
+    unsafe {
+        exports::cathar_crackle_piece(
+            state.as_mut_ptr(),
+            state.len(),
+            piece.as_ptr(),
+            piece.len(),
+            flags.as_mut_ptr(),
+            flags.len(),
+            value,
+        )
+    }
+}
+
+/// Ends the run. Answers 0, with how many flags it gave in `value`, or the number of the refusal, with 0 there.
+pub fn crackle_end(state: &mut [u32], flags: &mut [u8], value: &mut usize) -> u32 {
+    // As above.
+    unsafe { exports::cathar_crackle_end(state.as_mut_ptr(), state.len(), flags.as_mut_ptr(), flags.len(), value) }
 }

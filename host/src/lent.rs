@@ -1,5 +1,6 @@
 //! A recording's memory and the workspaces as they are lent to the library. Every part is the middle of a longer
 //! vector, and what stands around it has to stay.
+pub mod crackle;
 pub mod frames;
 mod several;
 

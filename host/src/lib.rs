@@ -1,10 +1,12 @@
 //! The functions of the static library, and what the tests hold them to: Rust's own operations for the float leaves, a
-//! model for the recording, one for the question whether a span was measured and one for the bus's frames, for the
-//! samples that a repair writes the original Rust, and for the order of a gap's model a prediction step of the host's.
+//! model for the recording, one for the question whether a span was measured, one for the bus's frames and one for the
+//! crackle detector, for the samples that a repair writes the original Rust, and for the order of a gap's model a
+//! prediction step of the host's.
 pub mod both;
 pub mod call;
 pub mod cathar;
 pub mod count;
+pub mod crackle;
 pub mod damage;
 pub mod draw;
 pub mod float;

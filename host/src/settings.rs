@@ -108,13 +108,17 @@ pub fn declip(draw: &mut Draw, samples: &[u32]) -> Repair {
     Repair::Declip { threshold }
 }
 
-pub fn decrackle(draw: &mut Draw, _samples: &[u32]) -> Repair {
-    let sensitivity = match (draw.below(RARELY), draw.below(OFTEN)) {
+/// Any sensitivity, rarely one that is not allowed.
+pub fn sensitivity(draw: &mut Draw) -> f32 {
+    match (draw.below(RARELY), draw.below(OFTEN)) {
         (0, _) => f32::NAN,
         (_, 0) => one_of(draw, &SENSITIVITIES),
         _ => 1.0 + 9.0 * part(draw),
-    };
-    Repair::Decrackle { sensitivity }
+    }
+}
+
+pub fn decrackle(draw: &mut Draw, _samples: &[u32]) -> Repair {
+    Repair::Decrackle { sensitivity: sensitivity(draw) }
 }
 
 fn strength(draw: &mut Draw) -> f32 {

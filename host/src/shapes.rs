@@ -1,6 +1,7 @@
 //! Samples of several kinds. Nothing but sums, products and quotients make them, so that they are the same on
 //! every machine.
 use crate::draw::Draw;
+use crate::settings::SENSITIVITIES;
 
 /// Words on which something turns: zeros of both signs, 2^-30, -0.75, 65,536; and those that are not in
 /// range: the next one above it, infinity, a NaN.
@@ -110,4 +111,39 @@ fn growth(draw: &mut Draw, n: usize) -> Vec<u32> {
         found.reverse();
     }
     found
+}
+
+/// So many samples, at least two, that bend at the chosen places, the digits of a number, and nowhere else: elsewhere
+/// decrackle's detector is 0. Sums and products of these few powers of 2 are exact.
+pub fn bent(draw: &mut Draw, n: usize, chosen: usize) -> Vec<u32> {
+    let unit = f32::from_bits((127 - 8 + draw.below(17) as u32) << 23);
+    let mut any = || unit * (draw.below(5) as f32 - 2.0);
+    let mut samples = vec![any(), any()];
+    for place in 1..n - 1 {
+        let sign = if draw.below(2) == 0 { 1.0 } else { -1.0 };
+        let detector = if chosen >> place & 1 == 1 { unit * sign } else { 0.0 };
+        samples.push(2.0 * samples[place] - samples[place - 1] - 2.0 * detector);
+    }
+    samples.iter().map(|x| x.to_bits()).collect()
+}
+
+/// The limit by decrackle's least floor: above it a detector value's sample is flagged.
+pub fn least_limit(sensitivity: f32) -> f32 {
+    (12.0 - sensitivity.clamp(1.0, 10.0)) * 1e-6
+}
+
+/// Hands on silence with one click in it, at which the detector's magnitude is just the limit by the least floor, or
+/// one step below it or above, and the sensitivity. The floor has to have fallen below 1e-6 by then, so that there are
+/// some samples before.
+pub fn at_limit(put: &mut dyn FnMut(&[u32], f32)) {
+    for sensitivity in SENSITIVITIES {
+        let limit = least_limit(sensitivity).to_bits();
+        for word in limit - 1..limit + 2 {
+            for place in 1..40 {
+                let mut samples = vec![0; 41];
+                samples[place] = word;
+                put(&samples, sensitivity);
+            }
+        }
+    }
 }

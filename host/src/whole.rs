@@ -126,17 +126,17 @@ pub fn fills(samples: &[f32], threshold: f32) -> Vec<Range<usize>> {
     stretches(&clipped).into_iter().filter_map(between).collect()
 }
 
-/// The runs of places that decrackle flags, in their order. "Sensitivity not NaN, held to 1..10; factor
-/// 12−sensitivity. Under 8 samples: nothing named. Detector 0 at both ends, elsewhere s[i]−0.5*(s[i−1]+s[i+1]).
-/// Floor starts at 1e-6; floor=floor*(1−0.001)+a*0.001, then flag if a>factor*max(floor,1e-6)."
-pub fn flagged(samples: &[f32], sensitivity: f32) -> Vec<Range<usize>> {
+/// Which samples decrackle flags. "Sensitivity not NaN, held to 1..10; factor 12−sensitivity. Under 8 samples:
+/// nothing named. Detector 0 at both ends, elsewhere s[i]−0.5*(s[i−1]+s[i+1]). Floor starts at 1e-6;
+/// floor=floor*(1−0.001)+a*0.001, then flag if a>factor*max(floor,1e-6)."
+pub fn flags(samples: &[f32], sensitivity: f32) -> Vec<bool> {
     let n = samples.len();
+    let mut flags = vec![false; n];
     if n < 8 {
-        return Vec::new();
+        return flags;
     }
     let factor = 12.0 - sensitivity.clamp(1.0, 10.0);
     let mut floor = 1e-6f32;
-    let mut flags = vec![false; n];
     for i in 0..n {
         let at_end = i == 0 || i == n - 1;
         let detector: f32 = if at_end { 0.0 } else { samples[i] - 0.5 * (samples[i - 1] + samples[i + 1]) };
@@ -144,11 +144,35 @@ pub fn flagged(samples: &[f32], sensitivity: f32) -> Vec<Range<usize>> {
         floor = floor * (1.0 - 0.001) + a * 0.001;
         flags[i] = a > factor * floor.max(1e-6);
     }
-    stretches(&flags)
+    flags
+}
+
+/// The runs of places that decrackle flags, in their order.
+pub fn flagged(samples: &[f32], sensitivity: f32) -> Vec<Range<usize>> {
+    stretches(&flags(samples, sensitivity))
+}
+
+/// The new samples of a flagged run, as `repair_hermite` has them: the cubic from the sample before it to the one
+/// behind it, with the slopes that those have on their other side, 0 where there is none. Behind a run to the end the
+/// sample before it is taken once more.
+pub fn curve(samples: &[f32], run: &Range<usize>) -> Vec<f32> {
+    let left = samples[run.start - 1];
+    let right = *samples.get(run.end).unwrap_or(&left);
+    let steps = (run.len() + 1) as f32;
+    let slope_left = if run.start > 1 { left - samples[run.start - 2] } else { 0.0 };
+    let slope_right = samples.get(run.end + 1).map_or(0.0, |next| next - right);
+    let new = |step: usize| {
+        let t = step as f32 / steps;
+        let t2 = t * t;
+        let t3 = t2 * t;
+        let by_left = (2.0 * t3 - 3.0 * t2 + 1.0) * left + (t3 - 2.0 * t2 + t) * (slope_left * steps);
+        by_left + (3.0 * t2 - 2.0 * t3) * right + (t3 - t2) * (slope_right * steps)
+    };
+    (1..=run.len()).map(new).collect()
 }
 
 /// The longest stretches of places at which it is so, in their order.
-fn stretches(so: &[bool]) -> Vec<Range<usize>> {
+pub fn stretches(so: &[bool]) -> Vec<Range<usize>> {
     let mut found: Vec<Range<usize>> = Vec::new();
     for place in (0..so.len()).filter(|place| so[*place]) {
         match found.last_mut() {

@@ -1,8 +1,8 @@
 //! Wrong stand-ins, with which the comparisons are themselves tried. Each is wrong in one way: in what it leaves or
-//! answers in the place of the library, of the model, of both alike, of the host's own prediction step or of the
-//! second process, or in what a test keeps account of. With none of them a comparison finds no difference; with any
-//! one of them it has to find one. `CATHAR_WRONG` names the one that stands in, and `host/wrong` runs each and says
-//! which are found.
+//! answers in the place of the library, of the model, of both alike, of the host's own prediction step, of both and the
+//! host's own flags of a whole recording, or of the second process, or in what a test keeps account of. With none of
+//! them a comparison finds no difference; with any one of them it has to find one. `CATHAR_WRONG` names the one that
+//! stands in, and `host/wrong` runs each and says which are found.
 
 /// A stand-in for the library: its name, what is wrong with it, and what it does.
 macro_rules! library {
@@ -12,6 +12,7 @@ macro_rules! library {
 }
 
 mod counts;
+mod crackle;
 mod frames;
 mod gaps;
 mod held;
@@ -28,11 +29,14 @@ mod whole;
 
 use crate::call::Call;
 use crate::cathar;
+use crate::crackle::{self as model_of_crackle, Areas};
 use crate::frames::{self as model_of_frames, Read, Rooms};
+use crate::lent::crackle::Crackle;
 use crate::lent::frames::Frames;
 use crate::lent::Lent;
 use crate::question::{self as model_of_question, Span, Told};
-use crate::recording::{not_measured, Recording, BLOCK};
+use crate::recording::{not_measured, Answer, Recording, BLOCK};
+use crate::whole as whole_repairs;
 use std::env;
 
 /// A wrong stand-in.
@@ -58,6 +62,13 @@ enum How {
     Reader(fn(&mut Frames) -> u32),
     /// In the place of both readers alike.
     Readers(fn(&[u8], &mut Rooms) -> Read),
+    /// In the place of the library's crackle detector: it makes the call, at times by the library's own, and gives the
+    /// answer.
+    Detector(fn(&mut Crackle, model_of_crackle::Call) -> u32),
+    /// In the place of both detectors alike.
+    Detectors(fn(&mut Areas, model_of_crackle::Call) -> Answer),
+    /// In the place of both detectors alike, and of the flags that the host works out over the whole recording.
+    Throughout(fn(&mut Areas, model_of_crackle::Call) -> Answer, fn(&[f32], f32) -> Vec<bool>),
     /// In the place of the library's answer to the question: it is asked, at times by the library's own, and gives the
     /// number.
     Asked(fn(&mut Lent, Span) -> u32),
@@ -95,7 +106,7 @@ pub enum Finds {
 }
 
 /// All of them.
-pub const TABLES: [&[Table]; 14] = [
+pub const TABLES: [&[Table]; 15] = [
     leaves::TABLES,
     recording::TABLES,
     received::TABLES,
@@ -109,6 +120,7 @@ pub const TABLES: [&[Table]; 14] = [
     counts::TABLES,
     question::TABLES,
     frames::TABLES,
+    crackle::TABLES,
     second::TABLES,
 ];
 
@@ -192,6 +204,39 @@ pub(crate) fn model_reader(input: &[u8], rooms: &mut Rooms) -> Read {
     match how() {
         Some(How::Readers(reads)) => reads(input, rooms),
         _ => model_of_frames::read_frames(input, rooms),
+    }
+}
+
+/// The library's crackle detector makes the call on what it is lent, or what stands in for it does.
+pub(crate) fn detector(lent: &mut Crackle, call: model_of_crackle::Call) -> u32 {
+    match how() {
+        Some(How::Detector(makes)) => makes(lent, call),
+        Some(How::Detectors(makes) | How::Throughout(makes, _)) => {
+            let mut areas = lent.areas();
+            let answer = makes(&mut areas, call);
+            lent.put(&areas);
+            if !matches!(call, model_of_crackle::Call::Begin { .. }) {
+                lent.set_value(answer.value());
+            }
+            answer.number()
+        }
+        _ => lent.call(call),
+    }
+}
+
+/// The model's detector makes the call on these areas, or what stands in for it does.
+pub(crate) fn model_detector(areas: &mut Areas, call: model_of_crackle::Call) -> Answer {
+    match how() {
+        Some(How::Detectors(makes) | How::Throughout(makes, _)) => makes(areas, call),
+        _ => areas.make(call),
+    }
+}
+
+/// Which samples of a whole recording are flagged, or what stands in for that.
+pub fn flags(samples: &[f32], sensitivity: f32) -> Vec<bool> {
+    match how() {
+        Some(How::Throughout(_, flags)) => flags(samples, sensitivity),
+        _ => whole_repairs::flags(samples, sensitivity),
     }
 }
 

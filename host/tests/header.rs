@@ -13,7 +13,7 @@ use std::path::Path;
 use std::process::{Command, Stdio};
 
 /// How many functions there are.
-const EXPORTS: usize = 15;
+const EXPORTS: usize = 18;
 
 fn compiles(compiler: &str, standard: &str, language: &str) {
     let header = file("include/cathar.h");
@@ -175,6 +175,7 @@ fn in_sources() -> BTreeMap<String, u64> {
         ("FRAME_WORDS", "FRAME_WORDS", "crates/frames/src/lib.rt"),
         ("MOST_MISSING", "MOST_MISSING", "crates/frames/src/lib.rt"),
         ("MISSING_WORD", "MISSING_WORD", "crates/frames/src/lib.rt"),
+        ("CRACKLE_STATE", "STATE_WORDS", "crates/crackle/src/kept.rt"),
     ] {
         found.insert(format!("CATHAR_{name}"), constant(of, source));
     }
@@ -267,7 +268,7 @@ fn as_exported() {
     assert_eq!(exports.len(), EXPORTS);
     assert_eq!(declared_in_header(), exports, "the header, and what is exported");
     assert_eq!(declared("host/src/cathar.rs"), exports, "the declarations of this package, and what is exported");
-    for example in ["examples/repair.rs", "examples/gaps.rs"] {
+    for example in ["examples/repair.rs", "examples/gaps.rs", "examples/crackle.rs"] {
         assert!(declared(example).is_subset(&exports), "the declarations of {example}");
     }
 }

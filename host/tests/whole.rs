@@ -18,7 +18,7 @@ use cathar_host::draw::{self, Draw};
 use cathar_host::recording::{entry_words, Answer, Recording};
 use cathar_host::room::Room;
 use cathar_host::settings;
-use cathar_host::shapes::Shape;
+use cathar_host::shapes::{at_limit, Shape};
 use cathar_host::whole::{floats, needed, Repair};
 use std::ops::Range;
 use std::panic::catch_unwind;
@@ -164,8 +164,8 @@ fn decrackles() {
         repair_any(&mut count, draw, samples, how);
     });
     count.begin("a click at the limit, in silence");
-    crackled::at_limit(&mut |samples, how| {
-        repair_any(&mut count, &mut draw, samples, how);
+    at_limit(&mut |samples, sensitivity| {
+        repair_any(&mut count, &mut draw, samples, Repair::Decrackle { sensitivity });
     });
     count.begin("every sensitivity, on samples with clicks");
     decrackle_clicked(&mut count, &mut draw);

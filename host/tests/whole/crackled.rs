@@ -2,26 +2,12 @@
 use super::calls::Call;
 use cathar_host::count::Class;
 use cathar_host::draw::Draw;
-use cathar_host::settings;
+use cathar_host::shapes::{bent, least_limit};
 use cathar_host::whole::{flagged, floats, Repair};
 use std::ops::Range;
 
 /// Of so many samples, every choice of those that are flagged is tried.
 pub const EVERY: Range<usize> = 7..15;
-
-/// Samples that bend at the chosen places, the digits of a number, and nowhere else: elsewhere the detector is 0.
-/// Sums and products of these few powers of 2 are exact.
-fn bent(draw: &mut Draw, n: usize, chosen: usize) -> Vec<u32> {
-    let unit = f32::from_bits((127 - 8 + draw.below(17) as u32) << 23);
-    let mut any = || unit * (draw.below(5) as f32 - 2.0);
-    let mut samples = vec![any(), any()];
-    for place in 1..n - 1 {
-        let sign = if draw.below(2) == 0 { 1.0 } else { -1.0 };
-        let detector = if chosen >> place & 1 == 1 { unit * sign } else { 0.0 };
-        samples.push(2.0 * samples[place] - samples[place - 1] - 2.0 * detector);
-    }
-    samples.iter().map(|x| x.to_bits()).collect()
-}
 
 /// Hands on samples for each choice of those that are flagged, the ends never among them.
 pub fn each(draw: &mut Draw, put: &mut dyn FnMut(&mut Draw, &[u32])) {
@@ -29,26 +15,6 @@ pub fn each(draw: &mut Draw, put: &mut dyn FnMut(&mut Draw, &[u32])) {
         for chosen in 0..1 << (n - 2) {
             let samples = bent(draw, n, chosen << 1);
             put(draw, &samples);
-        }
-    }
-}
-
-/// The limit by the least floor: above it a detector value's sample is flagged.
-fn least_limit(sensitivity: f32) -> f32 {
-    (12.0 - sensitivity.clamp(1.0, 10.0)) * 1e-6
-}
-
-/// Hands on silence with one click in it, at which the detector's magnitude is just the limit by the least floor, or one
-/// step below it or above. The floor has to have fallen below 1e-6 by then, so that there are some samples before.
-pub fn at_limit(put: &mut dyn FnMut(&[u32], Repair)) {
-    for sensitivity in settings::SENSITIVITIES {
-        let limit = least_limit(sensitivity).to_bits();
-        for word in limit - 1..limit + 2 {
-            for place in 1..40 {
-                let mut samples = vec![0; 41];
-                samples[place] = word;
-                put(&samples, Repair::Decrackle { sensitivity });
-            }
         }
     }
 }

@@ -2,7 +2,7 @@
 use super::{asks, at, names};
 use crate::call::Call;
 use crate::lent::Lent;
-use crate::whole::{flagged, floats, Repair};
+use crate::whole::{curve, flagged, floats, Repair};
 use crate::wrong::How::Library;
 use crate::wrong::{Finds, Standin, Table};
 use std::ops::Range;
@@ -165,24 +165,6 @@ fn runs(samples: &[f32], sensitivity: f32, rules: &Rules) -> Vec<Range<usize>> {
         floor = next;
     }
     runs
-}
-
-/// The new samples of a run: the cubic from the sample before it to the one behind it, with the slopes that those have
-/// on their other side, 0 where there is none. Behind a run to the end the sample before it is taken once more.
-fn curve(samples: &[f32], run: &Range<usize>) -> Vec<f32> {
-    let left = samples[run.start - 1];
-    let right = *samples.get(run.end).unwrap_or(&left);
-    let steps = (run.len() + 1) as f32;
-    let slope_left = if run.start > 1 { left - samples[run.start - 2] } else { 0.0 };
-    let slope_right = samples.get(run.end + 1).map_or(0.0, |next| next - right);
-    let new = |step: usize| {
-        let t = step as f32 / steps;
-        let t2 = t * t;
-        let t3 = t2 * t;
-        let by_left = (2.0 * t3 - 3.0 * t2 + 1.0) * left + (t3 - 2.0 * t2 + t) * (slope_left * steps);
-        by_left + (3.0 * t2 - 2.0 * t3) * right + (t3 - t2) * (slope_right * steps)
-    };
-    (1..=run.len()).map(new).collect()
 }
 
 fn middle_only(lent: &mut Lent, call: Call) -> u32 {

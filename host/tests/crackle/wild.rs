@@ -1,0 +1,119 @@
+//! States of any words, also such as no call leaves.
+use super::classes::Calls;
+use super::cuts;
+use super::run::Run;
+use super::stops::{any_room, piece};
+use cathar_host::crackle::{self, STATE_WORDS};
+use cathar_host::draw::Draw;
+use cathar_host::recording::MOST_SAMPLES;
+
+/// Floats on which something turns: zeros, subnormals, infinities and NaN of every kind.
+const TURNS: [u32; 16] = [
+    0x0000_0000,
+    0x8000_0000,
+    0x0000_0001,
+    0x807f_ffff,
+    0x0040_0000,
+    0x3586_37bd,
+    0x3586_37be,
+    0xb586_37bd,
+    0x7f7f_ffff,
+    0x7f80_0000,
+    0xff80_0000,
+    0x7f80_0001,
+    0xffbf_ffff,
+    0x7fc0_0000,
+    0x7fc0_0001,
+    0xffff_ffff,
+];
+
+/// A number at its ends, near this one, or any.
+fn count(draw: &mut Draw, near: u32) -> u32 {
+    let by = draw.below(7) as u32;
+    match draw.below(8) {
+        0 => by,
+        1 => u32::MAX - by,
+        2 => draw.word() as u32,
+        3 => near.wrapping_add(1 + by),
+        _ => near.wrapping_sub(by),
+    }
+}
+
+/// The word of a float: this one mostly, one of those above, or any.
+fn float(draw: &mut Draw, usual: f32) -> u32 {
+    match draw.below(8) {
+        0..=1 => TURNS[draw.below(TURNS.len() as u64) as usize],
+        2 => draw.word() as u32,
+        _ => usual.to_bits(),
+    }
+}
+
+/// A number from -1 to 1.
+fn part(draw: &mut Draw) -> f32 {
+    draw.digits(24) as f32 / 8_388_608.0 - 1.0
+}
+
+/// The third word: mostly 1.
+fn goes_on(draw: &mut Draw) -> u32 {
+    match draw.below(12) {
+        0 => 0,
+        1 => [2, 3, 0x100, 0x0100_0000, 0x8000_0001, u32::MAX][draw.below(6) as usize],
+        2 => draw.word() as u32,
+        _ => 1,
+    }
+}
+
+/// Any words of a state.
+fn state(draw: &mut Draw) -> Vec<u32> {
+    let near = [8, 30, MOST_SAMPLES as u32, u32::MAX][draw.below(4) as usize];
+    let total = count(draw, near);
+    let taken = count(draw, total);
+    let sign = if draw.below(4) == 0 { -1.0 } else { 1.0 };
+    let factor = sign * (12.0 - cuts::sensitivity(draw).clamp(1.0, 10.0));
+    let floor = part(draw).abs() * 1e-3;
+    let [before, last] = [part(draw), part(draw)];
+    let floats = [factor, floor, before, last].map(|usual| float(draw, usual));
+    let eighth = if draw.below(2) == 0 { 0 } else { draw.word() as u32 };
+    let mut words = vec![total, taken, goes_on(draw)];
+    words.extend(floats);
+    words.push(eighth);
+    words.extend((0..draw.below(3)).map(|_| draw.word() as u32));
+    words
+}
+
+/// How many samples to give: as many as are left of the total, or one more or less, where these are few; or any few.
+fn length(draw: &mut Draw, run: &crackle::Run) -> usize {
+    let few = draw.below(6) as usize;
+    match run.total.checked_sub(run.taken) {
+        Some(left) if left < 24 && draw.below(2) == 0 => (left as usize + few % 3).saturating_sub(1),
+        _ => few,
+    }
+}
+
+/// A few calls on a state of any words, and at times one more when the run is over.
+pub fn tried(calls: &mut Calls, draw: &mut Draw) {
+    let mut run = Run::wild(state(draw));
+    for turn in 0..5 {
+        let before = crackle::Run::read(&run.state()[..STATE_WORDS]);
+        if turn > 0 && !before.goes_on && draw.below(4) != 0 {
+            return;
+        }
+        match draw.below(16) {
+            0 => {
+                let sensitivity = cuts::sensitivity(draw);
+                run.begin(calls, before.total as usize, sensitivity);
+            }
+            1..=3 => {
+                let bytes = any_room(draw, 1);
+                run.end(calls, bytes);
+            }
+            _ => {
+                let n = length(draw, &before);
+                let bad = if draw.below(8) == 0 { draw.word() as usize } else { 0 };
+                let samples = piece(draw, n, bad);
+                let bytes = any_room(draw, before.brought_by(n));
+                run.piece(calls, &samples, bytes);
+            }
+        }
+    }
+}
