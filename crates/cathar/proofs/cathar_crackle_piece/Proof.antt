@@ -20,7 +20,7 @@ same-length-2 : tie.Need-same-length-2
 same-length-2 c = search needs
 
 returns : tie.Need-returns
-returns c = 
+returns c =
     let told = c .before in
     hears _ _ _ _ _ _ (told .before .before .before .before .before .piece .ensures) (c .number-of .ensures) (told .value-of .ensures)
 
