@@ -1,8 +1,8 @@
 //! The time of the original Rust and of the library on the same inputs, in turn in one process, and whether they
 //! give the same samples: each repair in one recording, then how the times grow as the length of a gap doubles, or
-//! the number of samples; a list of gaps beside single calls; the question whether a span was measured, beside looking
-//! at each mark; and square roots, beside those whose digits are all worked out by hand, and the machine's own.
-//! `host/bench` runs it.
+//! the number of samples; crackle in pieces, beside the flags of the whole; a list of gaps beside single calls; the
+//! question whether a span was measured, beside looking at each mark; and square roots, beside those whose digits are
+//! all worked out by hand, and the machine's own. `host/bench` runs it.
 mod speed {
     pub mod clock;
     pub mod inputs;
@@ -29,6 +29,9 @@ const LONGEST: usize = 2_048;
 
 /// The shortest span of which the question is asked. From one to the next it is four times as long.
 const SHORTEST_SPAN: usize = 256;
+
+/// The pieces in which a recorder gives its samples, a hundredth of a second each at 48,000 a second.
+const PIECE: usize = 480;
 
 /// How many passes the original makes by default.
 const PASSES: u32 = 3;
@@ -103,6 +106,15 @@ fn each_repair() {
     table(&format!("in {SAMPLES} samples"), false, lines);
 }
 
+/// Crackle in pieces, of a hundredth of a second and of one sample, as the samples double.
+fn pieces() {
+    for len in [PIECE, 1] {
+        let line = |n| (format!("{n:>12} samples"), Task::Pieces { len }, n);
+        let lines = doubled(FEWEST, MOST_SAMPLES).map(line).collect();
+        table_beside("on the whole", &format!("crackle in pieces of {len}"), true, lines);
+    }
+}
+
 /// A list of as many gaps as may be, beside single calls of the library in turn.
 fn list() {
     let line = (format!("{MOST_GAPS} gaps of {SHORTEST}"), Task::List { len: SHORTEST }, SAMPLES);
@@ -140,6 +152,7 @@ fn main() {
         by_samples(name, Task::Whole(repair));
     }
     by_samples("undo of dequantize", Task::Undo);
+    pieces();
     list();
     questions();
     for (other, beside) in [("by digits", by_digits::square_root as fn(f64) -> f64), ("machine's", f64::sqrt)] {

@@ -2,3 +2,4 @@ pub mod Pieces
 pub mod Kept
 pub mod Consequences
 pub mod Cuts
+pub mod Examples

@@ -3,6 +3,7 @@ use super::clock::thread_time;
 use super::inputs;
 use cathar_host::call::Call;
 use cathar_host::cathar;
+use cathar_host::crackle::STATE_WORDS;
 use cathar_host::draw::{Draw, SEED};
 use cathar_host::inpaint::{Gap, Lists, MOST_GAPS};
 use cathar_host::lent::Lent;
@@ -22,6 +23,9 @@ pub const QUESTIONS: u32 = 100;
 /// How many roots are taken in one run.
 pub const ROOTS: usize = 65_536;
 
+/// The sensitivity of the crackle detector.
+const SENSITIVITY: f32 = 5.0;
+
 /// A scan's rate and limit, which is 48 samples.
 const RATE: u32 = 48_000;
 const LIMIT: f32 = 1.0;
@@ -37,6 +41,9 @@ pub enum Task {
     Scan,
     /// A repair over the whole recording.
     Whole(Repair),
+    /// The flags of a recording that comes in pieces of so many samples. In the original's place the host works them out
+    /// on the whole recording.
+    Pieces { len: usize },
     /// The undo of a repair that named all samples but two. The original has none.
     Undo,
     /// The question, so often, of a span of so many samples from the first on, all of which are measured. In the
@@ -94,6 +101,7 @@ impl Task {
             Task::List { len } => list(&inputs::tone(draw, n), len),
             Task::Scan => scan(&inputs::with_dropouts(draw, n)),
             Task::Whole(repair) => whole(&inputs::worn(draw, n), repair),
+            Task::Pieces { len } => pieces(&inputs::worn(draw, n), len),
             Task::Undo => undo(&inputs::worn(draw, n)),
             Task::Questions { len } => questions(&opened(&vec![0.0; n], 0), len),
             Task::Roots { of, how, beside } => roots(&of.drawn(draw, n), how, beside),
@@ -157,6 +165,32 @@ fn scan(samples: &[f32]) -> Times {
 fn whole(samples: &[f32], repair: Repair) -> Times {
     let work = vec![0; whole::needed(samples.len())];
     both(samples, samples.len(), || repair.original(samples), |lent| lent.lend_words(&work), Call::Whole(repair))
+}
+
+/// The flags in pieces, with room for one piece, and the flags on the whole. Both have to be the same, and some set.
+fn pieces(samples: &[f32], len: usize) -> Times {
+    let words: Vec<u32> = samples.iter().map(|x| x.to_bits()).collect();
+    least(|| {
+        let (theirs, whole) = timed(|| whole::flags(samples, SENSITIVITY));
+        let (ours, joined) = timed(|| in_pieces(&words, len));
+        assert!(joined == whole && whole.contains(&true), "the flags in pieces are not those of the whole");
+        Times { original: Some(theirs), library: ours }
+    })
+}
+
+/// The flags that the library gives of these samples in pieces of this length, joined.
+fn in_pieces(words: &[u32], len: usize) -> Vec<bool> {
+    let (mut state, mut room, mut value) = ([0; STATE_WORDS], vec![0; len], 0);
+    let mut joined = Vec::with_capacity(words.len());
+    let mut answers = cathar::crackle_begin(words.len(), SENSITIVITY, &mut state);
+    for piece in words.chunks(len) {
+        answers |= cathar::crackle_piece(&mut state, piece, &mut room, &mut value);
+        joined.extend(room[..value].iter().map(|flag| *flag == 1));
+    }
+    answers |= cathar::crackle_end(&mut state, &mut room, &mut value);
+    joined.extend(room[..value].iter().map(|flag| *flag == 1));
+    assert_eq!(answers, 0);
+    joined
 }
 
 /// The undo of a dequantize, which the model makes before it. The raw samples have to come back.

@@ -1,0 +1,47 @@
+-- Short runs, computed. The samples are nine of which the fifth alone is 1, as in document 01's "Sums done by hand", at sensitivity 10:
+-- places 3, 4 and 5 are flagged.
+use mathlib.Core.Path.{_≡_, refl}
+use mathlib.Core.List.{List, [], _∷_}
+use Prim.Native.Nat.{ℕ}
+use Rattle.leaves.specs.Arithmetic.{count}
+use Rattle.crackle.specs.declared.Detector.{Detector}
+use Rattle.crackle.specs.Pieces.{begun, Told, endTold}
+use Rattle.crackle.specs.Cuts.{Offer, Run, handed}
+
+-- the word of 1
+abbrev pub click : ℕ
+click = 0x3f800000
+
+-- a room of five bytes that are 9
+abbrev pub five : List ℕ
+five = 9 ∷ 9 ∷ 9 ∷ 9 ∷ 9 ∷ []
+
+abbrev pub offer : List ℕ → List ℕ → Offer
+offer piece room = record { piece = piece; room = room }
+
+-- the first four; none; the other five, for whose flags there is no room; and again, with room
+abbrev pub offers : List Offer
+offers =
+    offer (0 ∷ 0 ∷ 0 ∷ 0 ∷ []) five
+    ∷ offer [] []
+    ∷ offer (click ∷ 0 ∷ 0 ∷ 0 ∷ 0 ∷ []) (9 ∷ 9 ∷ 9 ∷ 9 ∷ [])
+    ∷ offer (click ∷ 0 ∷ 0 ∷ 0 ∷ 0 ∷ []) five
+    ∷ []
+
+unfoldable pub run : Run
+unfolding handed begun count
+run = handed (begun 9 (count 10)) offers
+
+-- the first four give three flags, and the click is flagged when the sample behind it is in
+pub answers-given : run .numbers ≡ 0 ∷ 0 ∷ 6 ∷ 0 ∷ []
+unfolding run
+answers-given = refl
+
+pub flags-joined : run .flags ≡ 0 ∷ 0 ∷ 0 ∷ 1 ∷ 1 ∷ 1 ∷ 0 ∷ 0 ∷ []
+unfolding run
+flags-joined = refl
+
+-- and the end gives the ninth, in the first byte of its room
+pub last-flag : endTold (run .detector) five .room ≡ 0 ∷ 9 ∷ 9 ∷ 9 ∷ 9 ∷ []
+unfolding run endTold
+last-flag = refl
