@@ -1,15 +1,15 @@
 -- What follows from the rules of the calls, as specs/Consequences.antt states it. A call ends in one of a few ways, so that what holds of each
 -- of them holds of the call. Assumes nothing.
-use mathlib.Core.Path.{_≡_, refl, sym, ap, _∙_}
-use mathlib.Core.Bool.{Bool, false}
+use mathlib.Core.Path.{_≡_, refl, sym, ap}
+use mathlib.Core.Bool.{Bool}
 use mathlib.Core.List.{List, map}
 use mathlib.Core.Logic.{_⊎_, inl, inr}
 use Prim.Native.Nat.{ℕ, _≤_}
 use native.Mathlib.Omega.{arith}
 use borrow.Author.Tests.{ltb-false}
 use lib.Dec.{ltb}
-use lib.ListN.{length, drop, length-map}
-use lib.Seq.{sets, length-sets}
+use lib.ListN.{length, length-map}
+use lib.Seq.{length-sets}
 use Rattle.leaves.proofs.Choice.{picks, picks-by}
 use Rattle.leaves.proofs.Parts.{drop-sets}
 use Rattle.recording.specs.Answers.{reasonNumber, number}
@@ -40,7 +40,8 @@ module _ (P : Told → Type 0) (d : Detector) (room : List ℕ) (stopped : P (to
   unfolding pieceTold
   piece-by piece out taken =
       picks P (tooMuch d n) _ _ stopped
-      (picks-by P (ltb (length room) (flagsDue (d .taken) n)) _ _ (λ h. short) (λ h. read (readable (d .taken) piece) (readable-ends _ piece) (ltb-false _ _ h)))
+      (picks-by P (ltb (length room) (flagsDue (d .taken) n)) _ _ (λ h. short)
+      (λ h. read (readable (d .taken) piece) (readable-ends _ piece) (ltb-false _ _ h)))
     where
       n : ℕ
       n = length piece
@@ -102,11 +103,14 @@ module _ (d : Detector) (room : List ℕ) where
 
 pub piece-ends : PieceEnds
 piece-ends d piece room =
-    piece-by (Ends d room) d room (stops-run d room Pieces (λ h. omega (arith, ap reasonNumber h))) (keeps d room) piece (λ i. stops-run d room (Read i) (λ h. omega (arith, ap reasonNumber h)))
+    piece-by (Ends d room) d room (stops-run d room Pieces (λ h. omega (arith, ap reasonNumber h))) (keeps d room) piece
+    (λ i. stops-run d room (Read i) (λ h. omega (arith, ap reasonNumber h)))
     (λ enough. gives d room _ (flagsBefore d piece) _ (due-length d piece))
 
 pub end-ends : EndEnds
-end-ends d room = end-by (Ends d room) d room (stops-run d room Pieces (λ h. omega (arith, ap reasonNumber h))) (keeps d room) (λ enough. gives d room _ (lastFlag d) _ refl)
+end-ends d room =
+    end-by (Ends d room) d room (stops-run d room Pieces (λ h. omega (arith, ap reasonNumber h))) (keeps d room)
+    (λ enough. gives d room _ (lastFlag d) _ refl)
 
 pub only-these-refusals : OnlyTheseRefusals
 only-these-refusals d piece room = (

@@ -2,5 +2,6 @@
 pub mod Steps
 pub mod Keeping
 pub mod Consequences
+pub mod Places
 pub mod Cuts
 pub mod Words

@@ -1,16 +1,16 @@
 -- The steps of the code: what each gives is what the rule says. Assumes nothing.
-use mathlib.Core.Path.{_≡_, refl, sym, ap, subst, _∙_}
-use mathlib.Core.Bool.{Bool, true, false, not, _||_}
-use mathlib.Core.List.{List, [], _∷_, _++_, map}
+use mathlib.Core.Path.{_≡_, refl, sym, ap, _∙_}
+use mathlib.Core.Bool.{Bool, true, false, not}
+use mathlib.Core.List.{List, [], _∷_, map}
 use mathlib.Core.Logic.{_⊎_, inl, inr}
-use Prim.Native.Nat.{ℕ, zero, suc, _+_, _-_, _≤_, _<_}
+use Prim.Native.Nat.{ℕ, suc, _+_, _-_, _≤_, _<_}
 use native.Mathlib.Omega.{arith}
 use borrow.Author.Tests.{ltb-true, ltb-false, lt-ltb, le-ltb, eq-eqb, ne-eqb, eqb-true, eqb-false}
 use lib.Dec.{ltb, eqb}
 use lib.ListN.{length, getD, set, drop, length-append, drop-of-length-le}
 use lib.Seq.{sets, drop-cons}
-use lib.Ieee.{Float, binary32, ofBits, ne, isNan}
-use Rattle.leaves.specs.Arithmetic.{nought, float}
+use lib.Ieee.{Float, binary32, ofBits, ne}
+use Rattle.leaves.specs.Arithmetic.{float}
 use Rattle.leaves.specs.Floats.{magnitude}
 use Rattle.leaves.proofs.Choice.{truth, neither}
 use Rattle.leaves.proofs.Literals.{nought-word}
@@ -20,10 +20,9 @@ use Rattle.recording.specs.declared.Reason.{Reason}
 use Rattle.recording.specs.declared.Reason.the-variants.{TooMany, Setting, Workspace, Pieces}
 use Rattle.recording.specs.declared.Answer.{Answer}
 use Rattle.recording.specs.declared.Answer.the-variants.{Done, Refused}
-use Rattle.decrackle.specs.Decrackle.{allowed, factorFor, fromMiddle, openingFloor, floorAfter, flagged, leastSamples}
+use Rattle.decrackle.specs.Decrackle.{factorFor, fromMiddle, openingFloor, floorAfter, flagged, leastSamples}
 use Rattle.decrackle.proofs.Flags.{millionth}
 use Rattle.crackle.specs.declared.Detector.{Detector}
-use Rattle.crackle.specs.declared.Announced.{Announced}
 use Rattle.crackle.specs.declared.Announced.the-variants.{Begun, TurnedAway}
 use Rattle.crackle.specs.Pieces.{begun, announced, floorWith, flagAgainst, flagWith, valueBefore, flagBefore, withSample}
 use Rattle.crackle.specs.Pieces.{withPiece, flagsBefore, flagsDue, told, flagByte, flagsIn, closed, tooMuch, notAll, pieceTold}

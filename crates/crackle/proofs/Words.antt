@@ -4,13 +4,13 @@ use mathlib.Core.Path.{_≡_, refl, sym, ap, subst, _∙_}
 use mathlib.Core.Bool.{Bool, true, false}
 use mathlib.Core.List.{List, [], _∷_, _++_, map}
 use mathlib.Core.Logic.{_⊎_, inl, inr}
-use Prim.Native.Nat.{ℕ, _+_, _≤_, _<_}
+use Prim.Native.Nat.{ℕ, _+_, _≤_}
 use native.Mathlib.Omega.{arith}
 use borrow.Author.Tests.{le-ltb}
-use lib.Dec.{T, ltb, eqb}
-use lib.ListN.{length, getD, drop}
+use lib.Dec.{T, eqb}
+use lib.ListN.{length, getD}
 use lib.Seq.{sets, sets-eq, length-sets}
-use lib.Ieee.{Float, binary32, fits, ofBits, toBits}
+use lib.Ieee.{Float, binary32, fits}
 use lib.Ieee.Bits.{ofBits-toBits, ofBits-fits}
 use lib.Ieee.Fits.{add-fits, sub-fits, round-fits}
 use Rattle.leaves.specs.Arithmetic.{_-₃₂_, _*₃₂_, nought, one, near, float, count}
@@ -20,13 +20,12 @@ use Rattle.leaves.proofs.Choice.{picks}
 use Rattle.leaves.proofs.Literals.{nought-word}
 use Rattle.recording.specs.Answers.{number}
 use Rattle.recording.specs.declared.Reason.the-variants.{Workspace}
-use Rattle.recording.specs.declared.Answer.{Answer}
 use Rattle.recording.specs.declared.Answer.the-variants.{Done, Refused}
 use Rattle.decrackle.specs.Decrackle.{factorFor, openingFloor, alpha, floorAfter}
 use Rattle.crackle.specs.declared.Detector.{Detector}
 use Rattle.crackle.specs.declared.Announced.the-variants.{Begun}
 use Rattle.crackle.specs.Pieces.{begun, announced, floorWith, valueBefore, withSample, withPiece}
-use Rattle.crackle.specs.Pieces.{flagByte, Told, told, closed, pieceTold, endTold}
+use Rattle.crackle.specs.Pieces.{flagByte, Told, closed, pieceTold, endTold}
 use Rattle.crackle.specs.Kept.{stateWords, wordsOf, detectorOf, Kept, kept, wordsAfter, keptTold, beginKept, pieceKept, endKept}
 use Rattle.crackle.specs.Cuts.{wholeFlags, Offer, flagsGiven, Run, handed, Each, AcceptedWithRoom}
 use Rattle.crackle.specs.Cuts.{KeptRun, handedKept, KeptAlike, HoweverCutInWords}

@@ -6,7 +6,7 @@ use mathlib.Core.Bool.{false}
 use mathlib.Core.List.{List}
 use mathlib.Core.Logic.{_⊎_}
 use lib.ListN.{length, drop}
-use Rattle.recording.specs.Answers.{number, value}
+use Rattle.recording.specs.Answers.{number}
 use Rattle.recording.specs.declared.Reason.{Reason}
 use Rattle.recording.specs.declared.Reason.the-variants.{Workspace}
 use Rattle.recording.specs.declared.Answer.the-variants.{Done, Refused}

@@ -17,7 +17,7 @@ use Rattle.recording.specs.declared.Answer.the-variants.{Done, Refused}
 use Rattle.decrackle.specs.Decrackle.{allowed, leastSamples, flagsOf, decrackled}
 use Rattle.crackle.specs.declared.Detector.{Detector}
 use Rattle.crackle.specs.declared.Announced.the-variants.{Begun}
-use Rattle.crackle.specs.Pieces.{begun, announced, givenBy, flagsDue, flagByte, Told, told, closed, pieceTold, endTold}
+use Rattle.crackle.specs.Pieces.{begun, announced, givenBy, flagsDue, flagByte, told, closed, pieceTold, endTold}
 use Rattle.crackle.specs.Kept.{stateWords, detectorOf, beginKept, pieceKept, endKept}
 
 -- ---- The whole

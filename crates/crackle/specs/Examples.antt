@@ -4,8 +4,7 @@ use mathlib.Core.Path.{_≡_, refl}
 use mathlib.Core.List.{List, [], _∷_}
 use Prim.Native.Nat.{ℕ}
 use Rattle.leaves.specs.Arithmetic.{count}
-use Rattle.crackle.specs.declared.Detector.{Detector}
-use Rattle.crackle.specs.Pieces.{begun, Told, endTold}
+use Rattle.crackle.specs.Pieces.{begun, endTold}
 use Rattle.crackle.specs.Cuts.{Offer, Run, handed}
 
 -- the word of 1

@@ -1,6 +1,6 @@
 -- `crackle::follow` meets its contract. The loop's invariant: taking in what is left gives the whole, in the detector and in the room. The
 -- measure is how many samples are left. Assumes nothing.
-use Prim.Native.Nat.{ℕ, _+_, _-_, _≤_}
+use Prim.Native.Nat.{_+_, _-_, _≤_}
 use mathlib.Core.Path.{_≡_, refl, ap, _∙_}
 use native.Mathlib.Omega.{arith}
 use borrow.Author.Needs.{needs}

@@ -1,6 +1,6 @@
 -- `crackle::not_all` meets its contract: a run that goes on is judged by its counts. Assumes nothing.
 use borrow.Author.Needs.{needs}
-use borrow.Author.Tests.{not-true, not-false}
+use borrow.Author.Tests.{not-false}
 use Rattle.crackle.proofs.Steps.{all-in}
 use Rattle.crackle.proofs.not_all.Statement.{statement}
 use Rattle.crackle.proofs.not_all.Tie as tie

@@ -53,7 +53,10 @@ take-in-requires c κs =
     let room = c .before .before .before .before .before in
     let due = room .before in
     let right = due .before in
-    (omega (arith, not-much (right .before .before .before .before .args .detector) _ _ (right .before .too-much .ensures) (right .if1 .left)), omega (arith, due .flags-due .ensures, room .if2 .left))
+    let d = right .before .before .before .before .args .detector in (
+      omega (arith, not-much d _ _ (right .before .too-much .ensures) (right .if1 .left)),
+      omega (arith, due .flags-due .ensures, room .if2 .left),
+    )
 
 same-length : tie.Need-same-length
 same-length c = search needs

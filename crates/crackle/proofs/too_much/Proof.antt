@@ -1,6 +1,6 @@
 -- `crackle::too_much` meets its contract: a run that goes on is judged by its counts. Assumes nothing.
 use borrow.Author.Needs.{needs}
-use borrow.Author.Tests.{not-true, not-false}
+use borrow.Author.Tests.{not-false}
 use Rattle.crackle.proofs.Steps.{more-in, too-many-left}
 use Rattle.crackle.proofs.too_much.Statement.{statement}
 use Rattle.crackle.proofs.too_much.Tie as tie

@@ -27,7 +27,8 @@ returns-2 c =
     let write = c .before .before in
     let known = write .before .before .before in
     let answered = known .before in
-    begin-so _ _ _ (answered .before .before .if1 .left) _ (answered .before .announce .ensures) _ _ (known .detector .given .1) (write .write-detector .ensures)
+    begin-so _ _ _ (answered .before .before .if1 .left) _ (answered .before .announce .ensures) _ _ (known .detector .given .1)
+    (write .write-detector .ensures)
 
 returns-3 : tie.Need-returns-3
 returns-3 c =
