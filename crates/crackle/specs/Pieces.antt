@@ -57,6 +57,7 @@ unfoldable pub flagAgainst : Detector → Float → Float → Bool
 unfolding flagged
 flagAgainst d floor a = if ltb (d .total) leastSamples then false else flagged (d .factor) floor a
 
+-- whether the place with this value is flagged
 unfoldable pub flagWith : Detector → Float → Bool
 unfolding floorWith flagAgainst
 flagWith d value = flagAgainst d (floorWith d value) (magnitude value)
@@ -89,11 +90,13 @@ withSample d next =
 
 -- ---- A piece, sample after sample: "consecutive pieces of any length, zero length too"
 
+-- the detector when all of it is in
 unfoldable pub withPiece : Detector → List ℕ → Detector
 unfolding withSample float
 withPiece d [] = d
 withPiece d (w ∷ ws) = withPiece (withSample d (float w)) ws
 
+-- the flags that it brings, in order
 unfoldable pub flagsBefore : Detector → List ℕ → List Bool
 unfolding flagBefore withSample float
 flagsBefore d [] = []

@@ -134,7 +134,7 @@ fn with_first(detector: Detector, next: f32) -> Detector
     }
 }
 
-// The detector with one sample more in, and the flag that it brings.
+// The detector with one sample more in, and the flag that it brings. The count of samples has 32 bits.
 fn with_next(detector: Detector, next: f32) -> Step
     requires { ⌜ (1 ≤ detector .taken) × (detector .taken + 1 < 2 ^ 32) ⌝ }
     ensures { λ r. ⌜ (r .flag ≡ flagByte (flagWith detector (valueBefore detector next))) × (r .detector ≡ withSample detector next) ⌝ }
@@ -155,7 +155,8 @@ fn with_next(detector: Detector, next: f32) -> Step
     }
 }
 
-// Takes in the samples of a piece from place `from` on, none of which is the very first: each brings a flag.
+// Takes in the samples of a piece from place `from` on, none of which is the very first: each brings a flag. Their
+// count fits in 32 bits, since it is at most the total.
 fn follow(detector: Detector, piece: &[u32], from: usize, flags: &mut [u8]) -> Detector
     requires { ⌜ (1 ≤ detector .taken) × (from ≤ length (now piece)) × (detector .taken + (length (now piece) - from) < 2 ^ 32)
         × (length (now piece) - from ≤ length (now flags)) ⌝ }
