@@ -8,7 +8,7 @@ use Rattle.recording.specs.Answers.{number, value, verdictNumber, verdictYes}
 use Rattle.recording.specs.Recording.{State, Ended, ended, workAfter}
 use Rattle.recording.specs.declared.Answer.{Answer}
 use Rattle.recording.specs.declared.Verdict.{Verdict}
-use Rattle.crackle.specs.Kept.{Kept, kept}
+use Rattle.crackle.specs.Pieces as pieces
 use Rattle.frames.specs.Frames.{Delivered, delivered}
 use Rattle.splice.specs.Several.{AnswerLists, Several, several}
 use Rattle.cathar.specs.Calls.{Work, none, doubles, outcome, told, framesTold, toldOf, spanTold, spanToldOf}
@@ -48,10 +48,10 @@ pub spans : (v verdict : Verdict) (result given : ℕ) → v ≡ verdict → res
 spans v verdict result given e r y = rw (r, y, e) refl
 
 -- a call on the crackle detector: an announcement, and any other
-pub begins : (call : Kept) (a : Answer) (words : List ℕ) (result : ℕ) → kept a words [] ≡ call → result ≡ number a
+pub begins : (call : pieces.Told (List ℕ)) (a : Answer) (words : List ℕ) (result : ℕ) → pieces.told a words [] ≡ call → result ≡ number a
     → crackleTold result [] words [] ≡ begunTold call
 begins call a words result e r = rw (r, ← e) refl
 
-pub hears : (call : Kept) (a : Answer) (words room : List ℕ) (result given : ℕ) → kept a words room ≡ call → result ≡ number a → given ≡ value a
+pub hears : (call : pieces.Told (List ℕ)) (a : Answer) (words room : List ℕ) (result given : ℕ) → pieces.told a words room ≡ call → result ≡ number a → given ≡ value a
     → crackleTold result (given ∷ []) words room ≡ heardTold call
 hears call a words room result given e r v = rw (r, v, ← e) refl

@@ -17,7 +17,7 @@ use Rattle.redraw.specs.Whole as whole
 use Rattle.declip.specs.Declip.{declipRepair}
 use Rattle.decrackle.specs.Decrackle.{decrackleRepair}
 use Rattle.dequant.specs.Dequant.{dequantizeRepair, cosparseRepair}
-use Rattle.crackle.specs.Kept.{Kept}
+use Rattle.crackle.specs.Pieces.{Told}
 use Rattle.frames.specs.Frames.{Delivered}
 
 -- a call with its settings and the workspace that it is lent: doubles for a gap, for several and for the automatic scan, 32-bit words for
@@ -128,8 +128,8 @@ pub record CrackleTold : Type 0 where
 abbrev pub crackleTold : ℕ → List ℕ → List ℕ → List ℕ → CrackleTold
 crackleTold k values held room = record { number = k; values = values; held = held; room = room }
 
-abbrev pub begunTold : Kept → CrackleTold
-begunTold c = crackleTold (number (c .answer)) [] (c .words) (c .room)
+abbrev pub begunTold : Told (List ℕ) → CrackleTold
+begunTold c = crackleTold (number (c .answer)) [] (c .held) (c .room)
 
-abbrev pub heardTold : Kept → CrackleTold
-heardTold c = crackleTold (number (c .answer)) (value (c .answer) ∷ []) (c .words) (c .room)
+abbrev pub heardTold : Told (List ℕ) → CrackleTold
+heardTold c = crackleTold (number (c .answer)) (value (c .answer) ∷ []) (c .held) (c .room)

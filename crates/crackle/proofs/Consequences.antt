@@ -31,7 +31,7 @@ as-many-as-due = due-length
 
 -- ---- The ways in which a call ends
 
-module _ (P : Told → Type 0) (d : Detector) (room : List ℕ) (stopped : P (told (Refused Pieces) (closed d) room))
+module _ (P : Told Detector → Type 0) (d : Detector) (room : List ℕ) (stopped : P (told (Refused Pieces) (closed d) room))
     (short : P (told (Refused Workspace) d room)) where
   pub piece-by : (piece : List ℕ) → ((i : ℕ) → P (told (Refused (Read i)) (closed d) room))
       → (flagsDue (d .taken) (length piece) ≤ length room
@@ -114,7 +114,7 @@ end-ends d room =
 
 pub only-these-refusals : OnlyTheseRefusals
 only-these-refusals d piece room = (
-  piece-by (λ (t : Told). let k = number (t .answer) in (k ≡ 0) ⊎ (k ≡ 13) ⊎ (k ≡ 6) ⊎ (k ≡ 7)) d room (inr (inl refl)) (inr (inr (inl refl)))
+  piece-by (λ (t : Told Detector). let k = number (t .answer) in (k ≡ 0) ⊎ (k ≡ 13) ⊎ (k ≡ 6) ⊎ (k ≡ 7)) d room (inr (inl refl)) (inr (inr (inl refl)))
       piece (λ i. inr (inr (inr refl))) (λ enough. inl refl),
-  end-by (λ (t : Told). let k = number (t .answer) in (k ≡ 0) ⊎ (k ≡ 13) ⊎ (k ≡ 6)) d room (inr (inl refl)) (inr (inr refl)) (λ enough. inl refl),
+  end-by (λ (t : Told Detector). let k = number (t .answer) in (k ≡ 0) ⊎ (k ≡ 13) ⊎ (k ≡ 6)) d room (inr (inl refl)) (inr (inr refl)) (λ enough. inl refl),
 )

@@ -28,7 +28,7 @@ use Rattle.crackle.specs.declared.Detector.{Detector}
 use Rattle.crackle.specs.Pieces.{begun, announced}
 use Rattle.crackle.specs.Pieces.{withPiece, flagsBefore, givenBy, flagsDue, Told, told, flagByte, flagsIn, closed, tooMuch}
 use Rattle.crackle.specs.Pieces.{unlessOut, pieceTold, lastFlag, endTold}
-use Rattle.crackle.specs.Cuts.{wholeFlags, FlagsAreNamed, InRange, Offer, flagsGiven, Run, handed, Each, AcceptedWithRoom, Cut}
+use Rattle.crackle.specs.Cuts.{wholeFlags, FlagsAreNamed, InRange, Offer, flagsGiven, Run, inTurn, byValue, handed, Each, AcceptedWithRoom, Cut}
 use Rattle.crackle.specs.Cuts.{FlagsSoFar, HoweverCut, StoppedByASample, ClosedForGood}
 use Rattle.crackle.proofs.Steps.{due-length}
 use Rattle.crackle.proofs.Places.{flagsLeft, left, length-left, At, piece-gives, end-gives}
@@ -77,24 +77,25 @@ readable-both i (x ∷ xs) ys h =
 -- ---- Calls in turn
 
 -- the first of them, and then the others
-abbrev from : Told → List Offer → Run
-from t os =
-    let later = handed (t .detector) os in
+abbrev pub from : {D : Type 0} → (D → Offer → Told D) → List Offer → Told D → Run D
+from call os t =
+    let later = inTurn call (t .held) os in
     record {
       numbers = number (t .answer) ∷ later .numbers;
       flags = flagsGiven (t .answer) (t .room) ++ later .flags;
-      detector = later .detector;
+      held = later .held;
     }
 
-pub first-told : (d : Detector) (o : Offer) (os : List Offer) (t : Told) → pieceTold d (o .piece) (o .room) ≡ t → handed d (o ∷ os) ≡ from t os
-unfolding handed
-first-told d o os t e = ap (λ (u : Told). from u os) e
+pub first-told : {D : Type 0} (call : D → Offer → Told D) (d : D) (o : Offer) (os : List Offer) (t : Told D) → call d o ≡ t
+    → inTurn call d (o ∷ os) ≡ from call os t
+unfolding inTurn
+first-told call d o os t e = ap (from call os) e
 
 -- what calls that bring in the samples q leave
-record Brought (s : List ℕ) (t : ℕ) (d : Detector) (q : List ℕ) (run : Run) : Type 0 where
+record Brought (s : List ℕ) (t : ℕ) (d : Detector) (q : List ℕ) (run : Run Detector) : Type 0 where
   only-room : Each AcceptedWithRoom (run .numbers)
-  stands : At s (t + length q) (run .detector)
-  gives : run .flags ++ map flagByte (left s (run .detector) (t + length q)) ≡ map flagByte (left s d t)
+  stands : At s (t + length q) (run .held)
+  gives : run .flags ++ map flagByte (left s (run .held) (t + length q)) ≡ map flagByte (left s d t)
 
 -- a piece that is taken in, and then such calls
 module _ (s : List ℕ) (t : ℕ) (d : Detector) (q rest : List ℕ) (at : At s t d) (e : drop t s ≡ q ++ rest) (good : readable t q ≡ Done 0)
@@ -135,13 +136,13 @@ module _ (s : List ℕ) (t : ℕ) (d : Detector) (q rest : List ℕ) (at : At s 
   taken-and-more : Brought s (t + n) next more (handed next os) → Brought s t d q (handed d (o ∷ os))
   taken-and-more later =
       let run = handed next os in
-      subst (Brought s t d q) (sym (first-told d o os _ told-so))
+      subst (Brought s t d q) (sym (first-told byValue d o os _ told-so))
       (record {
         only-room = (inl refl, later .only-room);
         stands = rw whole (later .stands);
         gives =
-            ap (λ (k : ℕ). take (flagsDue t n) (flagsIn (o .room) fs) ++ run .flags ++ map flagByte (left s (run .detector) k)) whole
-            ∙ ap (λ (l : List ℕ). l ++ run .flags ++ map flagByte (left s (run .detector) (t + n + length more))) written
+            ap (λ (k : ℕ). take (flagsDue t n) (flagsIn (o .room) fs) ++ run .flags ++ map flagByte (left s (run .held) k)) whole
+            ∙ ap (λ (l : List ℕ). l ++ run .flags ++ map flagByte (left s (run .held) (t + n + length more))) written
             ∙ append-assoc (map flagByte fs) (run .flags) _
             ∙ ap (λ (l : List ℕ). map flagByte fs ++ l) (later .gives)
             ∙ sym (map-append flagByte fs (left s next (t + n)))
@@ -149,7 +150,7 @@ module _ (s : List ℕ) (t : ℕ) (d : Detector) (q rest : List ℕ) (at : At s 
       })
 
 none-bring : (s : List ℕ) (t : ℕ) (d : Detector) → At s t d → Brought s t d [] (handed d [])
-unfolding handed
+unfolding inTurn
 none-bring s t d at =
     record {
       only-room = tt;
@@ -159,12 +160,12 @@ none-bring s t d at =
 
 calls-bring : (s : List ℕ) (offers : List Offer) (t : ℕ) (d : Detector) (q rest : List ℕ) → At s t d → drop t s ≡ q ++ rest
     → readable t q ≡ Done 0 → Cut (length s) t offers q → Brought s t d q (handed d offers)
-unfolding handed Cut
+unfolding inTurn Cut
 calls-bring s [] t d q rest at e good cut = rw cut (none-bring s t d at)
 calls-bring s (o ∷ os) t d q rest at e good (inl (short, fit, cut)) =
     let told-so = no-room s t d (o .piece) (o .room) at fit short in
     let later = calls-bring s os t d q rest at e good cut in
-    subst (Brought s t d q) (sym (first-told d o os _ told-so))
+    subst (Brought s t d q) (sym (first-told byValue d o os _ told-so))
     (record { only-room = (inr refl, later .only-room); stands = later .stands; gives = later .gives })
 calls-bring s (o ∷ os) t d q rest at e good (inr (enough, (more, parts, cut))) =
     taken-and-more s t d q rest at e good o os more enough parts
@@ -195,18 +196,18 @@ module _ (sensitivity : Float) (s : List ℕ) where
   left-whole = rw (sub-zero (length s)) refl
 
   module _ (p rest : List ℕ) (offers : List Offer) (parts : s ≡ p ++ rest) (good : InRange p) (cut : Cut (length s) 0 offers p) where
-    abbrev run : Run
+    abbrev run : Run Detector
     run = handed first offers
 
     brought : Brought s 0 first p run
     brought = calls-bring s offers 0 first p rest begun-there parts good cut
 
-    run-stands : At s (length p) (run .detector)
-    run-stands = subst (λ (k : ℕ). At s k (run .detector)) (zero-add (length p)) (brought .stands)
+    run-stands : At s (length p) (run .held)
+    run-stands = subst (λ (k : ℕ). At s k (run .held)) (zero-add (length p)) (brought .stands)
 
-    run-gives : run .flags ++ map flagByte (left s (run .detector) (length p)) ≡ map flagByte (wholeFlags sensitivity s)
+    run-gives : run .flags ++ map flagByte (left s (run .held) (length p)) ≡ map flagByte (wholeFlags sensitivity s)
     run-gives =
-        ap (λ (k : ℕ). run .flags ++ map flagByte (left s (run .detector) k)) (sym (zero-add (length p)))
+        ap (λ (k : ℕ). run .flags ++ map flagByte (left s (run .held) k)) (sym (zero-add (length p)))
         ∙ brought .gives
         ∙ ap (map flagByte) left-whole
 
@@ -222,11 +223,11 @@ module _ (sensitivity : Float) (s : List ℕ) where
         take-map (suc k) (b ∷ bs) = ap (λ (l : List ℕ). flagByte b ∷ l) (take-map k bs)
 
         rest-flags : List Bool
-        rest-flags = left s (run .detector) (length p)
+        rest-flags = left s (run .held) (length p)
 
         count : length (run .flags) + (length s - givenBy (length p)) ≡ length s
         count =
-            ap (λ (k : ℕ). length (run .flags) + k) (sym (length-map rest-flags flagByte ∙ length-left s (run .detector) _ _))
+            ap (λ (k : ℕ). length (run .flags) + k) (sym (length-map rest-flags flagByte ∙ length-left s (run .held) _ _))
             ∙ sym (length-append (run .flags) (map flagByte rest-flags))
             ∙ ap length run-gives
             ∙ length-map (wholeFlags sensitivity s) flagByte
@@ -268,11 +269,11 @@ however-cut sensitivity s offers room may few good cut enough = (
     whole : s ≡ s ++ []
     whole = sym (append-nil s)
 
-    run : Run
+    run : Run Detector
     run = handed (begun (length s) sensitivity) offers
 
     d : Detector
-    d = run .detector
+    d = run .held
 
     at : At s (length s) d
     at = run-stands sensitivity s s [] offers whole good cut
@@ -319,21 +320,21 @@ unfolding pieceTold
 closed-piece d piece room h = subst (λ (e : Detector). pieceTold e piece room ≡ told (Refused Pieces) e room) (closed-is d h) refl
 
 -- no call gives anything
-abbrev Over : Detector → Run → Type 0
-Over d run = Each (λ k. k ≡ 13) (run .numbers) × (run .flags ≡ []) × (run .detector ≡ d)
+abbrev Over : Detector → Run Detector → Type 0
+Over d run = Each (λ k. k ≡ 13) (run .numbers) × (run .flags ≡ []) × (run .held ≡ d)
 
 closed-calls : (d : Detector) (offers : List Offer) → d .running ≡ false → Over d (handed d offers)
-unfolding handed
+unfolding inTurn
 closed-calls d [] h = (tt, refl, refl)
 closed-calls d (o ∷ os) h =
     let later = closed-calls d os h in
-    subst (Over d) (sym (first-told d o os _ (closed-piece d (o .piece) (o .room) h))) ((refl, later .0), later .1, later .2)
+    subst (Over d) (sym (first-told byValue d o os _ (closed-piece d (o .piece) (o .room) h))) ((refl, later .0), later .1, later .2)
 
 pub closed-for-good : ClosedForGood
 closed-for-good d offers room h =
     let calls = closed-calls d offers h in
     let end = closed-end d room h in
-    (calls .0, calls .1, calls .2, ap (λ (t : Told). number (t .answer)) end, ap (λ (t : Told). t .room) end)
+    (calls .0, calls .1, calls .2, ap (λ (t : Told Detector). number (t .answer)) end, ap (λ (t : Told Detector). t .room) end)
 
 pub flags-are-named : FlagsAreNamed
 unfolding wholeFlags decrackled

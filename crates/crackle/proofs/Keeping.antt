@@ -17,7 +17,7 @@ use Rattle.crackle.specs.declared.Detector.{Detector}
 use Rattle.crackle.specs.declared.Announced.{Announced}
 use Rattle.crackle.specs.declared.Announced.the-variants.{Begun, TurnedAway}
 use Rattle.crackle.specs.Pieces.{announced, Told, told, pieceTold, endTold}
-use Rattle.crackle.specs.Kept.{stateWords, runningWord, wordsOf, detectorOf, kept, wordsAfter, keptTold, beginKept, pieceKept, endKept}
+use Rattle.crackle.specs.Kept.{stateWords, runningWord, wordsOf, detectorOf, wordsAfter, keptTold, beginKept, pieceKept, endKept}
 
 -- ---- The words
 
@@ -55,44 +55,44 @@ module _ (a : Answer) (d : Detector) (words : List ℕ) (k : ℕ) (ek : k ≡ nu
 -- ---- The calls
 
 module _ (total : ℕ) (sensitivity : Float) (words : List ℕ) where
-  pub begin-few : length words < stateWords → kept (Refused Workspace) words [] ≡ beginKept total sensitivity words
+  pub begin-few : length words < stateWords → told (Refused Workspace) words [] ≡ beginKept total sensitivity words
   unfolding beginKept
   begin-few h = rw (lt-ltb _ _ h) refl
 
   module _ (enough : stateWords ≤ length words) (a : Announced) (ea : a ≡ announced total sensitivity) where
     pub begin-so : (d : Detector) (after : List ℕ) → a ≡ Begun d → after ≡ sets words 0 (wordsOf d)
-        → kept (Done 0) after [] ≡ beginKept total sensitivity words
+        → told (Done 0) after [] ≡ beginKept total sensitivity words
     unfolding beginKept
     begin-so d after h e = rw (le-ltb _ _ enough, ← ea, h, e) refl
 
-    pub begin-away : (why : Reason) → a ≡ TurnedAway why → kept (Refused why) words [] ≡ beginKept total sensitivity words
+    pub begin-away : (why : Reason) → a ≡ TurnedAway why → told (Refused why) words [] ≡ beginKept total sensitivity words
     unfolding beginKept
     begin-away why h = rw (le-ltb _ _ enough, ← ea, h) refl
 
 -- what a call left is kept
-keeps : (t : Told) (a r : Answer) (e : Detector) (words after room : List ℕ) → told a e room ≡ t → (r ≡ a) × (after ≡ wordsAfter a e words)
-    → kept r after room ≡ keptTold t words
+keeps : (t : Told Detector) (a r : Answer) (e : Detector) (words after room : List ℕ) → told a e room ≡ t → (r ≡ a) × (after ≡ wordsAfter a e words)
+    → told r after room ≡ keptTold t words
 keeps t a r e words after room et both = rw (both .0, both .1, ← et) refl
 
 module _ (words room : List ℕ) where
-  pub piece-few : (piece : List ℕ) → length words < stateWords → kept (Refused Workspace) words room ≡ pieceKept words piece room
+  pub piece-few : (piece : List ℕ) → length words < stateWords → told (Refused Workspace) words room ≡ pieceKept words piece room
   unfolding pieceKept
   piece-few piece h = rw (lt-ltb _ _ h) refl
 
-  pub end-few : length words < stateWords → kept (Refused Workspace) words room ≡ endKept words room
+  pub end-few : length words < stateWords → told (Refused Workspace) words room ≡ endKept words room
   unfolding endKept
   end-few h = rw (lt-ltb _ _ h) refl
 
   module _ (enough : stateWords ≤ length words) (d e : Detector) (a r : Answer) (after left : List ℕ) (ed : d ≡ detectorOf words)
       (ending : (r ≡ a) × (after ≡ wordsAfter a e words)) where
-    pub piece-so : (piece : List ℕ) → told a e left ≡ pieceTold d piece room → kept r after left ≡ pieceKept words piece room
+    pub piece-so : (piece : List ℕ) → told a e left ≡ pieceTold d piece room → told r after left ≡ pieceKept words piece room
     unfolding pieceKept
     piece-so piece et =
         keeps _ a r e words after left et ending
         ∙ ap (λ (f : Detector). keptTold (pieceTold f piece room) words) ed
         ∙ rw (le-ltb _ _ enough) refl
 
-    pub end-so : told a e left ≡ endTold d room → kept r after left ≡ endKept words room
+    pub end-so : told a e left ≡ endTold d room → told r after left ≡ endKept words room
     unfolding endKept
     end-so et =
         keeps _ a r e words after left et ending ∙ ap (λ (f : Detector). keptTold (endTold f room) words) ed ∙ rw (le-ltb _ _ enough) refl

@@ -25,10 +25,10 @@ use Rattle.decrackle.specs.Decrackle.{factorFor, openingFloor, alpha, floorAfte
 use Rattle.crackle.specs.declared.Detector.{Detector}
 use Rattle.crackle.specs.declared.Announced.the-variants.{Begun}
 use Rattle.crackle.specs.Pieces.{begun, announced, floorWith, valueBefore, withSample, withPiece}
-use Rattle.crackle.specs.Pieces.{flagByte, Told, closed, pieceTold, endTold}
-use Rattle.crackle.specs.Kept.{stateWords, wordsOf, detectorOf, Kept, kept, wordsAfter, keptTold, beginKept, pieceKept, endKept}
+use Rattle.crackle.specs.Pieces.{flagByte, Told, told, closed, pieceTold, endTold}
+use Rattle.crackle.specs.Kept.{stateWords, wordsOf, detectorOf, wordsAfter, keptTold, beginKept, pieceKept, endKept}
 use Rattle.crackle.specs.Cuts.{wholeFlags, Offer, flagsGiven, Run, handed, Each, AcceptedWithRoom}
-use Rattle.crackle.specs.Cuts.{KeptRun, handedKept, KeptAlike, HoweverCutInWords}
+use Rattle.crackle.specs.Cuts.{inTurn, byValue, inWords, handedKept, KeptAlike, HoweverCutInWords}
 use Rattle.crackle.proofs.Consequences.{piece-by, end-by}
 use Rattle.crackle.proofs.Cuts.{first-told, however-cut}
 
@@ -95,8 +95,8 @@ written d words f h =
 -- ---- Behind a call
 
 -- it was refused by 6 and left the detector, or the words are written
-abbrev Left : Detector → Told → Type 0
-Left d t = ((t .answer ≡ Refused Workspace) × (t .detector ≡ d)) ⊎ ((eqb (number (t .answer)) 6 ≡ false) × Fitting (t .detector))
+abbrev Left : Detector → Told Detector → Type 0
+Left d t = ((t .answer ≡ Refused Workspace) × (t .held ≡ d)) ⊎ ((eqb (number (t .answer)) 6 ≡ false) × Fitting (t .held))
 
 piece-left : (d : Detector) (piece room : List ℕ) → Fitting d → Left d (pieceTold d piece room)
 piece-left d piece room f =
@@ -104,10 +104,10 @@ piece-left d piece room f =
     (λ enough. inr (refl, piece-fits d piece f))
 
 -- what the words then hold
-told-words : (words : List ℕ) (t : Told) → stateWords ≤ length words → Left (detectorOf words) t
-    → (detectorOf (wordsAfter (t .answer) (t .detector) words) ≡ t .detector) × (length (wordsAfter (t .answer) (t .detector) words) ≡ length words)
+told-words : (words : List ℕ) (t : Told Detector) → stateWords ≤ length words → Left (detectorOf words) t
+    → (detectorOf (wordsAfter (t .answer) (t .held) words) ≡ t .held) × (length (wordsAfter (t .answer) (t .held) words) ≡ length words)
 told-words words t h (inl (six, same)) = rw six (sym same, refl)
-told-words words t h (inr (other, f)) = rw other (written (t .detector) words f h, length-sets words 0 (wordsOf (t .detector)))
+told-words words t h (inr (other, f)) = rw other (written (t .held) words f h, length-sets words 0 (wordsOf (t .held)))
 
 -- ---- Calls in turn
 
@@ -115,56 +115,44 @@ told-words words t h (inr (other, f)) = rw other (written (t .detector) words f 
 record Alike (words : List ℕ) (d : Detector) (offers : List Offer) : Type 0 where
   numbers-are : handedKept words offers .numbers ≡ handed d offers .numbers
   flags-are : handedKept words offers .flags ≡ handed d offers .flags
-  holds : detectorOf (handedKept words offers .words) ≡ handed d offers .detector
-  as-many : length (handedKept words offers .words) ≡ length words
+  holds : detectorOf (handedKept words offers .held) ≡ handed d offers .held
+  as-many : length (handedKept words offers .held) ≡ length words
 
 -- one call, and then the others
 module _ (words : List ℕ) (o : Offer) (os : List Offer) (h : stateWords ≤ length words) where
-  abbrev t : Told
+  abbrev t : Told Detector
   t = pieceTold (detectorOf words) (o .piece) (o .room)
 
   abbrev next : List ℕ
-  next = wordsAfter (t .answer) (t .detector) words
+  next = wordsAfter (t .answer) (t .held) words
 
   told-so : pieceKept words (o .piece) (o .room) ≡ keptTold t words
   unfolding pieceKept
   told-so = rw (le-ltb (length words) stateWords h) refl
 
-  leaves : (detectorOf next ≡ t .detector) × (length next ≡ length words)
+  leaves : (detectorOf next ≡ t .held) × (length next ≡ length words)
   leaves = told-words words t h (piece-left (detectorOf words) (o .piece) (o .room) (read-fits words))
 
-  abbrev from : Kept → KeptRun
-  from k =
-      let later = handedKept (k .words) os in
-      record {
-        numbers = number (k .answer) ∷ later .numbers;
-        flags = flagsGiven (k .answer) (k .room) ++ later .flags;
-        words = later .words;
-      }
-
-  first-kept : handedKept words (o ∷ os) ≡ from (keptTold t words)
-  unfolding handedKept
-  first-kept = ap from told-so
-
-  and-others : Alike next (t .detector) os → Alike words (detectorOf words) (o ∷ os)
+  and-others : Alike next (t .held) os → Alike words (detectorOf words) (o ∷ os)
   and-others later =
-      let first = first-told (detectorOf words) o os t refl in
+      let first = first-told byValue (detectorOf words) o os t refl in
+      let first-kept = first-told inWords words o os (keptTold t words) told-so in
       record {
         numbers-are =
-            ap (λ (r : KeptRun). r .numbers) first-kept
+            ap (λ (r : Run (List ℕ)). r .numbers) first-kept
             ∙ ap (λ (ks : List ℕ). number (t .answer) ∷ ks) (later .numbers-are)
-            ∙ sym (ap (λ (r : Run). r .numbers) first);
+            ∙ sym (ap (λ (r : Run Detector). r .numbers) first);
         flags-are =
-            ap (λ (r : KeptRun). r .flags) first-kept
+            ap (λ (r : Run (List ℕ)). r .flags) first-kept
             ∙ ap (λ (fs : List ℕ). flagsGiven (t .answer) (t .room) ++ fs) (later .flags-are)
-            ∙ sym (ap (λ (r : Run). r .flags) first);
+            ∙ sym (ap (λ (r : Run Detector). r .flags) first);
         holds =
-            ap (λ (r : KeptRun). detectorOf (r .words)) first-kept ∙ later .holds ∙ sym (ap (λ (r : Run). r .detector) first);
-        as-many = ap (λ (r : KeptRun). length (r .words)) first-kept ∙ later .as-many ∙ leaves .1;
+            ap (λ (r : Run (List ℕ)). detectorOf (r .held)) first-kept ∙ later .holds ∙ sym (ap (λ (r : Run Detector). r .held) first);
+        as-many = ap (λ (r : Run (List ℕ)). length (r .held)) first-kept ∙ later .as-many ∙ leaves .1;
       }
 
 alike : (words : List ℕ) (offers : List Offer) → stateWords ≤ length words → Alike words (detectorOf words) offers
-unfolding handed handedKept
+unfolding inTurn
 alike words [] h = record { numbers-are = refl; flags-are = refl; holds = refl; as-many = refl }
 alike words (o ∷ os) h =
     let there = leaves words o os h in
@@ -194,7 +182,7 @@ end-left d room f =
     end-by (Left d) d room (inr (refl, closed-fits d f)) (inl (refl, refl)) (λ enough. inr (refl, closed-fits d f))
 
 begun-told : (total : ℕ) (sensitivity : Float) (words : List ℕ) → stateWords ≤ length words → announced total sensitivity ≡ Begun (begun total sensitivity)
-    → beginKept total sensitivity words ≡ kept (Done 0) (sets words 0 (wordsOf (begun total sensitivity))) []
+    → beginKept total sensitivity words ≡ told (Done 0) (sets words 0 (wordsOf (begun total sensitivity))) []
 unfolding beginKept
 begun-told total sensitivity words h e = rw (le-ltb (length words) stateWords h, e) refl
 
@@ -211,8 +199,8 @@ however-cut-in-words sensitivity s offers words room may few good enough-words c
 
     cuts : (announced (length s) sensitivity ≡ Begun first)
         × Each AcceptedWithRoom (handed first offers .numbers)
-        × (number (endTold (handed first offers .detector) room .answer) ≡ 0)
-        × (handed first offers .flags ++ flagsGiven (endTold (handed first offers .detector) room .answer) (endTold (handed first offers .detector) room .room)
+        × (number (endTold (handed first offers .held) room .answer) ≡ 0)
+        × (handed first offers .flags ++ flagsGiven (endTold (handed first offers .held) room .answer) (endTold (handed first offers .held) room .room)
         ≡ map flagByte (wholeFlags sensitivity s))
     cuts = however-cut sensitivity s offers room may few good cut enough
 
@@ -222,7 +210,7 @@ however-cut-in-words sensitivity s offers words room may few good enough-words c
     many : length start ≡ length words
     many = length-sets words 0 (wordsOf first)
 
-    begun-so : beginKept (length s) sensitivity words ≡ kept (Done 0) start []
+    begun-so : beginKept (length s) sensitivity words ≡ told (Done 0) start []
     begun-so = begun-told (length s) sensitivity words enough-words (cuts .0)
 
     holds : detectorOf start ≡ first
@@ -232,7 +220,7 @@ however-cut-in-words sensitivity s offers words room may few good enough-words c
     run-alike = subst (λ (d : Detector). Alike start d offers) holds (alike start offers (omega (arith, enough-words, many)))
 
     last : List ℕ
-    last = handedKept start offers .words
+    last = handedKept start offers .held
 
-    end-so : endKept last room ≡ keptTold (endTold (handed first offers .detector) room) last
-    end-so = end-told (handed first offers .detector) last room (omega (arith, enough-words, many, run-alike .as-many)) (run-alike .holds)
+    end-so : endKept last room ≡ keptTold (endTold (handed first offers .held) room) last
+    end-so = end-told (handed first offers .held) last room (omega (arith, enough-words, many, run-alike .as-many)) (run-alike .holds)

@@ -19,10 +19,10 @@ AsManyAsDue = (d : Detector) (piece : List ℕ) → length (flagsBefore d piece)
 
 -- of a call that ends so, on this detector and with this room: a refusal "leaves the flag room unwritten"; where it is 6 the detector is the
 -- same, and by every other one the run stops; accepted, the room is as long, and "room beyond this call's flags is never touched"
-pub record Ends (d : Detector) (room : List ℕ) (t : Told) : Type 0 where
+pub record Ends (d : Detector) (room : List ℕ) (t : Told Detector) : Type 0 where
   pub unwritten : (why : Reason) → t .answer ≡ Refused why → t .room ≡ room
-  pub nothing-in : t .answer ≡ Refused Workspace → t .detector ≡ d
-  pub stops : (why : Reason) → t .answer ≡ Refused why → (why ≡ Workspace) ⊎ (t .detector .running ≡ false)
+  pub nothing-in : t .answer ≡ Refused Workspace → t .held ≡ d
+  pub stops : (why : Reason) → t .answer ≡ Refused why → (why ≡ Workspace) ⊎ (t .held .running ≡ false)
   pub as-long : length (t .room) ≡ length room
   pub behind : (m : ℕ) → t .answer ≡ Done m → drop m (t .room) ≡ drop m room
 

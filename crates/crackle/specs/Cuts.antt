@@ -17,7 +17,7 @@ use Rattle.recording.specs.declared.Answer.the-variants.{Done, Refused}
 use Rattle.decrackle.specs.Decrackle.{allowed, leastSamples, flagsOf, decrackled}
 use Rattle.crackle.specs.declared.Detector.{Detector}
 use Rattle.crackle.specs.declared.Announced.the-variants.{Begun}
-use Rattle.crackle.specs.Pieces.{begun, announced, givenBy, flagsDue, flagByte, told, closed, pieceTold, endTold}
+use Rattle.crackle.specs.Pieces.{begun, announced, givenBy, flagsDue, flagByte, Told, told, closed, pieceTold, endTold}
 use Rattle.crackle.specs.Kept.{stateWords, detectorOf, beginKept, pieceKept, endKept}
 
 -- ---- The whole
@@ -47,23 +47,30 @@ abbrev pub flagsGiven : Answer → List ℕ → List ℕ
 flagsGiven (Done m) room = take m room
 flagsGiven (Refused why) room = []
 
--- what calls give, one after the other: the number of each answer, "the flags joined together", and the detector behind them
-pub record Run : Type 0 where
+-- what calls give, one after the other, each on what the one before it left: the number of each answer, "the flags joined together", and what
+-- holds the detector behind them
+pub record Run (D : Type 0) : Type 0 where
   pub numbers : List ℕ
   pub flags : List ℕ
-  pub detector : Detector
+  pub held : D
 
-unfoldable pub handed : Detector → List Offer → Run
-unfolding pieceTold
-handed d [] = record { numbers = []; flags = []; detector = d }
-handed d (o ∷ os) =
-    let t = pieceTold d (o .piece) (o .room) in
-    let later = handed (t .detector) os in
+unfoldable pub inTurn : {D : Type 0} → (D → Offer → Told D) → D → List Offer → Run D
+inTurn call d [] = record { numbers = []; flags = []; held = d }
+inTurn call d (o ∷ os) =
+    let t = call d o in
+    let later = inTurn call (t .held) os in
     record {
       numbers = number (t .answer) ∷ later .numbers;
       flags = flagsGiven (t .answer) (t .room) ++ later .flags;
-      detector = later .detector;
+      held = later .held;
     }
+
+-- a piece on a detector by value, and such pieces
+abbrev pub byValue : Detector → Offer → Told Detector
+byValue d o = pieceTold d (o .piece) (o .room)
+
+abbrev pub handed : Detector → List Offer → Run Detector
+handed = inTurn byValue
 
 -- what holds of the number of each answer
 abbrev pub Each : (ℕ → Type 0) → List ℕ → Type 0
@@ -105,7 +112,7 @@ HoweverCut =
     → allowed sensitivity ≡ true → length s ≤ mostSamples → InRange s
     → Cut (length s) 0 offers s → length s - givenBy (length s) ≤ length room
     → let run = handed (begun (length s) sensitivity) offers in
-    let end = endTold (run .detector) room in
+    let end = endTold (run .held) room in
     (announced (length s) sensitivity ≡ Begun (begun (length s) sensitivity))
     × Each AcceptedWithRoom (run .numbers)
     × (number (end .answer) ≡ 0)
@@ -122,7 +129,7 @@ StoppedByASample =
     → let run = handed (begun (length s) sensitivity) offers in
     Each AcceptedWithRoom (run .numbers)
     × (run .flags ≡ map flagByte (take (givenBy (length p)) (wholeFlags sensitivity s)))
-    × (pieceTold (run .detector) piece room ≡ told (Refused (Read place)) (closed (run .detector)) room)
+    × (pieceTold (run .held) piece room ≡ told (Refused (Read place)) (closed (run .held)) room)
 
 -- "and every later piece is refused", behind any stop and behind the end, and the end with them: nothing moves any more
 abbrev pub ClosedForGood : Type 0
@@ -131,29 +138,18 @@ ClosedForGood =
     → let run = handed d offers in
     Each (λ k. k ≡ 13) (run .numbers)
     × (run .flags ≡ [])
-    × (run .detector ≡ d)
+    × (run .held ≡ d)
     × (number (endTold d room .answer) ≡ 13)
     × (endTold d room .room ≡ room)
 
 -- ---- In words
 
 -- The same calls on a detector that is kept in words.
-pub record KeptRun : Type 0 where
-  pub numbers : List ℕ
-  pub flags : List ℕ
-  pub words : List ℕ
+abbrev pub inWords : List ℕ → Offer → Told (List ℕ)
+inWords words o = pieceKept words (o .piece) (o .room)
 
-unfoldable pub handedKept : List ℕ → List Offer → KeptRun
-unfolding pieceKept
-handedKept words [] = record { numbers = []; flags = []; words = words }
-handedKept words (o ∷ os) =
-    let t = pieceKept words (o .piece) (o .room) in
-    let later = handedKept (t .words) os in
-    record {
-      numbers = number (t .answer) ∷ later .numbers;
-      flags = flagsGiven (t .answer) (t .room) ++ later .flags;
-      words = later .words;
-    }
+abbrev pub handedKept : List ℕ → List Offer → Run (List ℕ)
+handedKept = inTurn inWords
 
 -- They give the same answers and the same flags, and behind them the words hold the same detector, whatever they held: so each of the above
 -- holds of a kept detector too.
@@ -162,7 +158,7 @@ KeptAlike =
     (words : List ℕ) (offers : List Offer) → stateWords ≤ length words
     → let run = handed (detectorOf words) offers in
     let kept = handedKept words offers in
-    (kept .numbers ≡ run .numbers) × (kept .flags ≡ run .flags) × (detectorOf (kept .words) ≡ run .detector)
+    (kept .numbers ≡ run .numbers) × (kept .flags ≡ run .flags) × (detectorOf (kept .held) ≡ run .held)
 
 -- The first of them, once more, in any words that are lent: as the exported functions have it.
 abbrev pub HoweverCutInWords : Type 0
@@ -171,8 +167,8 @@ HoweverCutInWords =
     → allowed sensitivity ≡ true → length s ≤ mostSamples → InRange s → stateWords ≤ length words
     → Cut (length s) 0 offers s → length s - givenBy (length s) ≤ length room
     → let begun = beginKept (length s) sensitivity words in
-    let run = handedKept (begun .words) offers in
-    let end = endKept (run .words) room in
+    let run = handedKept (begun .held) offers in
+    let end = endKept (run .held) room in
     (number (begun .answer) ≡ 0)
     × Each AcceptedWithRoom (run .numbers)
     × (number (end .answer) ≡ 0)

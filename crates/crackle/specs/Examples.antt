@@ -4,8 +4,9 @@ use mathlib.Core.Path.{_≡_, refl}
 use mathlib.Core.List.{List, [], _∷_}
 use Prim.Native.Nat.{ℕ}
 use Rattle.leaves.specs.Arithmetic.{count}
-use Rattle.crackle.specs.Pieces.{begun, endTold}
-use Rattle.crackle.specs.Cuts.{Offer, Run, handed}
+use Rattle.crackle.specs.declared.Detector.{Detector}
+use Rattle.crackle.specs.Pieces.{begun, pieceTold, endTold}
+use Rattle.crackle.specs.Cuts.{Offer, Run, inTurn, handed}
 
 -- the word of 1
 abbrev pub click : ℕ
@@ -27,8 +28,8 @@ offers =
     ∷ offer (click ∷ 0 ∷ 0 ∷ 0 ∷ 0 ∷ []) five
     ∷ []
 
-unfoldable pub run : Run
-unfolding handed begun count
+unfoldable pub run : Run Detector
+unfolding inTurn pieceTold begun count
 run = handed (begun 9 (count 10)) offers
 
 -- the first four give three flags, and the click is flagged when the sample behind it is in
@@ -41,6 +42,6 @@ unfolding run
 flags-joined = refl
 
 -- and the end gives the ninth, in the first byte of its room
-pub last-flag : endTold (run .detector) five .room ≡ 0 ∷ 9 ∷ 9 ∷ 9 ∷ 9 ∷ []
+pub last-flag : endTold (run .held) five .room ≡ 0 ∷ 9 ∷ 9 ∷ 9 ∷ 9 ∷ []
 unfolding run endTold
 last-flag = refl

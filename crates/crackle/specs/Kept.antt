@@ -15,7 +15,7 @@ use Rattle.recording.specs.declared.Answer.the-variants.{Done, Refused}
 use Rattle.crackle.specs.declared.Detector.{Detector}
 use Rattle.crackle.specs.declared.Announced.{Announced}
 use Rattle.crackle.specs.declared.Announced.the-variants.{Begun, TurnedAway}
-use Rattle.crackle.specs.Pieces.{Told, announced, pieceTold, endTold}
+use Rattle.crackle.specs.Pieces.{announced, Told, told, pieceTold, endTold}
 
 -- ---- The words
 
@@ -57,15 +57,6 @@ detectorOf words =
 
 -- ---- The calls
 
--- how one ends: with its answer, the words, and the room for flags
-pub record Kept : Type 0 where
-  pub answer : Answer
-  pub words : List ℕ
-  pub room : List ℕ
-
-abbrev pub kept : Answer → List ℕ → List ℕ → Kept
-kept a words room = record { answer = a; words = words; room = room }
-
 -- fewer words than belong to a detector: 6, "before all else"
 abbrev pub tooFew : List ℕ → Bool
 tooFew words = ltb (length words) stateWords
@@ -74,26 +65,26 @@ tooFew words = ltb (length words) stateWords
 abbrev pub wordsAfter : Answer → Detector → List ℕ → List ℕ
 wordsAfter a d words = if eqb (number a) 6 then words else sets words 0 (wordsOf d)
 
-abbrev pub keptTold : Told → List ℕ → Kept
-keptTold t words = kept (t .answer) (wordsAfter (t .answer) (t .detector) words) (t .room)
+abbrev pub keptTold : Told Detector → List ℕ → Told (List ℕ)
+keptTold t words = told (t .answer) (wordsAfter (t .answer) (t .held) words) (t .room)
 
 -- an announcement, which has no room for flags; where it is turned away there is no detector, and the words stay
-abbrev pub keptBegun : Announced → List ℕ → Kept
-keptBegun (Begun d) words = kept (Done 0) (sets words 0 (wordsOf d)) []
-keptBegun (TurnedAway why) words = kept (Refused why) words []
+abbrev pub keptBegun : Announced → List ℕ → Told (List ℕ)
+keptBegun (Begun d) words = told (Done 0) (sets words 0 (wordsOf d)) []
+keptBegun (TurnedAway why) words = told (Refused why) words []
 
-unfoldable pub beginKept : ℕ → Float → List ℕ → Kept
+unfoldable pub beginKept : ℕ → Float → List ℕ → Told (List ℕ)
 unfolding announced wordsOf
 beginKept total sensitivity words =
-    if tooFew words then kept (Refused Workspace) words [] else keptBegun (announced total sensitivity) words
+    if tooFew words then told (Refused Workspace) words [] else keptBegun (announced total sensitivity) words
 
 -- a piece
-unfoldable pub pieceKept : List ℕ → List ℕ → List ℕ → Kept
+unfoldable pub pieceKept : List ℕ → List ℕ → List ℕ → Told (List ℕ)
 unfolding pieceTold detectorOf wordsOf
 pieceKept words piece room =
-    if tooFew words then kept (Refused Workspace) words room else keptTold (pieceTold (detectorOf words) piece room) words
+    if tooFew words then told (Refused Workspace) words room else keptTold (pieceTold (detectorOf words) piece room) words
 
 -- the end
-unfoldable pub endKept : List ℕ → List ℕ → Kept
+unfoldable pub endKept : List ℕ → List ℕ → Told (List ℕ)
 unfolding endTold detectorOf wordsOf
-endKept words room = if tooFew words then kept (Refused Workspace) words room else keptTold (endTold (detectorOf words) room) words
+endKept words room = if tooFew words then told (Refused Workspace) words room else keptTold (endTold (detectorOf words) room) words

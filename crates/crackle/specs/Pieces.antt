@@ -112,14 +112,14 @@ flagsDue t n = givenBy (t + n) - givenBy t
 
 -- ---- How a call ends
 
--- with its answer, the detector behind it, and the room for flags
-pub record Told : Type 0 where
+-- with its answer, with what holds the detector behind it (here itself, and in Kept.antt the words that keep it), and with the room for flags
+pub record Told (D : Type 0) : Type 0 where
   pub answer : Answer
-  pub detector : Detector
+  pub held : D
   pub room : List ℕ
 
-abbrev pub told : Answer → Detector → List ℕ → Told
-told a d room = record { answer = a; detector = d; room = room }
+abbrev pub told : {D : Type 0} → Answer → D → List ℕ → Told D
+told a d room = record { answer = a; held = d; room = room }
 
 -- a flag as a byte: 1 where the sample is flagged
 abbrev pub flagByte : Bool → ℕ
@@ -151,13 +151,13 @@ abbrev pub notAll : Detector → Bool
 notAll d = not (d .running) || not (eqb (d .taken) (d .total))
 
 -- what is left of a call once 13 and 6 are tested, by the test of the samples: 7, which stops the run, or these
-abbrev pub unlessOut : Answer → Detector → List ℕ → Told → Told
+abbrev pub unlessOut : Answer → Detector → List ℕ → Told Detector → Told Detector
 unlessOut (Done m) d room rest = rest
 unlessOut (Refused why) d room rest = told (Refused why) (closed d) room
 
 -- A piece. "13, ..; 6, no room for this call's flags; 7 with the place in the whole; tested in that order. 13 and 7 stop the run, 6 takes
 -- nothing in, and all leave the flag room unwritten."
-unfoldable pub pieceTold : Detector → List ℕ → List ℕ → Told
+unfoldable pub pieceTold : Detector → List ℕ → List ℕ → Told Detector
 unfolding readable withPiece flagsBefore
 pieceTold d piece room =
     let n = length piece in
@@ -172,7 +172,7 @@ unfolding flagWith
 lastFlag d = if eqb (d .taken) 0 then [] else flagWith d nought ∷ []
 
 -- The end, with the same refusals but 7.
-unfoldable pub endTold : Detector → List ℕ → Told
+unfoldable pub endTold : Detector → List ℕ → Told Detector
 unfolding lastFlag
 endTold d room =
     let flags = lastFlag d in

@@ -4,7 +4,8 @@ ghost use mathlib.Core.List.{[]};
 ghost use Prim.Native.Nat.{_≤_};
 ghost use lib.ListN.{length};
 ghost use lib.Seq.{sets};
-ghost use Rattle.crackle.specs.Kept.{stateWords, runningWord, wordsOf, detectorOf, wordsAfter, kept, beginKept, pieceKept, endKept};
+ghost use Rattle.crackle.specs.Pieces.{told};
+ghost use Rattle.crackle.specs.Kept.{stateWords, runningWord, wordsOf, detectorOf, wordsAfter, beginKept, pieceKept, endKept};
 use super::Announced;
 use super::Detector;
 use super::Heard;
@@ -77,7 +78,7 @@ fn keep(heard: Heard, words: &mut [u32]) -> Answer
 // Begins a run and keeps its detector: refusals 6, for fewer words than it needs, 2 and 4, in this order,
 // leave the words as they were.
 pub fn begin(total: usize, sensitivity: f32, words: &mut [u32]) -> Answer
-    ensures { λ r. ⌜ kept r (now (words .exit)) [] ≡ beginKept total sensitivity (now (words .entry)) ⌝ }
+    ensures { λ r. ⌜ told r (now (words .exit)) [] ≡ beginKept total sensitivity (now (words .entry)) ⌝ }
 {
     if words.len() < STATE_WORDS {
         return Answer::Refused(Reason::Workspace);
@@ -93,7 +94,7 @@ pub fn begin(total: usize, sensitivity: f32, words: &mut [u32]) -> Answer
 
 // Gives the kept detector a piece: refusal 6 for fewer words than it needs, and else all is as of `piece`.
 pub fn piece(words: &mut [u32], piece: &[u32], flags: &mut [u8]) -> Answer
-    ensures { λ r. ⌜ kept r (now (words .exit)) (now (flags .exit)) ≡ pieceKept (now (words .entry)) (now (piece .entry)) (now (flags .entry)) ⌝ }
+    ensures { λ r. ⌜ told r (now (words .exit)) (now (flags .exit)) ≡ pieceKept (now (words .entry)) (now (piece .entry)) (now (flags .entry)) ⌝ }
 {
     if words.len() < STATE_WORDS {
         return Answer::Refused(Reason::Workspace);
@@ -103,7 +104,7 @@ pub fn piece(words: &mut [u32], piece: &[u32], flags: &mut [u8]) -> Answer
 
 // Ends the run of the kept detector: refusal 6 for fewer words than it needs, and else all is as of `finish`.
 pub fn finish(words: &mut [u32], flags: &mut [u8]) -> Answer
-    ensures { λ r. ⌜ kept r (now (words .exit)) (now (flags .exit)) ≡ endKept (now (words .entry)) (now (flags .entry)) ⌝ }
+    ensures { λ r. ⌜ told r (now (words .exit)) (now (flags .exit)) ≡ endKept (now (words .entry)) (now (flags .entry)) ⌝ }
 {
     if words.len() < STATE_WORDS {
         return Answer::Refused(Reason::Workspace);
