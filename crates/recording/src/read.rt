@@ -7,8 +7,8 @@ use super::Answer;
 use super::Reason;
 use leaves::words::in_range;
 
-// Refusal 7 for words that stand from place `first` on, as far as a place can be told; accepted, with 0, where all
-// are in range.
+// Refusal 7 for words that stand from place `first` on, all at places that 64 bits hold; accepted, with 0, where
+// all are in range.
 pub fn check_words(words: &[u32], first: usize) -> Answer
     requires { ⌜ first + length (now words) < 2 ^ 64 ⌝ }
     ensures { λ r. ⌜ r ≡ readable first (now (words .entry)) ⌝ }
