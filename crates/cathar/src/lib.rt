@@ -342,8 +342,8 @@ pub extern "C" fn cathar_crackle_begin(total: usize, sensitivity: f32, state: &m
     number_of(answer)
 }
 
-// Gives the crackle detector the next samples, and writes the flags that this brings, those of all places up to
-// the last sample but one. The number of the refusal, 13, 6 or 7, or 0; value becomes how many flags were
+// Gives the crackle detector the next samples, and writes the flags that this brings: each sample brings that of the
+// one before it. The number of the refusal, 13, 6 or 7, or 0; value becomes how many flags were
 // written, the place in the whole for 7, and 0 for the other refusals.
 #[no_mangle]
 pub extern "C" fn cathar_crackle_piece(

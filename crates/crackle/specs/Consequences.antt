@@ -17,8 +17,8 @@ use Rattle.crackle.specs.Pieces.{flagsBefore, flagsDue, Told, pieceTold,
 abbrev pub AsManyAsDue : Type 0
 AsManyAsDue = (d : Detector) (piece : List ℕ) → length (flagsBefore d piece) ≡ flagsDue (d .taken) (length piece)
 
--- of a call that ends so, on this detector and with this room: a refusal "leaves the flag room unwritten"; where it is 6 the detector is the
--- same, and by every other one the run stops; accepted, the room is as long, and "room beyond this call's flags is never touched"
+-- Of a call that ends so, on this detector and with this room: "13 and 7 stop the run, 6 takes nothing in, and all leave the flag room
+-- unwritten"; and where it is accepted, the room is as long, and what lies behind this call's flags is not touched.
 pub record Ends (d : Detector) (room : List ℕ) (t : Told Detector) : Type 0 where
   pub unwritten : (why : Reason) → t .answer ≡ Refused why → t .room ≡ room
   pub nothing-in : t .answer ≡ Refused Workspace → t .held ≡ d
@@ -32,7 +32,7 @@ PieceEnds = (d : Detector) (piece room : List ℕ) → Ends d room (pieceTold d 
 abbrev pub EndEnds : Type 0
 EndEnds = (d : Detector) (room : List ℕ) → Ends d room (endTold d room)
 
--- "Refusals": a piece gives 13, 6 or 7, and the end 13 or 6
+-- a piece gives no refusal but 13, 6 and 7, and the end none but 13 and 6
 abbrev pub OnlyTheseRefusals : Type 0
 OnlyTheseRefusals =
     (d : Detector) (piece room : List ℕ)

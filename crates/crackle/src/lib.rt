@@ -81,7 +81,8 @@ pub fn announce(total: usize, sensitivity: f32) -> Announced
     })
 }
 
-// 1 where a place with the detector's magnitude a is flagged, and else 0; so always where the total is small.
+// 1 where a place with the detector's magnitude a is flagged, and else 0; where fewer than 8 samples were
+// announced none is.
 fn flag_byte(detector: Detector, floor: f32, a: f32) -> u8
     ensures { λ r. ⌜ r ≡ flagByte (flagAgainst detector floor a) ⌝ }
 {
