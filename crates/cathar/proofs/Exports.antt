@@ -52,6 +52,7 @@ pub begins : (call : pieces.Told (List ℕ)) (a : Answer) (words : List ℕ) (re
     → crackleTold result [] words [] ≡ begunTold call
 begins call a words result e r = rw (r, ← e) refl
 
-pub hears : (call : pieces.Told (List ℕ)) (a : Answer) (words room : List ℕ) (result given : ℕ) → pieces.told a words room ≡ call → result ≡ number a → given ≡ value a
+pub hears : (call : pieces.Told (List ℕ)) (a : Answer) (words room : List ℕ) (result given : ℕ) → pieces.told a words room ≡ call
+    → result ≡ number a → given ≡ value a
     → crackleTold result (given ∷ []) words room ≡ heardTold call
 hears call a words room result given e r v = rw (r, v, ← e) refl

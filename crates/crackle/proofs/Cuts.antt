@@ -28,7 +28,7 @@ use Rattle.crackle.specs.declared.Detector.{Detector}
 use Rattle.crackle.specs.Pieces.{begun, announced}
 use Rattle.crackle.specs.Pieces.{withPiece, flagsBefore, givenBy, flagsDue, Told, told, flagByte, flagsIn, closed, tooMuch}
 use Rattle.crackle.specs.Pieces.{unlessOut, pieceTold, lastFlag, endTold}
-use Rattle.crackle.specs.Cuts.{wholeFlags, FlagsAreNamed, InRange, Offer, flagsGiven, Run, inTurn, byValue, handed, Each, AcceptedWithRoom, Cut}
+use Rattle.crackle.specs.Cuts.{wholeFlags, FlagsAreNamed, InRange, Offer, flagsGiven, Run, inTurn, byValue, handed, byRoom, Cut}
 use Rattle.crackle.specs.Cuts.{FlagsSoFar, HoweverCut, StoppedByASample, ClosedForGood}
 use Rattle.crackle.proofs.Steps.{due-length}
 use Rattle.crackle.proofs.Places.{flagsLeft, left, length-left, At, piece-gives, end-gives}
@@ -91,9 +91,19 @@ pub first-told : {D : Type 0} (call : D → Offer → Told D) (d : D) (o : Offer
 unfolding inTurn
 first-told call d o os t e = ap (from call os) e
 
+-- the answer of the first
+short-answer : (t : ℕ) (o : Offer) (os : List Offer) → length (o .room) < flagsDue t (length (o .piece)) → byRoom t (o ∷ os) ≡ 6 ∷ byRoom t os
+unfolding byRoom
+short-answer t o os h = rw (lt-ltb _ _ h) refl
+
+with-answer : (t : ℕ) (o : Offer) (os : List Offer) → flagsDue t (length (o .piece)) ≤ length (o .room)
+    → byRoom t (o ∷ os) ≡ 0 ∷ byRoom (t + length (o .piece)) os
+unfolding byRoom
+with-answer t o os h = rw (le-ltb _ _ h) refl
+
 -- what calls that bring in the samples q leave
-record Brought (s : List ℕ) (t : ℕ) (d : Detector) (q : List ℕ) (run : Run Detector) : Type 0 where
-  only-room : Each AcceptedWithRoom (run .numbers)
+record Brought (s : List ℕ) (t : ℕ) (d : Detector) (offers : List Offer) (q : List ℕ) (run : Run Detector) : Type 0 where
+  only-room : run .numbers ≡ byRoom t offers
   stands : At s (t + length q) (run .held)
   gives : run .flags ++ map flagByte (left s (run .held) (t + length q)) ≡ map flagByte (left s d t)
 
@@ -133,12 +143,12 @@ module _ (s : List ℕ) (t : ℕ) (d : Detector) (q rest : List ℕ) (at : At s 
   whole : t + length q ≡ t + n + length more
   whole = omega (arith, ap length parts, length-append (o .piece) more)
 
-  taken-and-more : Brought s (t + n) next more (handed next os) → Brought s t d q (handed d (o ∷ os))
+  taken-and-more : Brought s (t + n) next os more (handed next os) → Brought s t d (o ∷ os) q (handed d (o ∷ os))
   taken-and-more later =
       let run = handed next os in
-      subst (Brought s t d q) (sym (first-told byValue d o os _ told-so))
+      subst (Brought s t d (o ∷ os) q) (sym (first-told byValue d o os _ told-so))
       (record {
-        only-room = (inl refl, later .only-room);
+        only-room = ap (λ (ks : List ℕ). 0 ∷ ks) (later .only-room) ∙ sym (with-answer t o os enough);
         stands = rw whole (later .stands);
         gives =
             ap (λ (k : ℕ). take (flagsDue t n) (flagsIn (o .room) fs) ++ run .flags ++ map flagByte (left s (run .held) k)) whole
@@ -149,24 +159,24 @@ module _ (s : List ℕ) (t : ℕ) (d : Detector) (q rest : List ℕ) (at : At s 
             ∙ ap (map flagByte) (gave .1);
       })
 
-none-bring : (s : List ℕ) (t : ℕ) (d : Detector) → At s t d → Brought s t d [] (handed d [])
-unfolding inTurn
+none-bring : (s : List ℕ) (t : ℕ) (d : Detector) → At s t d → Brought s t d [] [] (handed d [])
+unfolding inTurn byRoom
 none-bring s t d at =
     record {
-      only-room = tt;
+      only-room = refl;
       stands = subst (λ (k : ℕ). At s k d) (sym (add-zero t)) at;
       gives = ap (λ (k : ℕ). map flagByte (left s d k)) (add-zero t);
     }
 
 calls-bring : (s : List ℕ) (offers : List Offer) (t : ℕ) (d : Detector) (q rest : List ℕ) → At s t d → drop t s ≡ q ++ rest
-    → readable t q ≡ Done 0 → Cut (length s) t offers q → Brought s t d q (handed d offers)
+    → readable t q ≡ Done 0 → Cut (length s) t offers q → Brought s t d offers q (handed d offers)
 unfolding inTurn Cut
 calls-bring s [] t d q rest at e good cut = rw cut (none-bring s t d at)
 calls-bring s (o ∷ os) t d q rest at e good (inl (short, fit, cut)) =
     let told-so = no-room s t d (o .piece) (o .room) at fit short in
     let later = calls-bring s os t d q rest at e good cut in
-    subst (Brought s t d q) (sym (first-told byValue d o os _ told-so))
-    (record { only-room = (inr refl, later .only-room); stands = later .stands; gives = later .gives })
+    subst (Brought s t d (o ∷ os) q) (sym (first-told byValue d o os _ told-so))
+    (record { only-room = ap (λ (ks : List ℕ). 6 ∷ ks) (later .only-room) ∙ sym (short-answer t o os short); stands = later .stands; gives = later .gives })
 calls-bring s (o ∷ os) t d q rest at e good (inr (enough, (more, parts, cut))) =
     taken-and-more s t d q rest at e good o os more enough parts
     (calls-bring s os (t + length (o .piece)) (withPiece d (o .piece)) more rest (gave s t d q rest at e good o os more enough parts .0)
@@ -199,7 +209,7 @@ module _ (sensitivity : Float) (s : List ℕ) where
     abbrev run : Run Detector
     run = handed first offers
 
-    brought : Brought s 0 first p run
+    brought : Brought s 0 first offers p run
     brought = calls-bring s offers 0 first p rest begun-there parts good cut
 
     run-stands : At s (length p) (run .held)
@@ -248,13 +258,15 @@ flags-so-far sensitivity p rest offers good cut =
 
 -- ---- The end
 
+end-due : (s : List ℕ) (d : Detector) → At s (length s) d → length (lastFlag d) ≡ length s - givenBy (length s)
+end-due s d at = ap length (end-gives s d at) ∙ length-left s d _ _
+
 end-told : (s : List ℕ) (d : Detector) (room : List ℕ) → At s (length s) d → length s - givenBy (length s) ≤ length room
     → endTold d room ≡ told (Done (length (lastFlag d))) (closed d) (flagsIn room (lastFlag d))
 unfolding endTold
 end-told s d room at enough =
-    let due : length (lastFlag d) ≡ length s - givenBy (length s) = ap length (end-gives s d at) ∙ length-left s d _ _ in
     let all : eqb (d .taken) (d .total) ≡ true = eq-eqb _ _ (at .taken-is ∙ sym (at .total-is)) in
-    let less : ltb (length room) (length (lastFlag d)) ≡ false = rw due (le-ltb _ _ enough) in
+    let less : ltb (length room) (length (lastFlag d)) ≡ false = rw (end-due s d at) (le-ltb _ _ enough) in
     rw (at .goes-on, all, less) refl
 
 pub however-cut : HoweverCut
@@ -278,15 +290,12 @@ however-cut sensitivity s offers room may few good cut enough = (
     at : At s (length s) d
     at = run-stands sensitivity s s [] offers whole good cut
 
-    due : length (lastFlag d) ≡ length s - givenBy (length s)
-    due = ap length (end-gives s d at) ∙ length-left s d _ _
-
     ends : endTold d room ≡ told (Done (length (lastFlag d))) (closed d) (flagsIn room (lastFlag d))
     ends = end-told s d room at enough
 
     given : run .flags ++ take (length (lastFlag d)) (flagsIn room (lastFlag d)) ≡ map flagByte (wholeFlags sensitivity s)
     given =
-        ap (λ (l : List ℕ). run .flags ++ l) (flags-there room (lastFlag d) (length (lastFlag d)) refl (rw due enough))
+        ap (λ (l : List ℕ). run .flags ++ l) (flags-there room (lastFlag d) (length (lastFlag d)) refl (rw (end-due s d at) enough))
         ∙ ap (λ (l : List Bool). run .flags ++ map flagByte l) (end-gives s d at)
         ∙ run-gives sensitivity s s [] offers whole good cut
 
@@ -320,15 +329,15 @@ unfolding pieceTold
 closed-piece d piece room h = subst (λ (e : Detector). pieceTold e piece room ≡ told (Refused Pieces) e room) (closed-is d h) refl
 
 -- no call gives anything
-abbrev Over : Detector → Run Detector → Type 0
-Over d run = Each (λ k. k ≡ 13) (run .numbers) × (run .flags ≡ []) × (run .held ≡ d)
+abbrev Over : Detector → List Offer → Run Detector → Type 0
+Over d offers run = (run .numbers ≡ replicate (length offers) 13) × (run .flags ≡ []) × (run .held ≡ d)
 
-closed-calls : (d : Detector) (offers : List Offer) → d .running ≡ false → Over d (handed d offers)
+closed-calls : (d : Detector) (offers : List Offer) → d .running ≡ false → Over d offers (handed d offers)
 unfolding inTurn
-closed-calls d [] h = (tt, refl, refl)
+closed-calls d [] h = (refl, refl, refl)
 closed-calls d (o ∷ os) h =
     let later = closed-calls d os h in
-    subst (Over d) (sym (first-told byValue d o os _ (closed-piece d (o .piece) (o .room) h))) ((refl, later .0), later .1, later .2)
+    subst (Over d (o ∷ os)) (sym (first-told byValue d o os _ (closed-piece d (o .piece) (o .room) h))) (ap (λ (ks : List ℕ). 13 ∷ ks) (later .0), later .1, later .2)
 
 pub closed-for-good : ClosedForGood
 closed-for-good d offers room h =

@@ -16,8 +16,8 @@ use Rattle.recording.specs.declared.Answer.the-variants.{Done, Refused}
 use Rattle.crackle.specs.declared.Detector.{Detector}
 use Rattle.crackle.specs.declared.Announced.{Announced}
 use Rattle.crackle.specs.declared.Announced.the-variants.{Begun, TurnedAway}
-use Rattle.crackle.specs.Pieces.{announced, Told, told, pieceTold, endTold}
-use Rattle.crackle.specs.Kept.{stateWords, runningWord, wordsOf, detectorOf, wordsAfter, keptTold, beginKept, pieceKept, endKept}
+use Rattle.crackle.specs.Pieces.{announced, Told, told}
+use Rattle.crackle.specs.Kept.{stateWords, runningWord, wordsOf, detectorOf, wordsAfter, keptTold, beginKept, keptBy}
 
 -- ---- The words
 
@@ -74,25 +74,13 @@ keeps : (t : Told Detector) (a r : Answer) (e : Detector) (words after room : Li
     → told r after room ≡ keptTold t words
 keeps t a r e words after room et both = rw (both .0, both .1, ← et) refl
 
-module _ (words room : List ℕ) where
-  pub piece-few : (piece : List ℕ) → length words < stateWords → told (Refused Workspace) words room ≡ pieceKept words piece room
-  unfolding pieceKept
-  piece-few piece h = rw (lt-ltb _ _ h) refl
+module _ (call : Detector → List ℕ → Told Detector) (words room : List ℕ) where
+  pub kept-few : length words < stateWords → told (Refused Workspace) words room ≡ keptBy call words room
+  unfolding keptBy
+  kept-few h = rw (lt-ltb _ _ h) refl
 
-  pub end-few : length words < stateWords → told (Refused Workspace) words room ≡ endKept words room
-  unfolding endKept
-  end-few h = rw (lt-ltb _ _ h) refl
-
-  module _ (enough : stateWords ≤ length words) (d e : Detector) (a r : Answer) (after left : List ℕ) (ed : d ≡ detectorOf words)
-      (ending : (r ≡ a) × (after ≡ wordsAfter a e words)) where
-    pub piece-so : (piece : List ℕ) → told a e left ≡ pieceTold d piece room → told r after left ≡ pieceKept words piece room
-    unfolding pieceKept
-    piece-so piece et =
-        keeps _ a r e words after left et ending
-        ∙ ap (λ (f : Detector). keptTold (pieceTold f piece room) words) ed
-        ∙ rw (le-ltb _ _ enough) refl
-
-    pub end-so : told a e left ≡ endTold d room → told r after left ≡ endKept words room
-    unfolding endKept
-    end-so et =
-        keeps _ a r e words after left et ending ∙ ap (λ (f : Detector). keptTold (endTold f room) words) ed ∙ rw (le-ltb _ _ enough) refl
+  pub kept-so : (d e : Detector) (a r : Answer) (after left : List ℕ) → stateWords ≤ length words → d ≡ detectorOf words
+      → (r ≡ a) × (after ≡ wordsAfter a e words) → told a e left ≡ call d room → told r after left ≡ keptBy call words room
+  unfolding keptBy
+  kept-so d e a r after left enough ed ending et =
+      keeps _ a r e words after left et ending ∙ ap (λ (f : Detector). keptTold (call f room) words) ed ∙ rw (le-ltb _ _ enough) refl

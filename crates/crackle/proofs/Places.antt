@@ -20,7 +20,7 @@ use Rattle.redraw.specs.Whole.{sample}
 use Rattle.decrackle.specs.Decrackle.{leastSamples, detector, floorAfter, flagged, flagsFrom}
 use Rattle.decrackle.proofs.Ends.{end-detector}
 use Rattle.crackle.specs.declared.Detector.{Detector}
-use Rattle.crackle.specs.Pieces.{floorWith, flagAgainst, flagWith, valueBefore, flagBefore, withSample}
+use Rattle.crackle.specs.Pieces.{floorWith, flagWith, valueBefore, flagBefore, withSample}
 use Rattle.crackle.specs.Pieces.{withPiece, flagsBefore, givenBy}
 use Rattle.crackle.specs.Pieces.{lastFlag}
 
@@ -35,7 +35,7 @@ flagsLeft s d i k = if ltb (d .total) leastSamples then replicate k false else f
 first-judged : (s : List ℕ) (d e : Detector) (i k : ℕ) (v : Float) → v ≡ detector s i
     → e .total ≡ d .total → e .factor ≡ d .factor → e .floor ≡ floorWith d v
     → flagsLeft s d i (suc k) ≡ flagWith d v ∷ flagsLeft s e (i + 1) k
-unfolding flagsLeft flagWith flagAgainst floorWith flagsFrom
+unfolding flagsLeft flagWith floorWith flagsFrom
 first-judged s d e i k v ev et ef el = rw (et, ef, el, ev) (go (ltb (d .total) leastSamples))
   where
     a : Float

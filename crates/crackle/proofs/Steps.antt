@@ -24,7 +24,8 @@ use Rattle.decrackle.specs.Decrackle.{factorFor, fromMiddle, openingFloor, floo
 use Rattle.decrackle.proofs.Flags.{millionth}
 use Rattle.crackle.specs.declared.Detector.{Detector}
 use Rattle.crackle.specs.declared.Announced.the-variants.{Begun, TurnedAway}
-use Rattle.crackle.specs.Pieces.{begun, announced, floorWith, flagAgainst, flagWith, valueBefore, flagBefore, withSample}
+use Rattle.crackle.specs.Inner.{flagAgainst}
+use Rattle.crackle.specs.Pieces.{begun, announced, floorWith, flagWith, valueBefore, flagBefore, withSample}
 use Rattle.crackle.specs.Pieces.{withPiece, flagsBefore, flagsDue, told, flagByte, flagsIn, closed, tooMuch, notAll, pieceTold}
 use Rattle.crackle.specs.Pieces.{lastFlag, endTold}
 
@@ -69,7 +70,7 @@ module _ (d : Detector) where
 
   pub judged-so : (value a floor : Float) (flag : ℕ) → a ≡ magnitude value → floor ≡ floorAfter (d .floor) a → flag ≡ flagByte (flagAgainst d floor a)
       → (flag ≡ flagByte (flagWith d value)) × (floor ≡ floorWith d value)
-  unfolding flagWith floorWith
+  unfolding flagWith floorWith flagAgainst
   judged-so value a floor flag ea ef e = (rw (e, ef, ea) refl, rw (ef, ea) refl)
 
   pub value-first : (next : Float) → d .taken ≡ 1 → ofBits binary32 0 ≡ valueBefore d next

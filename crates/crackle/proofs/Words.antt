@@ -26,8 +26,8 @@ use Rattle.crackle.specs.declared.Detector.{Detector}
 use Rattle.crackle.specs.declared.Announced.the-variants.{Begun}
 use Rattle.crackle.specs.Pieces.{begun, announced, floorWith, valueBefore, withSample, withPiece}
 use Rattle.crackle.specs.Pieces.{flagByte, Told, told, closed, pieceTold, endTold}
-use Rattle.crackle.specs.Kept.{stateWords, wordsOf, detectorOf, wordsAfter, keptTold, beginKept, pieceKept, endKept}
-use Rattle.crackle.specs.Cuts.{wholeFlags, Offer, flagsGiven, Run, handed, Each, AcceptedWithRoom}
+use Rattle.crackle.specs.Kept.{stateWords, wordsOf, detectorOf, wordsAfter, keptTold, beginKept, keptBy, pieceKept, endKept}
+use Rattle.crackle.specs.Cuts.{wholeFlags, Offer, flagsGiven, Run, handed, byRoom}
 use Rattle.crackle.specs.Cuts.{inTurn, byValue, inWords, handedKept, KeptAlike, HoweverCutInWords}
 use Rattle.crackle.proofs.Consequences.{piece-by, end-by}
 use Rattle.crackle.proofs.Cuts.{first-told, however-cut}
@@ -111,6 +111,12 @@ told-words words t h (inr (other, f)) = rw other (written (t .held) words f h, l
 
 -- ---- Calls in turn
 
+-- a call on words that are enough
+kept-told : (call : Detector → List ℕ → Told Detector) (words room : List ℕ) → stateWords ≤ length words
+    → keptBy call words room ≡ keptTold (call (detectorOf words) room) words
+unfolding keptBy
+kept-told call words room h = rw (le-ltb (length words) stateWords h) refl
+
 -- the calls on words and the calls by value
 record Alike (words : List ℕ) (d : Detector) (offers : List Offer) : Type 0 where
   numbers-are : handedKept words offers .numbers ≡ handed d offers .numbers
@@ -127,8 +133,7 @@ module _ (words : List ℕ) (o : Offer) (os : List Offer) (h : stateWords ≤ le
   next = wordsAfter (t .answer) (t .held) words
 
   told-so : pieceKept words (o .piece) (o .room) ≡ keptTold t words
-  unfolding pieceKept
-  told-so = rw (le-ltb (length words) stateWords h) refl
+  told-so = kept-told (λ d. pieceTold d (o .piece)) words (o .room) h
 
   leaves : (detectorOf next ≡ t .held) × (length next ≡ length words)
   leaves = told-words words t h (piece-left (detectorOf words) (o .piece) (o .room) (read-fits words))
@@ -186,10 +191,6 @@ begun-told : (total : ℕ) (sensitivity : Float) (words : List ℕ) → stateWor
 unfolding beginKept
 begun-told total sensitivity words h e = rw (le-ltb (length words) stateWords h, e) refl
 
-end-told : (d : Detector) (words room : List ℕ) → stateWords ≤ length words → detectorOf words ≡ d → endKept words room ≡ keptTold (endTold d room) words
-unfolding endKept
-end-told d words room h e = rw (le-ltb (length words) stateWords h) (ap (λ (f : Detector). keptTold (endTold f room) words) e)
-
 pub however-cut-in-words : HoweverCutInWords
 however-cut-in-words sensitivity s offers words room may few good enough-words cut enough =
     rw (begun-so, end-so, run-alike .flags-are, run-alike .numbers-are) (refl, cuts .1, cuts .2, cuts .3)
@@ -198,7 +199,7 @@ however-cut-in-words sensitivity s offers words room may few good enough-words c
     first = begun (length s) sensitivity
 
     cuts : (announced (length s) sensitivity ≡ Begun first)
-        × Each AcceptedWithRoom (handed first offers .numbers)
+        × (handed first offers .numbers ≡ byRoom 0 offers)
         × (number (endTold (handed first offers .held) room .answer) ≡ 0)
         × (handed first offers .flags ++ flagsGiven (endTold (handed first offers .held) room .answer) (endTold (handed first offers .held) room .room)
         ≡ map flagByte (wholeFlags sensitivity s))
@@ -223,4 +224,6 @@ however-cut-in-words sensitivity s offers words room may few good enough-words c
     last = handedKept start offers .held
 
     end-so : endKept last room ≡ keptTold (endTold (handed first offers .held) room) last
-    end-so = end-told (handed first offers .held) last room (omega (arith, enough-words, many, run-alike .as-many)) (run-alike .holds)
+    end-so =
+        kept-told endTold last room (omega (arith, enough-words, many, run-alike .as-many))
+        ∙ ap (λ (f : Detector). keptTold (endTold f room) last) (run-alike .holds)

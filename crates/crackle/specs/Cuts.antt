@@ -72,14 +72,12 @@ byValue d o = pieceTold d (o .piece) (o .room)
 abbrev pub handed : Detector → List Offer → Run Detector
 handed = inTurn byValue
 
--- what holds of the number of each answer
-abbrev pub Each : (ℕ → Type 0) → List ℕ → Type 0
-Each P [] = Unit {0}
-Each P (k ∷ ks) = P k × Each P ks
-
--- a call that the room alone can turn away: 0, or 6, "no room for this call's flags"
-abbrev pub AcceptedWithRoom : ℕ → Type 0
-AcceptedWithRoom k = (k ≡ 0) ⊎ (k ≡ 6)
+-- what calls answer of which none stops the run, where t samples are in: 6, "no room for this call's flags", where the room is short, and else 0
+unfoldable pub byRoom : ℕ → List Offer → List ℕ
+byRoom t [] = []
+byRoom t (o ∷ os) =
+    let n = length (o .piece) in
+    if ltb (length (o .room)) (flagsDue t n) then 6 ∷ byRoom t os else 0 ∷ byRoom (t + n) os
 
 -- ---- A cut
 
@@ -95,14 +93,14 @@ Cut total t (o ∷ os) q =
 -- ---- The statements
 
 -- "Flags come one sample late": whatever is still to come, when the samples p of a recording are in, by calls however cut, the flags of
--- all its places but the last one of these have been given, and no call was refused but for its room
+-- all its places but the last one of these have been given, and no call was refused but where its room was short
 abbrev pub FlagsSoFar : Type 0
 FlagsSoFar =
     (sensitivity : Float) (p rest : List ℕ) (offers : List Offer)
     → let s = p ++ rest in
     InRange p → Cut (length s) 0 offers p
     → let run = handed (begun (length s) sensitivity) offers in
-    Each AcceptedWithRoom (run .numbers) × (run .flags ≡ map flagByte (take (givenBy (length p)) (wholeFlags sensitivity s)))
+    (run .numbers ≡ byRoom 0 offers) × (run .flags ≡ map flagByte (take (givenBy (length p)) (wholeFlags sensitivity s)))
 
 -- "However an in-range recording is cut, the flags joined together equal those of document 01 on the whole", with refusals for lack of room
 -- between, and "the last at the end"
@@ -114,7 +112,7 @@ HoweverCut =
     → let run = handed (begun (length s) sensitivity) offers in
     let end = endTold (run .held) room in
     (announced (length s) sensitivity ≡ Begun (begun (length s) sensitivity))
-    × Each AcceptedWithRoom (run .numbers)
+    × (run .numbers ≡ byRoom 0 offers)
     × (number (end .answer) ≡ 0)
     × (run .flags ++ flagsGiven (end .answer) (end .room) ≡ map flagByte (wholeFlags sensitivity s))
 
@@ -127,7 +125,7 @@ StoppedByASample =
     InRange p → Cut (length s) 0 offers p
     → readable (length p) piece ≡ Refused (Read place) → flagsDue (length p) (length piece) ≤ length room
     → let run = handed (begun (length s) sensitivity) offers in
-    Each AcceptedWithRoom (run .numbers)
+    (run .numbers ≡ byRoom 0 offers)
     × (run .flags ≡ map flagByte (take (givenBy (length p)) (wholeFlags sensitivity s)))
     × (pieceTold (run .held) piece room ≡ told (Refused (Read place)) (closed (run .held)) room)
 
@@ -136,7 +134,7 @@ abbrev pub ClosedForGood : Type 0
 ClosedForGood =
     (d : Detector) (offers : List Offer) (room : List ℕ) → d .running ≡ false
     → let run = handed d offers in
-    Each (λ k. k ≡ 13) (run .numbers)
+    (run .numbers ≡ replicate (length offers) 13)
     × (run .flags ≡ [])
     × (run .held ≡ d)
     × (number (endTold d room .answer) ≡ 13)
@@ -170,6 +168,6 @@ HoweverCutInWords =
     let run = handedKept (begun .held) offers in
     let end = endKept (run .held) room in
     (number (begun .answer) ≡ 0)
-    × Each AcceptedWithRoom (run .numbers)
+    × (run .numbers ≡ byRoom 0 offers)
     × (number (end .answer) ≡ 0)
     × (run .flags ++ flagsGiven (end .answer) (end .room) ≡ map flagByte (wholeFlags sensitivity s))

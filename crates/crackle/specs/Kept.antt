@@ -78,13 +78,14 @@ unfolding announced wordsOf
 beginKept total sensitivity words =
     if tooFew words then told (Refused Workspace) words [] else keptBegun (announced total sensitivity) words
 
--- a piece
-unfoldable pub pieceKept : List ℕ → List ℕ → List ℕ → Told (List ℕ)
-unfolding pieceTold detectorOf wordsOf
-pieceKept words piece room =
-    if tooFew words then told (Refused Workspace) words room else keptTold (pieceTold (detectorOf words) piece room) words
+-- any other call on the detector of the words, with this room
+unfoldable pub keptBy : (Detector → List ℕ → Told Detector) → List ℕ → List ℕ → Told (List ℕ)
+unfolding detectorOf wordsOf
+keptBy call words room = if tooFew words then told (Refused Workspace) words room else keptTold (call (detectorOf words) room) words
 
--- the end
-unfoldable pub endKept : List ℕ → List ℕ → Told (List ℕ)
-unfolding endTold detectorOf wordsOf
-endKept words room = if tooFew words then told (Refused Workspace) words room else keptTold (endTold (detectorOf words) room) words
+-- a piece, and the end
+abbrev pub pieceKept : List ℕ → List ℕ → List ℕ → Told (List ℕ)
+pieceKept words piece room = keptBy (λ d. pieceTold d piece) words room
+
+abbrev pub endKept : List ℕ → List ℕ → Told (List ℕ)
+endKept words room = keptBy endTold words room

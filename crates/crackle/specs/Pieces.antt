@@ -53,14 +53,9 @@ unfolding floorAfter
 floorWith d value = floorAfter (d .floor) (magnitude value)
 
 -- "A total under 8 leaves every flag unset."
-unfoldable pub flagAgainst : Detector → Float → Float → Bool
-unfolding flagged
-flagAgainst d floor a = if ltb (d .total) leastSamples then false else flagged (d .factor) floor a
-
--- whether the place with this value is flagged
 unfoldable pub flagWith : Detector → Float → Bool
-unfolding floorWith flagAgainst
-flagWith d value = flagAgainst d (floorWith d value) (magnitude value)
+unfolding floorWith flagged
+flagWith d value = if ltb (d .total) leastSamples then false else flagged (d .factor) (floorWith d value) (magnitude value)
 
 -- ---- A sample: "flags come one sample late"
 

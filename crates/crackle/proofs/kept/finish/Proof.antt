@@ -1,11 +1,11 @@
 -- `crackle::kept::finish` meets its contract: what the call by value leaves is kept. Assumes nothing.
 use borrow.Author.Needs.{needs}
-use Rattle.crackle.proofs.Keeping.{end-few, end-so}
+use Rattle.crackle.proofs.Keeping.{kept-few, kept-so}
 use Rattle.crackle.proofs.kept.finish.Statement.{statement}
 use Rattle.crackle.proofs.kept.finish.Tie as tie
 
 returns : tie.Need-returns
-returns c = end-few _ _ (c .if1 .taken)
+returns c = kept-few _ _ _ (c .if1 .taken)
 
 read-detector-requires : tie.Need-read-detector-requires
 read-detector-requires c κs = search needs
@@ -27,7 +27,7 @@ returns-2 c =
     let keeping = c .before .before in
     let called = keeping .before .before .before .before in
     let read = called .before .before in
-    end-so _ _ (read .before .before .if1 .left) _ _ _ _ _ _ (read .read-detector .ensures) (keeping .keep .ensures) (called .finish .ensures)
+    kept-so _ _ _ _ _ _ _ _ _ (read .before .before .if1 .left) (read .read-detector .ensures) (keeping .keep .ensures) (called .finish .ensures)
 
 pub finish-spec : {M : Type 1} → statement M
 finish-spec =
