@@ -1,7 +1,8 @@
 //! Crackle detection as the sound arrives, as request P4 of document 02 has it, in the words of a state. Which word
 //! holds what, and what becomes of a NaN there, are the library's own (`crates/crackle/src/kept.rt`); all else is
-//! written from the request's text, and to be seen right rather than to be fast, so that the library can be held to it. What the flags have to be in all is not worked out here: that is document 01's on the
-//! whole recording (`whole.rs`), and what the original Rust rewrites.
+//! written from the request's text, and to be seen right rather than to be fast, so that the library can be held to it.
+//! What the flags have to be in all is not worked out here: that is document 01's on the whole recording (`whole.rs`),
+//! and what the original Rust rewrites.
 use crate::float::word32;
 use crate::recording::{first_of, in_range, Answer, MOST_SAMPLES};
 use crate::whole::{curve, stretches};
