@@ -1,9 +1,10 @@
 // Runs rows of document 01's "Sums done by hand" on the compiled code and writes what each leaves: the
 // number and the value of the answer and used, then samples and journal in hexadecimal digits and the
 // marks and the counts of the blocks in decimal ones; and of a gap the order of its model. And *quiet* once
-// more by a list of gaps.
+// more by a list of gaps, and a steady tone that decrackle redraws from the old start and leaves alone from the mean.
 ghost use Prim.Native.Nat.{_≤_};
 ghost use lib.ListN.{length};
+use decrackle::Start;
 use inpaint::GapAnswer;
 use inpaint::gap::inpaint_gap;
 use leaves::words::word_of_f32;
@@ -14,10 +15,12 @@ use recording::open::open;
 use recording::undo::undo;
 use splice::inpaint_gaps;
 
-// 2^-30, which stands around the gap of *quiet*, and the plain numbers 1 and 4096.
+// 2^-30, which stands around the gap of *quiet*, and the plain numbers 1, -1 and 4096.
 const SOFT: u32 = 0x3080_0000;
 
 const ONE: u32 = 0x3f80_0000;
+
+const MINUS_ONE: u32 = 0xbf80_0000;
 
 const LAST: u32 = 0x4580_0000;
 
@@ -246,34 +249,52 @@ fn quiet_in_turn() {
     );
 }
 
-// 9 samples of which only place 4 is 1, decrackled at sensitivity 10.
-fn crackle() {
-    let mut samples = [0u32, 0, 0, 0, ONE, 0, 0, 0, 0];
-    let mut marks = [7u8; 9];
+// Opens a recording of at most 10 samples, decrackles it, and shows what is left and the workspace.
+fn decrackle_and_show(
+    title: &[u8],
+    samples: &mut [u32],
+    marks: &mut [u8],
+    sensitivity: f32,
+    start: Start,
+) {
     let mut counts = [LEFT_COUNT; 1];
     let mut journal = [LEFT; 12];
     let mut used: usize = 99;
     let mut work = [LEFT; 20];
-    open(&samples, &mut marks, &mut counts, &mut journal, &mut used);
+    open(samples, marks, &mut counts, &mut journal, &mut used);
     let answer = decrackle::decrackle(
-        &mut samples,
-        &mut marks,
+        samples,
+        marks,
         &mut counts,
         &mut journal,
         &mut used,
-        10.0,
+        sensitivity,
+        start,
         &mut work,
     );
-    show(
-        b"decrackle at 10",
-        answer,
-        &samples,
-        &marks,
-        &counts,
-        &journal,
-        used,
-    );
+    show(title, answer, samples, marks, &counts, &journal, used);
     print_words(b"  workspace", &work, 1);
+}
+
+// 9 samples of which only place 4 is 1, decrackled at sensitivity 10 from the old start.
+fn crackle() {
+    let mut samples = [0u32, 0, 0, 0, ONE, 0, 0, 0, 0];
+    let mut marks = [7u8; 9];
+    decrackle_and_show(
+        b"decrackle at 10",
+        &mut samples,
+        &mut marks,
+        10.0,
+        Start::Old,
+    );
+}
+
+// 8 samples of a steady tone, decrackled at sensitivity 5. No shorter one can be redrawn, since under 8 samples
+// nothing is named.
+fn tone(title: &[u8], start: Start) {
+    let mut samples = [0u32, ONE, 0, MINUS_ONE, 0, ONE, 0, MINUS_ONE];
+    let mut marks = [7u8; 8];
+    decrackle_and_show(title, &mut samples, &mut marks, 5.0, start);
 }
 
 // How many samples are the number of their place.
@@ -392,6 +413,9 @@ fn main() {
     quiet_in_turn();
     io::write_all(1, b"Nine samples, one of them 1\n");
     crackle();
+    io::write_all(1, b"A steady tone of eight samples\n");
+    tone(b"decrackle at 5 from the old start", Start::Old);
+    tone(b"decrackle at 5 from the mean", Start::Mean);
     io::write_all(1, b"Long gaps\n");
     long_gaps();
 }

@@ -38,7 +38,8 @@ use Rattle.declip.specs.Declip as declips
 use Rattle.decrackle.specs.Decrackle as decrackles
 use Rattle.dequant.specs.Dequant as dequants
 use Rattle.declip.specs.Declip.{declipped, declipRepair, declipPlan}
-use Rattle.decrackle.specs.Decrackle.{decrackled, decrackleRepair, decracklePlan}
+use Rattle.decrackle.specs.declared.Start.{Start}
+use Rattle.decrackle.specs.Decrackle.{markFor, decrackled, decrackleRepair, decracklePlan}
 use Rattle.dequant.specs.Dequant.{dequantized, dequantizeRepair, dequantizePlan, cosparseRepair, cosparsePlan}
 use Rattle.dequant.specs.Dequant.{cosparse as sparse}
 use Rattle.declip.proofs.Consequences.{declip-lawful}
@@ -69,10 +70,10 @@ declip-did : (threshold : Float) (room : ℕ) (s : State)
 unfolding declipRepair single.did
 declip-did threshold room s = refl
 
-decrackle-did : (sensitivity : Float) (room : ℕ) (s : State)
-    → decrackleRepair sensitivity room s ≡ single.did (single.repair (decracklePlan sensitivity room)) s
+decrackle-did : (start : Start) (sensitivity : Float) (room : ℕ) (s : State)
+    → decrackleRepair start sensitivity room s ≡ single.did (single.repair (decracklePlan start sensitivity room)) s
 unfolding decrackleRepair single.did
-decrackle-did sensitivity room s = refl
+decrackle-did start sensitivity room s = refl
 
 dequantize-did : (bits : ℕ) (strength : Float) (room : ℕ) (s : State)
     → dequantizeRepair bits strength room s ≡ single.did (single.repair (dequantizePlan bits strength room)) s
@@ -109,7 +110,7 @@ call-is-its-rules (gap start len passes work) s = alone _ s _ (gap-did start len
 call-is-its-rules (gaps starts lens passes work lists) s = gaps-rules starts lens passes work lists s
 call-is-its-rules (scan rate millis work) s = scan-rules rate millis work s
 call-is-its-rules (declip threshold work) s = alone _ s _ (declip-did threshold (length work) s)
-call-is-its-rules (decrackle sensitivity work) s = alone _ s _ (decrackle-did sensitivity (length work) s)
+call-is-its-rules (decrackle start sensitivity work) s = alone _ s _ (decrackle-did start sensitivity (length work) s)
 call-is-its-rules (dequantize bits strength work) s = alone _ s _ (dequantize-did bits strength (length work) s)
 call-is-its-rules (cosparse bits strength iterations work) s = alone _ s _ (cosparse-did bits strength iterations (length work) s)
 call-is-its-rules undo s = alone _ s _ (undo-did s)
@@ -122,7 +123,7 @@ own (gap start len passes work) s = number (gapRepair start len passes (length w
 own (gaps starts lens passes work lists) s = number (gapsRepair starts lens passes work lists s .answer)
 own (scan rate millis work) s = number (scannable rate millis s)
 own (declip threshold work) s = number (declipRepair threshold (length work) s .answer)
-own (decrackle sensitivity work) s = number (decrackleRepair sensitivity (length work) s .answer)
+own (decrackle start sensitivity work) s = number (decrackleRepair start sensitivity (length work) s .answer)
 own (dequantize bits strength work) s = number (dequantizeRepair bits strength (length work) s .answer)
 own (cosparse bits strength iterations work) s = number (cosparseRepair bits strength iterations (length work) s .answer)
 own undo s = number (undone s .answer)
@@ -134,8 +135,8 @@ by-lines (gap start len passes work) s = gap-number start len passes (length wor
 by-lines (gaps starts lens passes work lists) s = gaps-number starts lens passes work lists s
 by-lines (scan rate millis work) s = scan-number rate millis s
 by-lines (declip threshold work) s = whole-number (declips.allowed threshold) (length work) marks.cubicDeclip (declipped threshold) s
-by-lines (decrackle sensitivity work) s =
-    whole-number (decrackles.allowed sensitivity) (length work) marks.decrackle (decrackled sensitivity) s
+by-lines (decrackle start sensitivity work) s =
+    whole-number (decrackles.allowed sensitivity) (length work) (markFor start) (decrackled start sensitivity) s
 by-lines (dequantize bits strength work) s =
     whole-number (dequants.allowed strength) (length work) marks.dequantize (dequantized bits strength) s
 by-lines (cosparse bits strength iterations work) s =
@@ -177,7 +178,7 @@ given-exactly-when (gap start len passes work) s = no-runs _ _ (by-lines (gap st
 given-exactly-when (gaps starts lens passes work lists) s = no-runs _ _ (by-lines (gaps starts lens passes work lists) s)
 given-exactly-when (scan rate millis work) s = scan-given rate millis work s
 given-exactly-when (declip threshold work) s = no-runs _ _ (by-lines (declip threshold work) s)
-given-exactly-when (decrackle sensitivity work) s = no-runs _ _ (by-lines (decrackle sensitivity work) s)
+given-exactly-when (decrackle start sensitivity work) s = no-runs _ _ (by-lines (decrackle start sensitivity work) s)
 given-exactly-when (dequantize bits strength work) s = no-runs _ _ (by-lines (dequantize bits strength work) s)
 given-exactly-when (cosparse bits strength iterations work) s = no-runs _ _ (by-lines (cosparse bits strength iterations work) s)
 given-exactly-when undo s = no-runs _ _ (by-lines undo s)
@@ -215,7 +216,7 @@ lines-only (scan rate millis work) s =
     among-more _ (1 ∷ 14 ∷ 2 ∷ 3 ∷ 4 ∷ []) (6 ∷ 7 ∷ 8 ∷ 9 ∷ [])
     (first-among (applies (asked (scan rate millis work) s) s) (1 ∷ 14 ∷ 2 ∷ 3 ∷ 4 ∷ []))
 lines-only (declip threshold work) s = first-among (applies (asked (declip threshold work) s) s) (canGive (declip threshold work))
-lines-only (decrackle sensitivity work) s = first-among (applies (asked (decrackle sensitivity work) s) s) (canGive (decrackle sensitivity work))
+lines-only (decrackle start sensitivity work) s = first-among (applies (asked (decrackle start sensitivity work) s) s) (canGive (decrackle start sensitivity work))
 lines-only (dequantize bits strength work) s = first-among (applies (asked (dequantize bits strength work) s) s) (canGive (dequantize bits strength work))
 lines-only (cosparse bits strength iterations work) s =
     first-among (applies (asked (cosparse bits strength iterations work) s) s) (canGive (cosparse bits strength iterations work))
@@ -262,7 +263,7 @@ only-these (gaps starts lens passes work lists) s =
     rw (by-lines (gaps starts lens passes work lists) s) (lines-only (gaps starts lens passes work lists) s)
 only-these (scan rate millis work) s = scan-only rate millis work s
 only-these (declip threshold work) s = rw (by-lines (declip threshold work) s) (lines-only (declip threshold work) s)
-only-these (decrackle sensitivity work) s = rw (by-lines (decrackle sensitivity work) s) (lines-only (decrackle sensitivity work) s)
+only-these (decrackle start sensitivity work) s = rw (by-lines (decrackle start sensitivity work) s) (lines-only (decrackle start sensitivity work) s)
 only-these (dequantize bits strength work) s = rw (by-lines (dequantize bits strength work) s) (lines-only (dequantize bits strength work) s)
 only-these (cosparse bits strength iterations work) s =
     rw (by-lines (cosparse bits strength iterations work) s) (lines-only (cosparse bits strength iterations work) s)
@@ -287,8 +288,8 @@ refusal-changes-nothing (scan rate millis work) s h = go (scannable rate millis 
     go (Refused why) e = refused-scan rate millis work s why e
 refusal-changes-nothing (declip threshold work) s h =
     alone-keeps _ s _ (declip-did threshold (length work) s) (rw (by-lines (declip threshold work) s) h)
-refusal-changes-nothing (decrackle sensitivity work) s h =
-    alone-keeps _ s _ (decrackle-did sensitivity (length work) s) (rw (by-lines (decrackle sensitivity work) s) h)
+refusal-changes-nothing (decrackle start sensitivity work) s h =
+    alone-keeps _ s _ (decrackle-did start sensitivity (length work) s) (rw (by-lines (decrackle start sensitivity work) s) h)
 refusal-changes-nothing (dequantize bits strength work) s h =
     alone-keeps _ s _ (dequantize-did bits strength (length work) s) (rw (by-lines (dequantize bits strength work) s) h)
 refusal-changes-nothing (cosparse bits strength iterations work) s h =
@@ -325,7 +326,7 @@ rules-are-lawful (gaps starts lens passes work lists) s =
     picks single.Lawful (listsWrong starts lens lists) _ _ tt (list-lawful passes (length work) (spans starts lens))
 rules-are-lawful (scan rate millis work) s = scanned-lawful (length work) (runsOf (s .samples) (limit millis rate)) (scannable rate millis s)
 rules-are-lawful (declip threshold work) s = (declip-lawful threshold (length work), tt)
-rules-are-lawful (decrackle sensitivity work) s = (decrackle-lawful sensitivity (length work), tt)
+rules-are-lawful (decrackle start sensitivity work) s = (decrackle-lawful start sensitivity (length work), tt)
 rules-are-lawful (dequantize bits strength work) s = (dequantize-lawful bits strength (length work), tt)
 rules-are-lawful (cosparse bits strength iterations work) s = (cosparse-lawful bits strength iterations (length work), tt)
 rules-are-lawful undo s = tt
@@ -364,7 +365,7 @@ one-repair (gap start len passes work) s r h = told-by _ _ _ r s (gap-did start 
 one-repair (gaps starts lens passes work lists) s r h = absurd (false≢true (ap is-repair h))
 one-repair (scan rate millis work) s r h = absurd (false≢true (ap is-repair h))
 one-repair (declip threshold work) s r h = told-by _ _ _ r s (declip-did threshold (length work) s) h
-one-repair (decrackle sensitivity work) s r h = told-by _ _ _ r s (decrackle-did sensitivity (length work) s) h
+one-repair (decrackle start sensitivity work) s r h = told-by _ _ _ r s (decrackle-did start sensitivity (length work) s) h
 one-repair (dequantize bits strength work) s r h = told-by _ _ _ r s (dequantize-did bits strength (length work) s) h
 one-repair (cosparse bits strength iterations work) s r h = told-by _ _ _ r s (cosparse-did bits strength iterations (length work) s) h
 one-repair undo s r h = absurd (false≢true (ap is-repair h))

@@ -1,6 +1,6 @@
 -- Every call of the library on a recording, under one type, and what it ends in. What an exported function promises is the
 -- equation between what it leaves and `ran` of its call, or `opening`; of the one that reads frames, `toldOf` what these deliver; of the
--- one that asks whether a span was measured, `spanToldOf` the verdict; and of the three of the crackle detector, `begunTold` or `heardTold`
+-- one that asks whether a span was measured, `spanToldOf` the verdict; and of the four of the crackle detector, `begunTold` or `heardTold`
 -- what their call on its words ends in. Definitions only.
 use Prim.Native.Nat.{ℕ}
 use mathlib.Core.List.{List, [], _∷_}
@@ -15,6 +15,7 @@ use Rattle.inpaint.specs.Auto.{automatic}
 use Rattle.splice.specs.Several.{AnswerLists, gapsRepair}
 use Rattle.redraw.specs.Whole as whole
 use Rattle.declip.specs.Declip.{declipRepair}
+use Rattle.decrackle.specs.declared.Start.{Start}
 use Rattle.decrackle.specs.Decrackle.{decrackleRepair}
 use Rattle.dequant.specs.Dequant.{dequantizeRepair, cosparseRepair}
 use Rattle.crackle.specs.Pieces.{Told}
@@ -27,7 +28,7 @@ pub data Call : Type 0 where
   gaps : (starts lens : List ℕ) (passes : ℕ) → List Float → AnswerLists → Call
   scan : (rate : ℕ) (millis : Float) → List Float → Call
   declip : (threshold : Float) → List ℕ → Call
-  decrackle : (sensitivity : Float) → List ℕ → Call
+  decrackle : (start : Start) (sensitivity : Float) → List ℕ → Call
   dequantize : (bits : ℕ) (strength : Float) → List ℕ → Call
   cosparse : (bits : ℕ) (strength : Float) (iterations : ℕ) → List ℕ → Call
   undo : Call
@@ -68,7 +69,7 @@ ran (scan rate millis work) s =
     let c = automatic rate millis work s in
     outcome (c .refused) (c .qualified ∷ c .repaired ∷ []) (c .after) (doubles (c .work))
 ran (declip threshold work) s = redrawn s work (declipRepair threshold (length work) s)
-ran (decrackle sensitivity work) s = redrawn s work (decrackleRepair sensitivity (length work) s)
+ran (decrackle start sensitivity work) s = redrawn s work (decrackleRepair start sensitivity (length work) s)
 ran (dequantize bits strength work) s = redrawn s work (dequantizeRepair bits strength (length work) s)
 ran (cosparse bits strength iterations work) s = redrawn s work (cosparseRepair bits strength iterations (length work) s)
 ran undo s = told (undone s) none

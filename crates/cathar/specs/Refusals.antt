@@ -78,7 +78,8 @@ asked (gap start len passes work) s =
 asked (gaps starts lens passes work answers) s = plain (not (lists.listsWrong starts lens answers)) false
 asked (scan rate millis work) s = plain (auto.allowed rate millis) false
 asked (declip threshold work) s = redrawing (declips.allowed threshold) work (declips.declipped threshold (s .samples)) s
-asked (decrackle sensitivity work) s = redrawing (decrackles.allowed sensitivity) work (decrackles.decrackled sensitivity (s .samples)) s
+asked (decrackle start sensitivity work) s =
+    redrawing (decrackles.allowed sensitivity) work (decrackles.decrackled start sensitivity (s .samples)) s
 asked (dequantize bits strength work) s = redrawing (dequants.allowed strength) work (dequants.dequantized bits strength (s .samples)) s
 asked (cosparse bits strength iterations work) s =
     redrawing (dequants.allowed strength) work (dequants.cosparse bits strength iterations (s .samples)) s
@@ -180,7 +181,7 @@ tests (gap start len passes work) = tested
 tests (gaps starts lens passes work answers) = 4 ∷ []
 tests (scan rate millis work) = tested
 tests (declip threshold work) = tested
-tests (decrackle sensitivity work) = tested
+tests (decrackle start sensitivity work) = tested
 tests (dequantize bits strength work) = tested
 tests (cosparse bits strength iterations work) = tested
 tests undo = tested
@@ -207,7 +208,7 @@ canGive (gap start len passes work) = 1 ∷ 14 ∷ 2 ∷ 3 ∷ 5 ∷ 6 ∷ 7 ∷
 canGive (gaps starts lens passes work answers) = 4 ∷ []
 canGive (scan rate millis work) = 1 ∷ 14 ∷ 2 ∷ 3 ∷ 4 ∷ 6 ∷ 7 ∷ 8 ∷ 9 ∷ []
 canGive (declip threshold work) = 1 ∷ 14 ∷ 2 ∷ 3 ∷ 4 ∷ 6 ∷ 7 ∷ 8 ∷ 9 ∷ []
-canGive (decrackle sensitivity work) = 1 ∷ 14 ∷ 2 ∷ 3 ∷ 4 ∷ 6 ∷ 7 ∷ 8 ∷ 9 ∷ []
+canGive (decrackle start sensitivity work) = 1 ∷ 14 ∷ 2 ∷ 3 ∷ 4 ∷ 6 ∷ 7 ∷ 8 ∷ 9 ∷ []
 canGive (dequantize bits strength work) = 1 ∷ 14 ∷ 2 ∷ 3 ∷ 4 ∷ 6 ∷ 7 ∷ 8 ∷ 9 ∷ []
 canGive (cosparse bits strength iterations work) = 1 ∷ 14 ∷ 2 ∷ 3 ∷ 4 ∷ 6 ∷ 7 ∷ 8 ∷ 9 ∷ []
 canGive undo = 1 ∷ 14 ∷ 2 ∷ 3 ∷ 10 ∷ 11 ∷ []

@@ -11,11 +11,13 @@ ghost use Rattle.cathar.specs.Calls.{none, doubles, words, outcome, ran}
 ghost use Rattle.cathar.specs.Calls.{asMeasured, asReceived, opening, framesTold, toldOf, spanTold, spanToldOf};
 ghost use Rattle.cathar.specs.Calls.{crackleTold, begunTold, heardTold};
 ghost use Rattle.crackle.specs.Kept.{beginKept, pieceKept, endKept};
+ghost use Rattle.decrackle.specs.declared.Start.the-variants.{Mean, Old};
 ghost use Rattle.frames.specs.Frames.{framesRead};
 ghost use Rattle.inpaint.specs.Order.{gapOrder, scanOrders};
 ghost use Rattle.splice.specs.Several.{answersLent, answersLeft};
 ghost use Rattle.recording.specs.Lent.{left, lent, leftReading};
 ghost use Rattle.recording.specs.Question.{spanVerdict};
+use decrackle::Start;
 use dequant::passes::dequantize;
 use recording::numbers::number_of;
 use recording::numbers::value_of;
@@ -219,7 +221,8 @@ pub extern "C" fn cathar_declip(
     number_of(answer)
 }
 
-// Rewrites the samples that stand out from their neighbours. Answer and value as of `cathar_declip`.
+// Rewrites the samples that stand out from their neighbours, by a floor that starts from the mean. Answer and value
+// as of `cathar_declip`.
 #[no_mangle]
 pub extern "C" fn cathar_decrackle(
     samples: &mut [u32],
@@ -232,9 +235,49 @@ pub extern "C" fn cathar_decrackle(
     value: &mut usize,
 ) -> u32
     ensures { λ r. ⌜ outcome r (now (value .exit) ∷ []) (left samples marks counts journal used) (words (now (work .exit)))
-        ≡ ran (decrackle sensitivity (now (work .entry))) (lent samples marks counts journal used) ⌝ }
+        ≡ ran (decrackle Mean sensitivity (now (work .entry))) (lent samples marks counts journal used) ⌝ }
 {
-    let answer = decrackle::decrackle(samples, marks, counts, journal, used, sensitivity, work);
+    let start = Start::Mean;
+    let answer = decrackle::decrackle(
+        samples,
+        marks,
+        counts,
+        journal,
+        used,
+        sensitivity,
+        start,
+        work,
+    );
+    *value = value_of(answer);
+    number_of(answer)
+}
+
+// The same by a floor that starts at 1e-6, as it used to: for old cases.
+#[no_mangle]
+pub extern "C" fn cathar_decrackle_old_start(
+    samples: &mut [u32],
+    marks: &mut [u8],
+    counts: &mut [u16],
+    journal: &mut [u32],
+    used: &mut usize,
+    sensitivity: f32,
+    work: &mut [u32],
+    value: &mut usize,
+) -> u32
+    ensures { λ r. ⌜ outcome r (now (value .exit) ∷ []) (left samples marks counts journal used) (words (now (work .exit)))
+        ≡ ran (decrackle Old sensitivity (now (work .entry))) (lent samples marks counts journal used) ⌝ }
+{
+    let start = Start::Old;
+    let answer = decrackle::decrackle(
+        samples,
+        marks,
+        counts,
+        journal,
+        used,
+        sensitivity,
+        start,
+        work,
+    );
     *value = value_of(answer);
     number_of(answer)
 }
@@ -332,19 +375,33 @@ pub extern "C" fn cathar_measured(
     verdict_number(verdict)
 }
 
-// Announces a recording of so many samples to the crackle detector, which is kept in the first 8 words of
-// state. The number of the refusal, 6 for fewer words, 2 or 4, or 0; a refusal leaves the words as they were.
+// Announces a recording of so many samples to the crackle detector, whose floor starts from the mean, and which is
+// kept in the first 1,032 words of state. The number of the refusal, 6 for fewer words, 2 or 4, or 0; a refusal leaves
+// the words as they were.
 #[no_mangle]
 pub extern "C" fn cathar_crackle_begin(total: usize, sensitivity: f32, state: &mut [u32]) -> u32
-    ensures { λ r. ⌜ crackleTold r [] (now (state .exit)) [] ≡ begunTold (beginKept total sensitivity (now (state .entry))) ⌝ }
+    ensures { λ r. ⌜ crackleTold r [] (now (state .exit)) [] ≡ begunTold (beginKept Mean total sensitivity (now (state .entry))) ⌝ }
 {
-    let answer = crackle::kept::begin(total, sensitivity, state);
+    let answer = crackle::kept::begin(Start::Mean, total, sensitivity, state);
+    number_of(answer)
+}
+
+// The same with a floor that starts at 1e-6, as it used to: for old cases.
+#[no_mangle]
+pub extern "C" fn cathar_crackle_begin_old_start(
+    total: usize,
+    sensitivity: f32,
+    state: &mut [u32],
+) -> u32
+    ensures { λ r. ⌜ crackleTold r [] (now (state .exit)) [] ≡ begunTold (beginKept Old total sensitivity (now (state .entry))) ⌝ }
+{
+    let answer = crackle::kept::begin(Start::Old, total, sensitivity, state);
     number_of(answer)
 }
 
 // Gives the crackle detector the next samples, and writes the flags that this brings: each sample brings that of the
-// one before it. The number of the refusal, 13, 6 or 7, or 0; value becomes how many flags were
-// written, the place in the whole for 7, and 0 for the other refusals.
+// one before it, but from the mean none comes before 1,024 are known. The number of the refusal, 13, 6 or 7, or 0;
+// value becomes how many flags were written, the place in the whole for 7, and 0 for the other refusals.
 #[no_mangle]
 pub extern "C" fn cathar_crackle_piece(
     state: &mut [u32],
@@ -360,7 +417,7 @@ pub extern "C" fn cathar_crackle_piece(
     number_of(answer)
 }
 
-// Ends the run of the crackle detector, and writes the last flag, or none where no sample was announced. The
+// Ends the run of the crackle detector, and writes the flags that are left, none where no sample was announced. The
 // number of the refusal, 13 or 6, or 0; value becomes how many flags were written, and 0 for a refusal.
 #[no_mangle]
 pub extern "C" fn cathar_crackle_end(state: &mut [u32], flags: &mut [u8], value: &mut usize) -> u32

@@ -12,6 +12,7 @@ use lib.Dec.{ltb, eqb}
 use lib.ListN.{length, take, drop, replicate, length-append, length-drop, length-map}
 use lib.Seq.{drop-drop, drop-append-seam, take-at}
 use lib.Ieee.{Float}
+use Rattle.leaves.specs.Arithmetic.{float}
 use Rattle.leaves.specs.Choice.{if_then_else_}
 use Rattle.leaves.specs.Floats.{inRange}
 use Rattle.leaves.proofs.Choice.{truth}
@@ -23,39 +24,43 @@ use Rattle.recording.specs.declared.Answer.{Answer}
 use Rattle.recording.specs.declared.Answer.the-variants.{Done, Refused}
 use Rattle.redraw.specs.Whole.{untouched, drawn}
 use Rattle.redraw.proofs.Ending.{done-not-refused}
-use Rattle.decrackle.specs.Decrackle.{leastSamples, detector, flagsOf, smoothed, decrackled}
+use Rattle.decrackle.specs.declared.Start.{Start}
+use Rattle.decrackle.specs.declared.Start.the-variants.{Mean, Old}
+use Rattle.decrackle.specs.Decrackle.{leastSamples, magnitudesFrom, magnitudes, meanOver, openingFloor, flagsFrom, flagsOf, smoothed, decrackled}
+use Rattle.decrackle.proofs.Opening.{length-magnitudes}
 use Rattle.crackle.specs.declared.Detector.{Detector}
-use Rattle.crackle.specs.Pieces.{begun, announced}
-use Rattle.crackle.specs.Pieces.{withPiece, flagsBefore, givenBy, flagsDue, Told, told, flagByte, flagsIn, closed, tooMuch}
-use Rattle.crackle.specs.Pieces.{unlessOut, pieceTold, lastFlag, endTold}
-use Rattle.crackle.specs.Cuts.{wholeFlags, FlagsAreNamed, InRange, Offer, flagsGiven, Run, inTurn, byValue, handed, byRoom, Cut}
+use Rattle.crackle.specs.Pieces.{begun, announced, knownBy, heldBack, givenBy, flagsDue, Holding, holding, flagsAlong, withSample, withPiece, flagsBefore}
+use Rattle.crackle.specs.Pieces.{Told, told, flagByte, flagsIn, closed, stopped, tooMuch, unlessOut, pieceTold, lastFlags, lastValues, endTold}
+use Rattle.crackle.specs.Cuts.{wholeFlags, FlagsAreNamed, InRange, Offer, flagsGiven, Run, inTurn, byValue, handed, byRoom, Cut, Enough, fresh}
 use Rattle.crackle.specs.Cuts.{FlagsSoFar, HoweverCut, StoppedByASample, ClosedForGood}
-use Rattle.crackle.proofs.Steps.{due-length}
-use Rattle.crackle.proofs.Places.{flagsLeft, left, length-left, At, piece-gives, end-gives}
+use Rattle.crackle.proofs.Due.{given-within, same-start, due-length}
+use Rattle.crackle.proofs.Places.{floorAt, left, length-left, At, no-magnitude, piece-gives, end-gives}
 
 -- ---- A call
 
 -- what is tested of a piece that is not more than is left
-not-more : (s : List ℕ) (t n : ℕ) (d : Detector) → At s t d → t + n ≤ length s → tooMuch d n ≡ false
+not-more : (s : List ℕ) (t n : ℕ) (d : Holding) → At s t d → t + n ≤ length s → tooMuch (d .detector) n ≡ false
 not-more s t n d at h = rw (at .goes-on, at .total-is, at .taken-is, le-ltb (length s) (t + n) h) refl
 
 -- a piece without room
-no-room : (s : List ℕ) (t : ℕ) (d : Detector) (piece room : List ℕ) → At s t d → t + length piece ≤ length s
-    → length room < flagsDue t (length piece) → pieceTold d piece room ≡ told (Refused Workspace) d room
+no-room : (s : List ℕ) (t : ℕ) (d : Holding) (piece room : List ℕ) → At s t d → t + length piece ≤ length s
+    → length room < flagsDue (d .detector .start) t (length piece) → pieceTold d piece room ≡ told (Refused Workspace) d room
 unfolding pieceTold
 no-room s t d piece room at h short =
-    let less : ltb (length room) (flagsDue (d .taken) (length piece)) ≡ true = rw (at .taken-is) (lt-ltb _ _ short) in
-    rw (not-more s t (length piece) d at h, less) refl
+    let start = d .detector .start in
+    let less : ltb (length room) (flagsDue start (d .detector .taken) (length piece)) ≡ true = rw (at .taken-is) (lt-ltb _ _ short) in
+    rw (le-ltb (length (d .values)) meanOver (at .enough), not-more s t (length piece) d at h, less) refl
 
 -- a piece with room, by the test of its samples
-with-room : (s : List ℕ) (t : ℕ) (d : Detector) (piece room : List ℕ) (a : Answer) → At s t d → t + length piece ≤ length s
-    → flagsDue t (length piece) ≤ length room → readable t piece ≡ a
+with-room : (s : List ℕ) (t : ℕ) (d : Holding) (piece room : List ℕ) (a : Answer) → At s t d → t + length piece ≤ length s
+    → flagsDue (d .detector .start) t (length piece) ≤ length room → readable t piece ≡ a
     → pieceTold d piece room
-    ≡ unlessOut a d room (told (Done (flagsDue t (length piece))) (withPiece d piece) (flagsIn room (flagsBefore d piece)))
+    ≡ unlessOut a d room (told (Done (flagsDue (d .detector .start) t (length piece))) (withPiece d piece) (flagsIn room (flagsBefore d piece)))
 unfolding pieceTold
 with-room s t d piece room a at h enough e =
-    let less : ltb (length room) (flagsDue (d .taken) (length piece)) ≡ false = rw (at .taken-is) (le-ltb _ _ enough) in
-    rw (not-more s t (length piece) d at h, less, at .taken-is, e) refl
+    let start = d .detector .start in
+    let less : ltb (length room) (flagsDue start (d .detector .taken) (length piece)) ≡ false = rw (at .taken-is) (le-ltb _ _ enough) in
+    rw (le-ltb (length (d .values)) meanOver (at .enough), not-more s t (length piece) d at h, less, at .taken-is, e) refl
 
 -- the flags stand in the room
 flags-there : (room : List ℕ) (fs : List Bool) (m : ℕ) → length fs ≡ m → m ≤ length room → take m (flagsIn room fs) ≡ map flagByte fs
@@ -92,31 +97,42 @@ unfolding inTurn
 first-told call d o os t e = ap (from call os) e
 
 -- the answer of the first
-short-answer : (t : ℕ) (o : Offer) (os : List Offer) → length (o .room) < flagsDue t (length (o .piece)) → byRoom t (o ∷ os) ≡ 6 ∷ byRoom t os
-unfolding byRoom
-short-answer t o os h = rw (lt-ltb _ _ h) refl
+module _ (start : Start) (t : ℕ) (o : Offer) (os : List Offer) where
+  short-answer : length (o .room) < flagsDue start t (length (o .piece)) → byRoom start t (o ∷ os) ≡ 6 ∷ byRoom start t os
+  unfolding byRoom
+  short-answer h = rw (lt-ltb _ _ h) refl
 
-with-answer : (t : ℕ) (o : Offer) (os : List Offer) → flagsDue t (length (o .piece)) ≤ length (o .room)
-    → byRoom t (o ∷ os) ≡ 0 ∷ byRoom (t + length (o .piece)) os
-unfolding byRoom
-with-answer t o os h = rw (le-ltb _ _ h) refl
+  with-answer : flagsDue start t (length (o .piece)) ≤ length (o .room) → byRoom start t (o ∷ os) ≡ 0 ∷ byRoom start (t + length (o .piece)) os
+  unfolding byRoom
+  with-answer h = rw (le-ltb _ _ h) refl
 
 -- what calls that bring in the samples q leave
-record Brought (s : List ℕ) (t : ℕ) (d : Detector) (offers : List Offer) (q : List ℕ) (run : Run Detector) : Type 0 where
-  only-room : run .numbers ≡ byRoom t offers
+record Brought (s : List ℕ) (t : ℕ) (d : Holding) (offers : List Offer) (q : List ℕ) (run : Run Holding) : Type 0 where
+  only-room : run .numbers ≡ byRoom (d .detector .start) t offers
   stands : At s (t + length q) (run .held)
-  gives : run .flags ++ map flagByte (left s (run .held) (t + length q)) ≡ map flagByte (left s d t)
+  same-start : run .held .detector .start ≡ d .detector .start
+  gives : run .flags ++ map flagByte (left s (run .held .detector) (t + length q)) ≡ map flagByte (left s (d .detector) t)
+
+-- a piece leaves the start
+piece-start : (h : Holding) (ws : List ℕ) → withPiece h ws .detector .start ≡ h .detector .start
+unfolding withPiece
+piece-start h [] = refl
+piece-start h (w ∷ ws) = piece-start (withSample h (float w)) ws ∙ same-start h (float w)
 
 -- a piece that is taken in, and then such calls
-module _ (s : List ℕ) (t : ℕ) (d : Detector) (q rest : List ℕ) (at : At s t d) (e : drop t s ≡ q ++ rest) (good : readable t q ≡ Done 0)
-    (o : Offer) (os : List Offer) (more : List ℕ) (enough : flagsDue t (length (o .piece)) ≤ length (o .room)) (parts : q ≡ o .piece ++ more) where
+module _ (s : List ℕ) (t : ℕ) (d : Holding) (q rest : List ℕ) (at : At s t d) (e : drop t s ≡ q ++ rest) (good : readable t q ≡ Done 0)
+    (o : Offer) (os : List Offer) (more : List ℕ) (enough : flagsDue (d .detector .start) t (length (o .piece)) ≤ length (o .room))
+    (parts : q ≡ o .piece ++ more) where
   abbrev n : ℕ
   n = length (o .piece)
+
+  abbrev start : Start
+  start = d .detector .start
 
   abbrev fs : List Bool
   fs = flagsBefore d (o .piece)
 
-  abbrev next : Detector
+  abbrev next : Holding
   next = withPiece d (o .piece)
 
   left-over : drop t s ≡ o .piece ++ (more ++ rest)
@@ -128,17 +144,18 @@ module _ (s : List ℕ) (t : ℕ) (d : Detector) (q rest : List ℕ) (at : At s 
   tested : (readable t (o .piece) ≡ Done 0) × (readable (t + n) more ≡ Done 0)
   tested = readable-both t (o .piece) more (sym (ap (readable t) parts) ∙ good)
 
-  gave : At s (t + n) next × (fs ++ left s next (t + n) ≡ left s d t)
+  gave : At s (t + n) next × (fs ++ left s (next .detector) (t + n) ≡ left s (d .detector) t)
   gave = piece-gives s (o .piece) (more ++ rest) t d at left-over
 
   behind : drop (t + n) s ≡ more ++ rest
   behind = sym (drop-drop n t s) ∙ ap (drop n) left-over ∙ drop-append-seam (o .piece) (more ++ rest)
 
-  told-so : pieceTold d (o .piece) (o .room) ≡ told (Done (flagsDue t n)) next (flagsIn (o .room) fs)
+  told-so : pieceTold d (o .piece) (o .room) ≡ told (Done (flagsDue start t n)) next (flagsIn (o .room) fs)
   told-so = with-room s t d (o .piece) (o .room) (Done 0) at within enough (tested .0)
 
-  written : take (flagsDue t n) (flagsIn (o .room) fs) ≡ map flagByte fs
-  written = flags-there (o .room) fs (flagsDue t n) (due-length d (o .piece) ∙ ap (λ (k : ℕ). flagsDue k n) (at .taken-is)) enough
+  written : take (flagsDue start t n) (flagsIn (o .room) fs) ≡ map flagByte fs
+  written =
+      flags-there (o .room) fs (flagsDue start t n) (due-length d (o .piece) (at .enough) ∙ ap (λ (k : ℕ). flagsDue start k n) (at .taken-is)) enough
 
   whole : t + length q ≡ t + n + length more
   whole = omega (arith, ap length parts, length-append (o .piece) more)
@@ -146,47 +163,74 @@ module _ (s : List ℕ) (t : ℕ) (d : Detector) (q rest : List ℕ) (at : At s 
   taken-and-more : Brought s (t + n) next os more (handed next os) → Brought s t d (o ∷ os) q (handed d (o ∷ os))
   taken-and-more later =
       let run = handed next os in
+      let same = piece-start d (o .piece) in
       subst (Brought s t d (o ∷ os) q) (sym (first-told byValue d o os _ told-so))
       (record {
-        only-room = ap (λ (ks : List ℕ). 0 ∷ ks) (later .only-room) ∙ sym (with-answer t o os enough);
+        only-room =
+            ap (λ (ks : List ℕ). 0 ∷ ks) (later .only-room ∙ ap (λ (b : Start). byRoom b (t + n) os) same) ∙ sym (with-answer start t o os enough);
         stands = rw whole (later .stands);
+        same-start = later .same-start ∙ same;
         gives =
-            ap (λ (k : ℕ). take (flagsDue t n) (flagsIn (o .room) fs) ++ run .flags ++ map flagByte (left s (run .held) k)) whole
-            ∙ ap (λ (l : List ℕ). l ++ run .flags ++ map flagByte (left s (run .held) (t + n + length more))) written
+            ap (λ (k : ℕ). take (flagsDue start t n) (flagsIn (o .room) fs) ++ run .flags ++ map flagByte (left s (run .held .detector) k)) whole
+            ∙ ap (λ (l : List ℕ). l ++ run .flags ++ map flagByte (left s (run .held .detector) (t + n + length more))) written
             ∙ append-assoc (map flagByte fs) (run .flags) _
             ∙ ap (λ (l : List ℕ). map flagByte fs ++ l) (later .gives)
-            ∙ sym (map-append flagByte fs (left s next (t + n)))
+            ∙ sym (map-append flagByte fs (left s (next .detector) (t + n)))
             ∙ ap (map flagByte) (gave .1);
       })
 
-none-bring : (s : List ℕ) (t : ℕ) (d : Detector) → At s t d → Brought s t d [] [] (handed d [])
+none-bring : (s : List ℕ) (t : ℕ) (d : Holding) → At s t d → Brought s t d [] [] (handed d [])
 unfolding inTurn byRoom
 none-bring s t d at =
     record {
       only-room = refl;
       stands = subst (λ (k : ℕ). At s k d) (sym (add-zero t)) at;
-      gives = ap (λ (k : ℕ). map flagByte (left s d k)) (add-zero t);
+      same-start = refl;
+      gives = ap (λ (k : ℕ). map flagByte (left s (d .detector) k)) (add-zero t);
     }
 
-calls-bring : (s : List ℕ) (offers : List Offer) (t : ℕ) (d : Detector) (q rest : List ℕ) → At s t d → drop t s ≡ q ++ rest
-    → readable t q ≡ Done 0 → Cut (length s) t offers q → Brought s t d offers q (handed d offers)
+-- calls that bring in samples, from the start that the detector has
+calls-bring : (s : List ℕ) (start : Start) (offers : List Offer) (t : ℕ) (d : Holding) (q rest : List ℕ) → d .detector .start ≡ start → At s t d
+    → drop t s ≡ q ++ rest → readable t q ≡ Done 0 → Cut start (length s) t offers q → Brought s t d offers q (handed d offers)
 unfolding inTurn Cut
-calls-bring s [] t d q rest at e good cut = rw cut (none-bring s t d at)
-calls-bring s (o ∷ os) t d q rest at e good (inl (short, fit, cut)) =
-    let told-so = no-room s t d (o .piece) (o .room) at fit short in
-    let later = calls-bring s os t d q rest at e good cut in
+calls-bring s start [] t d q rest own at e good cut = rw cut (none-bring s t d at)
+calls-bring s start (o ∷ os) t d q rest own at e good (inl (short, fit, cut)) =
+    let mine : length (o .room) < flagsDue (d .detector .start) t (length (o .piece)) = rw own short in
+    let told-so = no-room s t d (o .piece) (o .room) at fit mine in
+    let later = calls-bring s start os t d q rest own at e good cut in
     subst (Brought s t d (o ∷ os) q) (sym (first-told byValue d o os _ told-so))
-    (record { only-room = ap (λ (ks : List ℕ). 6 ∷ ks) (later .only-room) ∙ sym (short-answer t o os short); stands = later .stands; gives = later .gives })
-calls-bring s (o ∷ os) t d q rest at e good (inr (enough, (more, parts, cut))) =
-    taken-and-more s t d q rest at e good o os more enough parts
-    (calls-bring s os (t + length (o .piece)) (withPiece d (o .piece)) more rest (gave s t d q rest at e good o os more enough parts .0)
-    (behind s t d q rest at e good o os more enough parts) (tested s t d q rest at e good o os more enough parts .1) cut)
+    (record {
+      only-room = ap (λ (ks : List ℕ). 6 ∷ ks) (later .only-room) ∙ sym (short-answer (d .detector .start) t o os mine);
+      stands = later .stands;
+      same-start = later .same-start;
+      gives = later .gives;
+    })
+calls-bring s start (o ∷ os) t d q rest own at e good (inr (enough, (more, parts, cut))) =
+    let mine : flagsDue (d .detector .start) t (length (o .piece)) ≤ length (o .room) = rw own enough in
+    taken-and-more s t d q rest at e good o os more mine parts
+    (calls-bring s start os (t + length (o .piece)) (withPiece d (o .piece)) more rest (piece-start d (o .piece) ∙ own)
+    (gave s t d q rest at e good o os more mine parts .0) (behind s t d q rest at e good o os more mine parts)
+    (tested s t d q rest at e good o os more mine parts .1) cut)
 
 -- ---- From the announcement on
 
-module _ (sensitivity : Float) (s : List ℕ) where
-  abbrev first : Detector
-  first = begun (length s) sensitivity
+-- what is left then are the flags of the whole, from either start
+left-opening : (start : Start) (sensitivity : Float) (s : List ℕ) → floorAt s (begun start (length s) sensitivity) 0 ≡ openingFloor start (magnitudes s)
+unfolding floorAt begun heldBack openingFloor
+left-opening Mean sensitivity s = refl
+left-opening Old sensitivity s = refl
+
+along-whole : (start : Start) (sensitivity : Float) (s : List ℕ)
+    → flagsAlong (begun start (length s) sensitivity) (openingFloor start (magnitudes s)) (magnitudesFrom s 0 (length s)) ≡ wholeFlags start sensitivity s
+unfolding flagsAlong begun wholeFlags flagsOf magnitudes
+along-whole start sensitivity s = rw (length-magnitudes s 0 (length s)) refl
+
+none-given : (start : Start) → givenBy start 0 ≡ 0
+none-given start = omega (arith, given-within start 0)
+
+module _ (start : Start) (sensitivity : Float) (s values : List ℕ) (enough : Enough values) where
+  abbrev first : Holding
+  first = fresh start (length s) sensitivity values
 
   begun-there : At s 0 first
   unfolding begun
@@ -198,34 +242,52 @@ module _ (sensitivity : Float) (s : List ℕ) where
         goes-on = refl;
         last-is = λ h. absurd (omega (arith, h));
         before-is = λ h. absurd (omega (arith, h));
+        enough = enough;
+        held-is = λ h. no-magnitude s values;
       }
 
-  -- what is left then are the flags of the whole
-  left-whole : left s first 0 ≡ wholeFlags sensitivity s
-  unfolding begun flagsLeft wholeFlags flagsOf
-  left-whole = rw (sub-zero (length s)) refl
+  first-start : first .detector .start ≡ start
+  unfolding begun
+  first-start = refl
 
-  module _ (p rest : List ℕ) (offers : List Offer) (parts : s ≡ p ++ rest) (good : InRange p) (cut : Cut (length s) 0 offers p) where
-    abbrev run : Run Detector
+  left-whole : left s (first .detector) 0 ≡ wholeFlags start sensitivity s
+  unfolding left
+  left-whole =
+      let d = begun start (length s) sensitivity in
+      let opening = openingFloor start (magnitudes s) in
+      let none : length s - 0 ≡ length s = omega arith in
+      ap (λ (f : Float). flagsAlong d f (magnitudesFrom s (givenBy (d .start) 0) (length s - givenBy (d .start) 0))) (left-opening start sensitivity s)
+      ∙ ap (λ (k : ℕ). flagsAlong d opening (magnitudesFrom s k (length s - k))) (none-given (d .start))
+      ∙ ap (λ (k : ℕ). flagsAlong d opening (magnitudesFrom s 0 k)) none
+      ∙ along-whole start sensitivity s
+
+  module _ (p rest : List ℕ) (offers : List Offer) (parts : s ≡ p ++ rest) (good : InRange p) (cut : Cut start (length s) 0 offers p) where
+    abbrev run : Run Holding
     run = handed first offers
 
     brought : Brought s 0 first offers p run
-    brought = calls-bring s offers 0 first p rest begun-there parts good cut
+    brought = calls-bring s start offers 0 first p rest first-start begun-there parts good cut
+
+    run-numbers : run .numbers ≡ byRoom start 0 offers
+    run-numbers = brought .only-room ∙ ap (λ (b : Start). byRoom b 0 offers) first-start
+
+    run-start : run .held .detector .start ≡ start
+    run-start = brought .same-start ∙ first-start
 
     run-stands : At s (length p) (run .held)
     run-stands = subst (λ (k : ℕ). At s k (run .held)) (zero-add (length p)) (brought .stands)
 
-    run-gives : run .flags ++ map flagByte (left s (run .held) (length p)) ≡ map flagByte (wholeFlags sensitivity s)
+    run-gives : run .flags ++ map flagByte (left s (run .held .detector) (length p)) ≡ map flagByte (wholeFlags start sensitivity s)
     run-gives =
-        ap (λ (k : ℕ). run .flags ++ map flagByte (left s (run .held) k)) (sym (zero-add (length p)))
+        ap (λ (k : ℕ). run .flags ++ map flagByte (left s (run .held .detector) k)) (sym (zero-add (length p)))
         ∙ brought .gives
         ∙ ap (map flagByte) left-whole
 
-    so-far : run .flags ≡ map flagByte (take (givenBy (length p)) (wholeFlags sensitivity s))
+    so-far : run .flags ≡ map flagByte (take (givenBy start (length p)) (wholeFlags start sensitivity s))
     so-far =
-        sym (take-at (run .flags) _ (givenBy (length p)) many)
-        ∙ ap (take (givenBy (length p))) run-gives
-        ∙ take-map (givenBy (length p)) (wholeFlags sensitivity s)
+        sym (take-at (run .flags) _ (givenBy start (length p)) many)
+        ∙ ap (take (givenBy start (length p))) run-gives
+        ∙ take-map (givenBy start (length p)) (wholeFlags start sensitivity s)
       where
         take-map : (k : ℕ) (bs : List Bool) → take k (map flagByte bs) ≡ map flagByte (take k bs)
         take-map zero bs = refl
@@ -233,124 +295,158 @@ module _ (sensitivity : Float) (s : List ℕ) where
         take-map (suc k) (b ∷ bs) = ap (λ (l : List ℕ). flagByte b ∷ l) (take-map k bs)
 
         rest-flags : List Bool
-        rest-flags = left s (run .held) (length p)
+        rest-flags = left s (run .held .detector) (length p)
 
-        count : length (run .flags) + (length s - givenBy (length p)) ≡ length s
-        count =
-            ap (λ (k : ℕ). length (run .flags) + k) (sym (length-map rest-flags flagByte ∙ length-left s (run .held) _ _))
-            ∙ sym (length-append (run .flags) (map flagByte rest-flags))
-            ∙ ap length run-gives
-            ∙ length-map (wholeFlags sensitivity s) flagByte
-            ∙ ap length (sym left-whole)
-            ∙ length-left s first 0 (length s - 0)
+        rest-count : length rest-flags ≡ length s - givenBy start (length p)
+        rest-count = length-left s (run .held .detector) (length p) ∙ ap (λ (b : Start). length s - givenBy b (length p)) run-start
+
+        all-count : length (wholeFlags start sensitivity s) ≡ length s
+        all-count =
+            ap length (sym left-whole)
+            ∙ length-left s (first .detector) 0
+            ∙ ap (λ (k : ℕ). length s - k) (none-given (first .detector .start))
             ∙ sub-zero (length s)
 
-        within : length p ≤ length s
-        within = omega (arith, ap length parts, length-append p rest)
+        count : length (run .flags) + (length s - givenBy start (length p)) ≡ length s
+        count =
+            ap (λ (k : ℕ). length (run .flags) + k) (sym (length-map rest-flags flagByte ∙ rest-count))
+            ∙ sym (length-append (run .flags) (map flagByte rest-flags))
+            ∙ ap length run-gives
+            ∙ length-map (wholeFlags start sensitivity s) flagByte
+            ∙ all-count
 
-        many : length (run .flags) ≡ givenBy (length p)
-        many = omega (arith, count, within)
+        within-all : length p ≤ length s
+        within-all = omega (arith, ap length parts, length-append p rest)
+
+        many : length (run .flags) ≡ givenBy start (length p)
+        many = omega (arith, count, within-all, given-within start (length p))
 
 pub flags-so-far : FlagsSoFar
-flags-so-far sensitivity p rest offers good cut =
-    let s = p ++ rest in
-    (brought sensitivity s p rest offers refl good cut .only-room, so-far sensitivity s p rest offers refl good cut)
+flags-so-far start sensitivity p rest values offers good enough cut =
+    let s = p ++ rest in (
+      run-numbers start sensitivity s values enough p rest offers refl good cut,
+      so-far start sensitivity s values enough p rest offers refl good cut,
+    )
 
 -- ---- The end
 
-end-due : (s : List ℕ) (d : Detector) → At s (length s) d → length (lastFlag d) ≡ length s - givenBy (length s)
-end-due s d at = ap length (end-gives s d at) ∙ length-left s d _ _
+end-due : (s : List ℕ) (d : Holding) → At s (length s) d → length (lastFlags d) ≡ length s - givenBy (d .detector .start) (length s)
+end-due s d at = ap length (end-gives s d at) ∙ length-left s (d .detector) (length s)
 
-end-told : (s : List ℕ) (d : Detector) (room : List ℕ) → At s (length s) d → length s - givenBy (length s) ≤ length room
-    → endTold d room ≡ told (Done (length (lastFlag d))) (closed d) (flagsIn room (lastFlag d))
+end-told : (s : List ℕ) (d : Holding) (room : List ℕ) → At s (length s) d → length s - givenBy (d .detector .start) (length s) ≤ length room
+    → endTold d room ≡ told (Done (length (lastFlags d))) (holding (closed (d .detector)) (lastValues d)) (flagsIn room (lastFlags d))
 unfolding endTold
 end-told s d room at enough =
-    let all : eqb (d .taken) (d .total) ≡ true = eq-eqb _ _ (at .taken-is ∙ sym (at .total-is)) in
-    let less : ltb (length room) (length (lastFlag d)) ≡ false = rw (end-due s d at) (le-ltb _ _ enough) in
-    rw (at .goes-on, all, less) refl
+    let all : eqb (d .detector .taken) (d .detector .total) ≡ true = eq-eqb _ _ (at .taken-is ∙ sym (at .total-is)) in
+    let less : ltb (length room) (length (lastFlags d)) ≡ false = rw (end-due s d at) (le-ltb _ _ enough) in
+    rw (le-ltb (length (d .values)) meanOver (at .enough), at .goes-on, all, less) refl
 
 pub however-cut : HoweverCut
 unfolding announced
-however-cut sensitivity s offers room may few good cut enough = (
+however-cut start sensitivity s values offers room may few good enough cut fit = (
   rw (le-ltb mostSamples (length s) few, may) refl,
-  brought sensitivity s s [] offers whole good cut .only-room,
+  run-numbers start sensitivity s values enough s [] offers whole-so good cut,
   rw ends refl,
   rw ends given,
 )
   where
-    whole : s ≡ s ++ []
-    whole = sym (append-nil s)
+    whole-so : s ≡ s ++ []
+    whole-so = sym (append-nil s)
 
-    run : Run Detector
-    run = handed (begun (length s) sensitivity) offers
+    run-all : Run Holding
+    run-all = handed (fresh start (length s) sensitivity values) offers
 
-    d : Detector
-    d = run .held
+    d : Holding
+    d = run-all .held
 
     at : At s (length s) d
-    at = run-stands sensitivity s s [] offers whole good cut
+    at = run-stands start sensitivity s values enough s [] offers whole-so good cut
 
-    ends : endTold d room ≡ told (Done (length (lastFlag d))) (closed d) (flagsIn room (lastFlag d))
-    ends = end-told s d room at enough
+    fits : length s - givenBy (d .detector .start) (length s) ≤ length room
+    fits = rw (run-start start sensitivity s values enough s [] offers whole-so good cut) fit
 
-    given : run .flags ++ take (length (lastFlag d)) (flagsIn room (lastFlag d)) ≡ map flagByte (wholeFlags sensitivity s)
+    ends : endTold d room ≡ told (Done (length (lastFlags d))) (holding (closed (d .detector)) (lastValues d)) (flagsIn room (lastFlags d))
+    ends = end-told s d room at fits
+
+    given : run-all .flags ++ take (length (lastFlags d)) (flagsIn room (lastFlags d)) ≡ map flagByte (wholeFlags start sensitivity s)
     given =
-        ap (λ (l : List ℕ). run .flags ++ l) (flags-there room (lastFlag d) (length (lastFlag d)) refl (rw (end-due s d at) enough))
-        ∙ ap (λ (l : List Bool). run .flags ++ map flagByte l) (end-gives s d at)
-        ∙ run-gives sensitivity s s [] offers whole good cut
+        ap (λ (l : List ℕ). run-all .flags ++ l) (flags-there room (lastFlags d) (length (lastFlags d)) refl (rw (end-due s d at) fits))
+        ∙ ap (λ (l : List Bool). run-all .flags ++ map flagByte l) (end-gives s d at)
+        ∙ run-gives start sensitivity s values enough s [] offers whole-so good cut
 
 -- ---- A stop
 
 pub stopped-by-a-sample : StoppedByASample
-stopped-by-a-sample sensitivity p piece later room offers place good cut out enough =
+stopped-by-a-sample start sensitivity p piece later values room offers place good enough cut out fit =
     let s = p ++ (piece ++ later) in
     let rest = piece ++ later in
-    let at = run-stands sensitivity s p rest offers refl good cut in
-    let within : length p + length piece ≤ length s = omega (arith, length-append p rest, length-append piece later) in (
-      brought sensitivity s p rest offers refl good cut .only-room,
-      so-far sensitivity s p rest offers refl good cut,
-      with-room s (length p) _ piece room (Refused (Read place)) at within enough out,
+    let at = run-stands start sensitivity s values enough p rest offers refl good cut in
+    let own = run-start start sensitivity s values enough p rest offers refl good cut in
+    let inside : length p + length piece ≤ length s = omega (arith, length-append p rest, length-append piece later) in (
+      run-numbers start sensitivity s values enough p rest offers refl good cut,
+      so-far start sensitivity s values enough p rest offers refl good cut,
+      with-room s (length p) _ piece room (Refused (Read place)) at inside (rw own fit) out,
     )
 
 -- a detector that is closed stays so
-closed-is : (d : Detector) → d .running ≡ false → closed d ≡ d
-closed-is d h =
+stopped-is : (h : Holding) → h .detector .running ≡ false → stopped h ≡ h
+stopped-is h e =
+    let d = h .detector in
     ap
     (λ (b : Bool).
-    record { total = d .total; taken = d .taken; running = b; factor = d .factor; floor = d .floor; before = d .before; last = d .last })
-    (sym h)
+    holding
+    (record {
+      start = d .start;
+      total = d .total;
+      taken = d .taken;
+      running = b;
+      factor = d .factor;
+      floor = d .floor;
+      before = d .before;
+      last = d .last;
+    })
+    (h .values))
+    (sym e)
 
-closed-end : (d : Detector) (room : List ℕ) → d .running ≡ false → endTold d room ≡ told (Refused Pieces) d room
-unfolding endTold
-closed-end d room h = subst (λ (e : Detector). endTold e room ≡ told (Refused Pieces) e room) (closed-is d h) refl
+module _ (h : Holding) (room : List ℕ) (over : h .detector .running ≡ false) (enough : Enough (h .values)) where
+  closed-end : endTold h room ≡ told (Refused Pieces) h room
+  unfolding endTold
+  closed-end =
+      subst (λ (e : Holding). endTold e room ≡ told (Refused Pieces) e room) (stopped-is h over) (rw (le-ltb (length (h .values)) meanOver enough) refl)
 
-closed-piece : (d : Detector) (piece room : List ℕ) → d .running ≡ false → pieceTold d piece room ≡ told (Refused Pieces) d room
-unfolding pieceTold
-closed-piece d piece room h = subst (λ (e : Detector). pieceTold e piece room ≡ told (Refused Pieces) e room) (closed-is d h) refl
+  closed-piece : (piece : List ℕ) → pieceTold h piece room ≡ told (Refused Pieces) h room
+  unfolding pieceTold
+  closed-piece piece =
+      subst (λ (e : Holding). pieceTold e piece room ≡ told (Refused Pieces) e room) (stopped-is h over)
+      (rw (le-ltb (length (h .values)) meanOver enough) refl)
 
 -- no call gives anything
-abbrev Over : Detector → List Offer → Run Detector → Type 0
+abbrev Over : Holding → List Offer → Run Holding → Type 0
 Over d offers run = (run .numbers ≡ replicate (length offers) 13) × (run .flags ≡ []) × (run .held ≡ d)
 
-closed-calls : (d : Detector) (offers : List Offer) → d .running ≡ false → Over d offers (handed d offers)
+closed-calls : (d : Holding) (offers : List Offer) → d .detector .running ≡ false → Enough (d .values) → Over d offers (handed d offers)
 unfolding inTurn
-closed-calls d [] h = (refl, refl, refl)
-closed-calls d (o ∷ os) h =
-    let later = closed-calls d os h in
-    subst (Over d (o ∷ os)) (sym (first-told byValue d o os _ (closed-piece d (o .piece) (o .room) h))) (ap (λ (ks : List ℕ). 13 ∷ ks) (later .0), later .1, later .2)
+closed-calls d [] h enough = (refl, refl, refl)
+closed-calls d (o ∷ os) h enough =
+    let later = closed-calls d os h enough in
+    subst (Over d (o ∷ os)) (sym (first-told byValue d o os _ (closed-piece d (o .room) h enough (o .piece)))) (
+      ap (λ (ks : List ℕ). 13 ∷ ks) (later .0),
+      later .1,
+      later .2,
+    )
 
 pub closed-for-good : ClosedForGood
-closed-for-good d offers room h =
-    let calls = closed-calls d offers h in
-    let end = closed-end d room h in
-    (calls .0, calls .1, calls .2, ap (λ (t : Told Detector). number (t .answer)) end, ap (λ (t : Told Detector). t .room) end)
+closed-for-good d offers room h enough =
+    let calls = closed-calls d offers h enough in
+    let end = closed-end d room h enough in
+    (calls .0, calls .1, calls .2, ap (λ (t : Told Holding). number (t .answer)) end, ap (λ (t : Told Holding). t .room) end)
 
 pub flags-are-named : FlagsAreNamed
 unfolding wholeFlags decrackled
-flags-are-named sensitivity s = go (ltb (length s) leastSamples)
+flags-are-named start sensitivity s = go (ltb (length s) leastSamples)
   where
     go : (b : Bool)
-        → (if b then replicate (length s) false else flagsOf sensitivity s)
-        ≡ (if b then untouched s else drawn (smoothed (flagsOf sensitivity s) s) (flagsOf sensitivity s)) .named
+        → (if b then replicate (length s) false else flagsOf start sensitivity s)
+        ≡ (if b then untouched s else drawn (smoothed (flagsOf start sensitivity s) s) (flagsOf start sensitivity s)) .named
     go true = refl
     go false = refl

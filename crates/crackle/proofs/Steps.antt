@@ -1,49 +1,53 @@
--- The steps of the code: what each gives is what the rule says. Assumes nothing.
+-- The steps of the code: what an announcement, a sample, a piece and the end give is what the rule says. Assumes nothing.
 use mathlib.Core.Path.{_≡_, refl, sym, ap, _∙_}
 use mathlib.Core.Bool.{Bool, true, false, not}
-use mathlib.Core.List.{List, [], _∷_, map}
-use mathlib.Core.Logic.{_⊎_, inl, inr}
+use mathlib.Core.List.{List, [], _∷_, _++_, map, map-append}
+use mathlib.Core.Logic.{inl, inr}
 use Prim.Native.Nat.{ℕ, suc, _+_, _-_, _≤_, _<_}
 use native.Mathlib.Omega.{arith}
-use borrow.Author.Tests.{ltb-true, ltb-false, lt-ltb, le-ltb, eq-eqb, ne-eqb, eqb-true, eqb-false}
+use borrow.Author.Tests.{ltb-true, ltb-false, lt-ltb, le-ltb, eq-eqb, ne-eqb}
 use lib.Dec.{ltb, eqb}
-use lib.ListN.{length, getD, set, drop, length-append, drop-of-length-le}
-use lib.Seq.{sets, drop-cons}
+use lib.ListN.{length, getD, drop, length-map, drop-of-length-le}
+use lib.Seq.{sets, length-sets, drop-cons}
 use lib.Ieee.{Float, binary32, ofBits, ne}
 use Rattle.leaves.specs.Arithmetic.{float}
-use Rattle.leaves.specs.Floats.{magnitude}
 use Rattle.leaves.proofs.Choice.{truth, neither}
 use Rattle.leaves.proofs.Literals.{nought-word}
+use Rattle.leaves.proofs.Parts.{sets-both}
 use Rattle.leaves.proofs.words.Laws.{nan-test}
 use Rattle.recording.specs.Recording.{mostSamples, readable}
 use Rattle.recording.specs.declared.Reason.{Reason}
 use Rattle.recording.specs.declared.Reason.the-variants.{TooMany, Setting, Workspace, Pieces}
 use Rattle.recording.specs.declared.Answer.{Answer}
 use Rattle.recording.specs.declared.Answer.the-variants.{Done, Refused}
-use Rattle.decrackle.specs.Decrackle.{factorFor, fromMiddle, openingFloor, floorAfter, flagged, leastSamples}
-use Rattle.decrackle.proofs.Flags.{millionth}
+use Rattle.decrackle.specs.declared.Start.{Start}
+use Rattle.decrackle.specs.Decrackle.{factorFor, meanOver, oldFloor}
+use Rattle.decrackle.proofs.Opening.{millionth}
 use Rattle.crackle.specs.declared.Detector.{Detector}
 use Rattle.crackle.specs.declared.Announced.the-variants.{Begun, TurnedAway}
-use Rattle.crackle.specs.Inner.{flagAgainst}
-use Rattle.crackle.specs.Pieces.{begun, announced, floorWith, flagWith, valueBefore, flagBefore, withSample}
-use Rattle.crackle.specs.Pieces.{withPiece, flagsBefore, flagsDue, told, flagByte, flagsIn, closed, tooMuch, notAll, pieceTold}
-use Rattle.crackle.specs.Pieces.{lastFlag, endTold}
+use Rattle.crackle.specs.Inner.{floorBehind}
+use Rattle.crackle.specs.Pieces.{begun, announced, heldBack, givenBy, flagsDue, Holding, holding, valuesWith, judgedWith}
+use Rattle.crackle.specs.Pieces.{flagsWith, floorWith}
+use Rattle.crackle.specs.Pieces.{valueBefore, overWith, flagsBy, withSample, withPiece, flagsBefore, told, flagByte, flagsIn, closed}
+use Rattle.crackle.specs.Pieces.{stopped, tooFewValues, tooMuch, notAll, pieceTold, lastFlags, lastValues, endTold}
+use Rattle.crackle.proofs.Due.{due-both, length-with, over-is, judged-length, by-length, last-length}
 
 -- ---- The announcement
 
-module _ (total : ℕ) (sensitivity : Float) where
-  pub announced-many : mostSamples < total → TurnedAway TooMany ≡ announced total sensitivity
+module _ (start : Start) (total : ℕ) (sensitivity : Float) where
+  pub announced-many : mostSamples < total → TurnedAway TooMany ≡ announced start total sensitivity
   unfolding announced
   announced-many h = rw (lt-ltb _ _ h) refl
 
   module _ (few : total ≤ mostSamples) where
-    pub announced-nan : ne sensitivity sensitivity ≡ true → TurnedAway Setting ≡ announced total sensitivity
+    pub announced-nan : ne sensitivity sensitivity ≡ true → TurnedAway Setting ≡ announced start total sensitivity
     unfolding announced
     announced-nan h = rw (le-ltb _ _ few, nan-test sensitivity, h) refl
 
     pub announced-begun : (factor : Float) → ne sensitivity sensitivity ≡ false → factor ≡ factorFor sensitivity
         → Begun
         (record {
+          start = start;
           total = total;
           taken = 0;
           running = true;
@@ -52,55 +56,40 @@ module _ (total : ℕ) (sensitivity : Float) where
           before = ofBits binary32 0;
           last = ofBits binary32 0;
         })
-        ≡ announced total sensitivity
-    unfolding announced begun openingFloor
+        ≡ announced start total sensitivity
+    unfolding announced begun oldFloor
     announced-begun factor h e = rw (le-ltb _ _ few, nan-test sensitivity, h, e, millionth, nought-word) refl
 
--- ---- A place
+-- ---- A sample
 
-module _ (d : Detector) where
-  pub few-flag : (floor a : Float) → d .total < leastSamples → 0 ≡ flagByte (flagAgainst d floor a)
-  unfolding flagAgainst
-  few-flag floor a h = rw (lt-ltb _ _ h) refl
+module _ (d : Detector) (held : List ℕ) (next : Float) where
+  abbrev h : Holding
+  h = holding d held
 
-  pub flag-by : (floor a : Float) (out b : Bool) → leastSamples ≤ d .total → out ≡ flagged (d .factor) floor a → out ≡ b
-      → flagByte b ≡ flagByte (flagAgainst d floor a)
-  unfolding flagAgainst
-  flag-by floor a out b h e eb = rw (le-ltb _ _ h, ← e, eb) refl
+  -- what its code leaves is what the rule says
+  abbrev pub Judged : ℕ → List ℕ → Float → List ℕ → List ℕ → Type 0
+  Judged at room floor values flags =
+      (floor ≡ floorBehind h next) × (values ≡ withSample h next .values) × (flags ≡ sets room at (map flagByte (flagsBy h next)))
 
-  pub judged-so : (value a floor : Float) (flag : ℕ) → a ≡ magnitude value → floor ≡ floorAfter (d .floor) a → flag ≡ flagByte (flagAgainst d floor a)
-      → (flag ≡ flagByte (flagWith d value)) × (floor ≡ floorWith d value)
-  unfolding flagWith floorWith flagAgainst
-  judged-so value a floor flag ea ef e = (rw (e, ef, ea) refl, rw (ef, ea) refl)
+  -- the very first brings nothing
+  pub first-judged : (at : ℕ) (room : List ℕ) → d .taken ≡ 0 → Judged at room (d .floor) held room
+  unfolding floorBehind withSample flagsBy
+  first-judged at room e = rw (eq-eqb (d .taken) 0 e) (refl, refl, refl)
 
-  pub value-first : (next : Float) → d .taken ≡ 1 → ofBits binary32 0 ≡ valueBefore d next
-  unfolding valueBefore
-  value-first next h = rw (eq-eqb _ _ h) nought-word
+  -- any other the value of the place before it
+  pub later-judged : (value floor : Float) (over b : Bool) (at : ℕ) (room values flags : List ℕ) → (d .taken ≡ 0 → ⊥) → value ≡ valueBefore d next
+      → b ≡ heldBack (d .start) (d .taken + 1) → over ≡ not b
+      → (floor ≡ floorWith h value over) × (values ≡ valuesWith h value) × (flags ≡ sets room at (map flagByte (flagsWith h value over)))
+      → Judged at room floor values flags
+  unfolding floorBehind withSample flagsBy overWith
+  later-judged value floor over b at room values flags some ev eb eo (ef, es, eg) =
+      let later : eqb (d .taken) 0 ≡ false = ne-eqb (d .taken) 0 some in
+      rw later (ef ∙ rw (eo, eb, ev) refl, es ∙ rw ev refl, eg ∙ rw (eo, eb, ev) refl)
 
-  pub value-later : (next r : Float) → (d .taken ≡ 1 → ⊥) → r ≡ fromMiddle (d .before) (d .last) next → r ≡ valueBefore d next
-  unfolding valueBefore
-  value-later next r h e = rw (ne-eqb _ _ h) e
-
-  -- ---- A sample
-
-  pub first-sample : (next : Float) → d .taken ≡ 0
-      → record {
-        total = d .total;
-        taken = 1;
-        running = d .running;
-        factor = d .factor;
-        floor = d .floor;
-        before = d .last;
-        last = next;
-      }
-      ≡ withSample d next
-  unfolding withSample
-  first-sample next h = rw (h) refl
-
-  pub next-sample : (next value floor : Float) (flag : ℕ) → 1 ≤ d .taken → value ≡ valueBefore d next
-      → (flag ≡ flagByte (flagWith d value)) × (floor ≡ floorWith d value)
-      → (flag ≡ flagByte (flagWith d (valueBefore d next)))
-      × (record {
+  pub sample-in : (floor : Float) (at : ℕ) (room values flags : List ℕ) → Judged at room floor values flags
+      → (holding
+      (record {
+        start = d .start;
         total = d .total;
         taken = d .taken + 1;
         running = d .running;
@@ -108,105 +97,92 @@ module _ (d : Detector) where
         floor = floor;
         before = d .last;
         last = next;
-      }
-      ≡ withSample d next)
-  unfolding withSample
-  next-sample next value floor flag h ev both =
-      let some : eqb (d .taken) 0 ≡ false = ne-eqb (d .taken) 0 (λ e. absurd (omega (arith, h, e))) in
-      (both .0 ∙ rw ev refl, rw (some, both .1, ev) refl)
+      })
+      values
+      ≡ withSample h next)
+      × (flags ≡ sets room at (map flagByte (flagsBy h next)))
+  unfolding floorBehind withSample
+  sample-in floor at room values flags (ef, es, eg) = (rw (ef, es) refl, eg)
 
--- ---- As many flags as are due
-
--- of one sample: none with the very first, and else one
-flag-count : (d : Detector) (x : Float) → ((d .taken ≡ 0) × (length (flagBefore d x) ≡ 0)) ⊎ ((d .taken ≡ 0 → ⊥) × (length (flagBefore d x) ≡ 1))
-unfolding flagBefore
-flag-count d x =
-    elim (truth (eqb (d .taken) 0)) [
-      | inl h ↦ inl (eqb-true (d .taken) 0 h, rw h refl)
-      | inr h ↦ inr (eqb-false (d .taken) 0 h, rw h refl)
-    ]
-
-pub one-more : (d : Detector) (x : Float) → withSample d x .taken ≡ d .taken + 1
-unfolding withSample
-one-more d x = refl
-
--- numbers alone
-pub due-is : (t n : ℕ) → 1 ≤ t → flagsDue t n ≡ n
-due-is t n h = omega arith
-
-more-due : (t n here rest : ℕ) → ((t ≡ 0) × (here ≡ 0)) ⊎ ((t ≡ 0 → ⊥) × (here ≡ 1)) → rest ≡ flagsDue (t + 1) n
-    → here + rest ≡ flagsDue t (suc n)
-more-due t n here rest (inl (ht, hh)) hr = rw (ht, hh, hr) (omega arith)
-more-due t n here rest (inr (ht, hh)) hr =
-    let some : 1 ≤ t = omega (arith, ht) in rw (hh, hr, due-is t (suc n) some, due-is (t + 1) n (omega arith)) (omega arith)
-
-pub due-length : (d : Detector) (ws : List ℕ) → length (flagsBefore d ws) ≡ flagsDue (d .taken) (length ws)
-unfolding flagsBefore
-due-length d [] = omega arith
-due-length d (w ∷ ws) =
-    let next = withSample d (float w) in
-    let later : length (flagsBefore next ws) ≡ flagsDue (d .taken + 1) (length ws) =
-    due-length next ws ∙ ap (λ (k : ℕ). flagsDue k (length ws)) (one-more d (float w))
-    in
-    length-append (flagBefore d (float w)) (flagsBefore next ws)
-    ∙ more-due (d .taken) (length ws) _ _ (flag-count d (float w)) later
+-- the room for the flags of one that is not the very first
+pub before-room : (d : Detector) (held : List ℕ) (value : Float) (over b : Bool) (at size : ℕ) → (d .taken ≡ 0 → ⊥) → meanOver ≤ length held
+    → b ≡ heldBack (d .start) (d .taken + 1) → over ≡ not b → at + flagsDue (d .start) (d .taken) 1 ≤ size
+    → at + length (judgedWith (holding d held) value over) ≤ size
+before-room d held value over b at size some enough eb eo fits =
+    let so : over ≡ overWith d = eo ∙ sym (over-is d b (sym eb)) in
+    rw so (omega (arith, fits, judged-length (holding d held) value (omega (arith, some)) enough))
 
 -- ---- The samples of a piece, one by one
 
--- a sample that is not the very first is taken in, and what is left gives the whole
+-- the room stays as long
+pub flags-count : (h : Holding) (x : Float) (given size : ℕ) (room after : List ℕ) → after ≡ sets room given (map flagByte (flagsBy h x))
+    → length room ≡ size → length after ≡ size
+flags-count h x given size room after e count = ap length e ∙ length-sets room given (map flagByte (flagsBy h x)) ∙ count
+
 module _ (piece : List ℕ) where
-  -- what is left from place i on
-  abbrev pub left-from : Detector → ℕ → List ℕ
-  left-from d i = map flagByte (flagsBefore d (drop i piece))
+  -- the flags that are left from place i on
+  abbrev pub left-from : Holding → ℕ → List ℕ
+  left-from h i = map flagByte (flagsBefore h (drop i piece))
 
-  pub piece-more : (d e whole : Detector) (x : Float) (i : ℕ) → i < length piece → x ≡ ofBits binary32 (getD piece i 0) → e ≡ withSample d x
-      → withPiece d (drop i piece) ≡ whole → withPiece e (drop (i + 1) piece) ≡ whole
+  -- a sample is taken in, and what is left gives the whole
+  pub piece-more : (h e whole : Holding) (x : Float) (i : ℕ) → i < length piece → x ≡ ofBits binary32 (getD piece i 0) → e ≡ withSample h x
+      → withPiece h (drop i piece) ≡ whole → withPiece e (drop (i + 1) piece) ≡ whole
   unfolding withPiece float
-  piece-more d e whole x i h ex ee rest =
+  piece-more h e whole x i inside ex ee rest =
       let next : i + 1 ≡ suc i = omega arith in
-      rw (ee, ex, next) (sym (ap (withPiece d) (drop-cons piece i 0 h)) ∙ rest)
+      rw (ee, ex, next) (sym (ap (withPiece h) (drop-cons piece i 0 inside)) ∙ rest)
 
-  pub flags-more : (d e : Detector) (x : Float) (from i w : ℕ) (room whole : List ℕ) → from ≤ i → i < length piece → 1 ≤ d .taken
-      → x ≡ ofBits binary32 (getD piece i 0) → w ≡ flagByte (flagWith d (valueBefore d x)) → e ≡ withSample d x
-      → sets room (i - from) (left-from d i) ≡ whole
-      → sets (set room (i - from) w) (i + 1 - from) (left-from e (i + 1)) ≡ whole
-  unfolding flagsBefore flagBefore float
-  flags-more d e x from i w room whole low h some ex ew ee rest =
+  flags-split : (h e : Holding) (x : Float) (i : ℕ) → i < length piece → x ≡ ofBits binary32 (getD piece i 0) → e ≡ withSample h x
+      → flagsBefore h (drop i piece) ≡ flagsBy h x ++ flagsBefore e (drop (i + 1) piece)
+  unfolding flagsBefore float
+  flags-split h e x i inside ex ee =
       let next : i + 1 ≡ suc i = omega arith in
-      let there : i + 1 - from ≡ suc (i - from) = omega arith in
-      let later : eqb (d .taken) 0 ≡ false = ne-eqb (d .taken) 0 (λ z. absurd (omega (arith, some, z))) in
-      let first : left-from d i ≡ w ∷ left-from e (i + 1) =
-      ap (λ (l : List ℕ). map flagByte (flagsBefore d l)) (drop-cons piece i 0 h) ∙ rw (ew, ee, ex, later, next) refl
+      ap (flagsBefore h) (drop-cons piece i 0 inside) ∙ rw (ee, ex, next) refl
+
+  pub flags-more : (h e : Holding) (x : Float) (start : Start) (t i given : ℕ) (room after whole : List ℕ) → i < length piece
+      → x ≡ ofBits binary32 (getD piece i 0) → e ≡ withSample h x → meanOver ≤ length (h .values)
+      → h .detector .start ≡ start → h .detector .taken ≡ t + i → given ≡ flagsDue start t i
+      → after ≡ sets room given (map flagByte (flagsBy h x))
+      → sets room (flagsDue start t i) (left-from h i) ≡ whole
+      → sets after (flagsDue start t (i + 1)) (left-from e (i + 1)) ≡ whole
+  flags-more h e x start t i given room after whole inside ex ee enough es et eg ea rest =
+      let at = flagsDue start t i in
+      let mine = map flagByte (flagsBy h x) in
+      let many : length mine ≡ flagsDue start (t + i) 1 =
+      length-map (flagsBy h x) flagByte
+      ∙ by-length h x enough
+      ∙ ap (λ (b : Start). flagsDue b (h .detector .taken) 1) es
+      ∙ ap (λ (k : ℕ). flagsDue start k 1) et
       in
-      rw there (sym (ap (sets room (i - from)) first) ∙ rest)
+      let there : flagsDue start t (i + 1) ≡ at + length mine = due-both start t i 1 ∙ ap (λ (k : ℕ). at + k) (sym many) in
+      let all : left-from h i ≡ mine ++ left-from e (i + 1) =
+      ap (map flagByte) (flags-split h e x i inside ex ee) ∙ map-append flagByte (flagsBy h x) _
+      in
+      rw (there, ea, eg) (sets-both room mine (left-from e (i + 1)) at ∙ sym (ap (sets room at) all) ∙ rest)
 
   -- where nothing is left, the whole is there
-  pub all-taken : (d whole : Detector) (i : ℕ) → length piece ≤ i → withPiece d (drop i piece) ≡ whole → d ≡ whole
+  pub all-taken : (h whole : Holding) (i : ℕ) → length piece ≤ i → withPiece h (drop i piece) ≡ whole → h ≡ whole
   unfolding withPiece
-  all-taken d whole i h e = sym (ap (withPiece d) (drop-of-length-le piece h)) ∙ e
+  all-taken h whole i k e = sym (ap (withPiece h) (drop-of-length-le piece k)) ∙ e
 
-  pub all-flagged : (d : Detector) (from i : ℕ) (room whole : List ℕ) → length piece ≤ i → sets room (i - from) (left-from d i) ≡ whole → room ≡ whole
+  pub all-flagged : (h : Holding) (i at : ℕ) (room whole : List ℕ) → length piece ≤ i → sets room at (left-from h i) ≡ whole → room ≡ whole
   unfolding flagsBefore
-  all-flagged d from i room whole h e = sym (ap (λ (l : List ℕ). sets room (i - from) (map flagByte (flagsBefore d l))) (drop-of-length-le piece h)) ∙ e
+  all-flagged h i at room whole k e =
+      sym (ap (λ (l : List ℕ). sets room at (map flagByte (flagsBefore h l))) (drop-of-length-le piece k)) ∙ e
+
+-- room for one sample more
+pub next-room : (start own : Start) (t taken i n given size : ℕ) → own ≡ start → taken ≡ t + i → given ≡ flagsDue start t i → i < n
+    → flagsDue start t n ≤ size → given + flagsDue own taken 1 ≤ size
+next-room start own t taken i n given size es et eg h fits =
+    let split : i + (1 + (n - (i + 1))) ≡ n = omega (arith, h) in
+    let all : flagsDue start t n ≡ flagsDue start t i + (flagsDue start (t + i) 1 + flagsDue start (t + i + 1) (n - (i + 1))) =
+    ap (flagsDue start t) (sym split)
+    ∙ due-both start t i (1 + (n - (i + 1)))
+    ∙ ap (λ (k : ℕ). flagsDue start t i + k) (due-both start (t + i) 1 (n - (i + 1)))
+    in
+    rw (es, et, eg) (omega (arith, fits, all))
 
 -- ---- A piece
-
--- nothing is taken in
-pub none-taken : (d : Detector) (piece room : List ℕ) → length piece ≡ 0 → (d ≡ withPiece d piece) × (room ≡ flagsIn room (flagsBefore d piece))
-unfolding withPiece flagsBefore
-none-taken d [] room h = (refl, refl)
-none-taken d (w ∷ ws) room h = absurd (omega (arith, h))
-
--- the very first sample, and then the others
-pub first-taken : (d first e : Detector) (x : Float) (piece room after : List ℕ) → (length piece ≡ 0 → ⊥) → d .taken ≡ 0
-    → x ≡ ofBits binary32 (getD piece 0 0) → first ≡ withSample d x
-    → (e ≡ withPiece first (drop 1 piece)) × (after ≡ flagsIn room (flagsBefore first (drop 1 piece)))
-    → (e ≡ withPiece d piece) × (after ≡ flagsIn room (flagsBefore d piece))
-unfolding withPiece flagsBefore flagBefore float
-first-taken d first e x [] room after some h ex ef both = absurd (some refl)
-first-taken d first e x (w ∷ ws) room after some h ex ef both =
-    let none : eqb (d .taken) 0 ≡ true = eq-eqb (d .taken) 0 h in
-    (both .0 ∙ rw (ef, ex) refl, both .1 ∙ rw (ef, ex, none) refl)
 
 -- a place of a detector that goes on, as the code tests it
 module _ (d : Detector) (goes : d .running ≡ true) where
@@ -228,45 +204,90 @@ module _ (d : Detector) (goes : d .running ≡ true) where
 pub not-much : (d : Detector) (n : ℕ) (b : Bool) → b ≡ tooMuch d n → b ≡ false → d .taken + n ≤ d .total
 not-much d n b e h = ltb-false (d .total) (d .taken + n) (neither (not (d .running)) (ltb (d .total) (d .taken + n)) (sym e ∙ h) .1)
 
-module _ (d : Detector) (piece room : List ℕ) (b : Bool) (eb : b ≡ tooMuch d (length piece)) where
-  pub piece-much : (e : Detector) → b ≡ true → e ≡ closed d → told (Refused Pieces) e room ≡ pieceTold d piece room
+module _ (d : Detector) (held piece room : List ℕ) where
+  pub piece-few : length held < meanOver → told (Refused Workspace) (holding d held) room ≡ pieceTold (holding d held) piece room
   unfolding pieceTold
-  piece-much e h ee = rw (← eb, h, ee) refl
+  piece-few h = rw (lt-ltb _ _ h) refl
 
-  module _ (right : b ≡ false) (due : ℕ) (ed : due ≡ flagsDue (d .taken) (length piece)) where
-    pub piece-short : length room < due → told (Refused Workspace) d room ≡ pieceTold d piece room
+  module _ (values : meanOver ≤ length held) (b : Bool) (eb : b ≡ tooMuch d (length piece)) where
+    pub piece-much : (e : Detector) → b ≡ true → e ≡ closed d
+        → told (Refused Pieces) (holding e held) room ≡ pieceTold (holding d held) piece room
     unfolding pieceTold
-    piece-short h = rw (← eb, right, ← ed, lt-ltb _ _ h) refl
+    piece-much e h ee = rw (le-ltb _ _ values, ← eb, h, ee) refl
 
-    module _ (enough : due ≤ length room) (read : Answer) (er : read ≡ readable (d .taken) piece) where
-      pub piece-out : (e : Detector) (why : Reason) → read ≡ Refused why → e ≡ closed d → told read e room ≡ pieceTold d piece room
+    module _ (right : b ≡ false) (due : ℕ) (ed : due ≡ flagsDue (d .start) (d .taken) (length piece)) where
+      pub piece-short : length room < due → told (Refused Workspace) (holding d held) room ≡ pieceTold (holding d held) piece room
       unfolding pieceTold
-      piece-out e why h ee = rw (← eb, right, ← ed, le-ltb _ _ enough, ← er, h, ee) refl
+      piece-short h = rw (le-ltb _ _ values, ← eb, right, ← ed, lt-ltb _ _ h) refl
 
-      pub piece-taken : (e : Detector) (m : ℕ) (after : List ℕ) → read ≡ Done m → (e ≡ withPiece d piece) × (after ≡ flagsIn room (flagsBefore d piece))
-          → told (Done due) e after ≡ pieceTold d piece room
-      unfolding pieceTold
-      piece-taken e m after h both = rw (← eb, right, ← ed, le-ltb _ _ enough, ← er, h, both .0, both .1) refl
+      module _ (enough : due ≤ length room) (read : Answer) (er : read ≡ readable (d .taken) piece) where
+        pub piece-out : (e : Detector) (why : Reason) → read ≡ Refused why → e ≡ closed d
+            → told read (holding e held) room ≡ pieceTold (holding d held) piece room
+        unfolding pieceTold
+        piece-out e why h ee = rw (le-ltb _ _ values, ← eb, right, ← ed, le-ltb _ _ enough, ← er, h, ee) refl
+
+        pub piece-taken : (e : Detector) (m : ℕ) (after flags : List ℕ) → read ≡ Done m
+            → (holding e after ≡ withPiece (holding d held) piece) × (flags ≡ flagsIn room (flagsBefore (holding d held) piece))
+            → told (Done due) (holding e after) flags ≡ pieceTold (holding d held) piece room
+        unfolding pieceTold
+        piece-taken e m after flags h both =
+            ap (λ (t : Holding). told (Done due) t flags) (both .0)
+            ∙ rw (le-ltb _ _ values, ← eb, right, ← ed, le-ltb _ _ enough, ← er, h, both .1) refl
 
 -- ---- The end
 
-module _ (d : Detector) (room : List ℕ) (b : Bool) (eb : b ≡ notAll d) where
-  pub end-early : (e : Detector) → b ≡ true → e ≡ closed d → told (Refused Pieces) e room ≡ endTold d room
+-- what it gives where some are in, by the code's 0
+last-some : (d : Detector) (held : List ℕ) → (d .taken ≡ 0 → ⊥)
+    → (lastValues (holding d held) ≡ valuesWith (holding d held) (ofBits binary32 0))
+    × (lastFlags (holding d held) ≡ flagsWith (holding d held) (ofBits binary32 0) true)
+unfolding lastValues lastFlags
+last-some d held some =
+    let later : eqb (d .taken) 0 ≡ false = ne-eqb (d .taken) 0 some in
+    rw later (
+      ap (valuesWith (holding d held)) (sym nought-word),
+      ap (λ (v : Float). flagsWith (holding d held) v true) (sym nought-word),
+    )
+
+module _ (d : Detector) (held room : List ℕ) where
+  pub end-few : length held < meanOver → told (Refused Workspace) (holding d held) room ≡ endTold (holding d held) room
   unfolding endTold
-  end-early e h ee = rw (← eb, h, ee) refl
+  end-few h = rw (lt-ltb _ _ h) refl
 
-  module _ (right : b ≡ false) where
-    pub end-empty : (e : Detector) → d .taken ≡ 0 → e ≡ closed d → told (Done 0) e room ≡ endTold d room
-    unfolding endTold lastFlag
-    end-empty e h ee = rw (← eb, right, eq-eqb (d .taken) 0 h, le-ltb (length room) 0 (omega arith), ee) refl
+  module _ (values : meanOver ≤ length held) (b : Bool) (eb : b ≡ notAll d) where
+    pub end-early : (e : Detector) → b ≡ true → e ≡ closed d → told (Refused Pieces) (holding e held) room ≡ endTold (holding d held) room
+    unfolding endTold
+    end-early e h ee = rw (le-ltb _ _ values, ← eb, h, ee) refl
 
-    module _ (some : d .taken ≡ 0 → ⊥) where
-      pub end-short : length room ≡ 0 → told (Refused Workspace) d room ≡ endTold d room
-      unfolding endTold lastFlag
-      end-short h = rw (← eb, right, ne-eqb (d .taken) 0 some, lt-ltb (length room) 1 (omega (arith, h))) refl
+    pub end-empty : (e : Detector) → b ≡ false → d .taken ≡ 0 → e ≡ closed d
+        → told (Done 0) (holding e held) room ≡ endTold (holding d held) room
+    unfolding endTold lastValues lastFlags
+    end-empty e h none ee = rw (le-ltb _ _ values, ← eb, h, eq-eqb (d .taken) 0 none, le-ltb (length room) 0 (omega arith), ee) refl
 
-      pub end-one : (e : Detector) (flag : ℕ) → (length room ≡ 0 → ⊥) → flag ≡ flagByte (flagWith d (ofBits binary32 0)) → e ≡ closed d
-          → told (Done 1) e (set room 0 flag) ≡ endTold d room
-      unfolding endTold lastFlag
-      end-one e flag h ef ee =
-          rw (← eb, right, ne-eqb (d .taken) 0 some, le-ltb (length room) 1 (omega (arith, h)), ee, ef, nought-word) refl
+    module _ (right : b ≡ false) (given : ℕ) (eg : given ≡ givenBy (d .start) (d .taken)) where
+      due-so : d .taken - given ≡ length (lastFlags (holding d held))
+      due-so = ap (λ (k : ℕ). d .taken - k) eg ∙ sym (last-length (holding d held) values)
+
+      pub end-short : length room < d .taken - given → told (Refused Workspace) (holding d held) room ≡ endTold (holding d held) room
+      unfolding endTold
+      end-short h = rw (le-ltb _ _ values, ← eb, right, ← due-so, lt-ltb _ _ h) refl
+
+      module _ (enough : d .taken - given ≤ length room) (e : Detector) (ee : e ≡ closed d) where
+        pub end-some : (after flags : List ℕ) → (d .taken ≡ 0 → ⊥)
+            → (after ≡ valuesWith (holding d held) (ofBits binary32 0))
+            × (flags ≡ flagsIn room (flagsWith (holding d held) (ofBits binary32 0) true))
+            → told (Done (d .taken - given)) (holding e after) flags ≡ endTold (holding d held) room
+        unfolding endTold
+        end-some after flags some both =
+            let last = last-some d held some in
+            let after-so : after ≡ lastValues (holding d held) = both .0 ∙ sym (last .0) in
+            let flags-so : flags ≡ flagsIn room (lastFlags (holding d held)) = both .1 ∙ ap (flagsIn room) (sym (last .1)) in
+            rw (le-ltb _ _ values, ← eb, right, ← due-so, le-ltb _ _ enough, ee, after-so, flags-so) refl
+
+-- its room
+pub end-room : (d : Detector) (held : List ℕ) (given size : ℕ) → meanOver ≤ length held → given ≡ givenBy (d .start) (d .taken)
+    → (d .taken ≡ 0 → ⊥) → d .taken - given ≤ size → 0 + length (judgedWith (holding d held) (ofBits binary32 0) true) ≤ size
+end-room d held given size values eg some enough =
+    let h = holding d held in
+    let last : length (judgedWith h (ofBits binary32 0) true) ≡ length (lastFlags h) =
+    sym (length-with h (ofBits binary32 0) true) ∙ ap length (sym (last-some d held some .1)) in
+    omega (arith, last, last-length h values, eg, enough)

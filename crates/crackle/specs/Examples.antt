@@ -1,12 +1,14 @@
 -- Short runs, computed. The samples are nine of which the fifth alone is 1, as in document 01's "Sums done by hand", at sensitivity 10:
--- places 3, 4 and 5 are flagged.
+-- places 3, 4 and 5 are flagged, from either start.
 use mathlib.Core.Path.{_≡_, refl}
 use mathlib.Core.List.{List, [], _∷_}
 use Prim.Native.Nat.{ℕ}
 use Rattle.leaves.specs.Arithmetic.{count}
-use Rattle.crackle.specs.declared.Detector.{Detector}
-use Rattle.crackle.specs.Pieces.{begun, pieceTold, endTold}
-use Rattle.crackle.specs.Cuts.{Offer, Run, inTurn, handed}
+use lib.ListN.{replicate}
+use Rattle.decrackle.specs.declared.Start.the-variants.{Mean, Old}
+use Rattle.decrackle.specs.Decrackle.{meanOver}
+use Rattle.crackle.specs.Pieces.{begun, Holding, pieceTold, endTold}
+use Rattle.crackle.specs.Cuts.{Offer, Run, inTurn, handed, fresh}
 
 -- the word of 1
 abbrev pub click : ℕ
@@ -28,9 +30,11 @@ offers =
     ∷ offer (click ∷ 0 ∷ 0 ∷ 0 ∷ 0 ∷ []) five
     ∷ []
 
-unfoldable pub run : Run Detector
+-- ---- From the old start
+
+unfoldable pub run : Run Holding
 unfolding inTurn pieceTold begun count
-run = handed (begun 9 (count 10)) offers
+run = handed (fresh Old 9 (count 10) (replicate meanOver 0)) offers
 
 -- the first four give three flags, and the click is flagged when the sample behind it is in
 pub answers-given : run .numbers ≡ 0 ∷ 0 ∷ 6 ∷ 0 ∷ []
@@ -45,3 +49,24 @@ flags-joined = refl
 pub last-flag : endTold (run .held) five .room ≡ 0 ∷ 9 ∷ 9 ∷ 9 ∷ 9 ∷ []
 unfolding run endTold
 last-flag = refl
+
+-- ---- From the mean
+
+-- the same samples in two pieces, which bring no flag and need no room
+unfoldable pub held-run : Run Holding
+unfolding inTurn pieceTold begun count
+held-run =
+    handed (fresh Mean 9 (count 10) (replicate meanOver 0)) (offer (0 ∷ 0 ∷ 0 ∷ 0 ∷ []) [] ∷ offer (click ∷ 0 ∷ 0 ∷ 0 ∷ 0 ∷ []) [] ∷ [])
+
+pub held-answers : held-run .numbers ≡ 0 ∷ 0 ∷ []
+unfolding held-run
+held-answers = refl
+
+pub held-flags : held-run .flags ≡ []
+unfolding held-run
+held-flags = refl
+
+-- and the end gives all nine
+pub all-at-the-end : endTold (held-run .held) (replicate 10 9) .room ≡ 0 ∷ 0 ∷ 0 ∷ 1 ∷ 1 ∷ 1 ∷ 0 ∷ 0 ∷ 0 ∷ 9 ∷ []
+unfolding held-run endTold
+all-at-the-end = refl

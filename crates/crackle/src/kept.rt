@@ -5,32 +5,52 @@ ghost use Prim.Native.Nat.{_≤_};
 ghost use lib.ListN.{length};
 ghost use lib.Seq.{sets};
 ghost use Rattle.crackle.specs.Pieces.{told};
-ghost use Rattle.crackle.specs.Kept.{stateWords, runningWord, wordsOf, detectorOf, wordsAfter, beginKept, pieceKept, endKept};
+ghost use Rattle.crackle.specs.Kept.{headWords, runningWord, startWord, startOf, headOf, detectorOf, beginKept, pieceKept, endKept};
+ghost use Rattle.crackle.specs.Inner.{headAfter};
 use super::Announced;
 use super::Detector;
 use super::Heard;
 use super::announce;
+use decrackle::Start;
 use leaves::words::f32_of_word;
 use leaves::words::word_of_f32;
 use recording::Answer;
 use recording::Reason;
 use recording::numbers::number_of;
 
-// As many words belong to the detector; what lies behind them is never touched.
-const STATE_WORDS: usize = 8;
+// As many words are the detector itself, and as many belong to it with the values that it holds back; what lies behind
+// them is never touched.
+const HEAD_WORDS: usize = 8;
+
+const STATE_WORDS: usize = 1032;
 
 // The word of a run that goes on; every other says that it does not.
 const RUNNING: u32 = 1;
 
+// The word of a floor that starts from the mean; every other says that it starts as it used to.
+const FROM_MEAN: u32 = 1;
+
 // The refusal that takes nothing in.
 const NO_ROOM: u32 = 6;
 
+// The start that a word stands for.
+fn start_of(word: u32) -> Start
+    ensures { λ r. ⌜ r ≡ startOf word ⌝ }
+{
+    if word == FROM_MEAN {
+        Start::Mean
+    } else {
+        Start::Old
+    }
+}
+
 // The detector that the words hold.
 fn read_detector(words: &[u32]) -> Detector
-    requires { ⌜ stateWords ≤ length (now words) ⌝ }
+    requires { ⌜ headWords ≤ length (now words) ⌝ }
     ensures { λ r. ⌜ r ≡ detectorOf (now (words .entry)) ⌝ }
 {
     Detector {
+        start: start_of(words[7]),
         total: words[0],
         taken: words[1],
         running: words[2] == RUNNING,
@@ -48,11 +68,22 @@ fn running_word(running: bool) -> u32
     if running { RUNNING } else { 0 }
 }
 
-// Writes the detector into the first words, the eighth of which is not needed.
-fn write_detector(detector: Detector, words: &mut [u32])
-    requires { ⌜ stateWords ≤ length (now words) ⌝ }
-    ensures { λ _. ⌜ now (words .exit) ≡ sets (now (words .entry)) 0 (wordsOf detector) ⌝ }
+// The word of a start.
+fn start_word(start: Start) -> u32
+    ensures { λ r. ⌜ r ≡ startWord start ⌝ }
 {
+    match start {
+        Start::Mean => FROM_MEAN,
+        Start::Old => 0,
+    }
+}
+
+// Writes the detector into the first words.
+fn write_detector(detector: Detector, words: &mut [u32])
+    requires { ⌜ headWords ≤ length (now words) ⌝ }
+    ensures { λ _. ⌜ now (words .exit) ≡ sets (now (words .entry)) 0 (headOf detector) ⌝ }
+{
+    let start = detector.start;
     words[0] = detector.total;
     words[1] = detector.taken;
     words[2] = running_word(detector.running);
@@ -60,13 +91,13 @@ fn write_detector(detector: Detector, words: &mut [u32])
     words[4] = word_of_f32(detector.floor);
     words[5] = word_of_f32(detector.before);
     words[6] = word_of_f32(detector.last);
-    words[7] = 0;
+    words[7] = start_word(start);
 }
 
-// Keeps what a call left, and hands its answer on; after refusal 6 the words stay as they are.
+// Keeps the detector that a call left, and hands its answer on; after refusal 6 the words stay as they are.
 fn keep(heard: Heard, words: &mut [u32]) -> Answer
-    requires { ⌜ stateWords ≤ length (now words) ⌝ }
-    ensures { λ r. ⌜ (r ≡ heard .answer) × (now (words .exit) ≡ wordsAfter (heard .answer) (heard .detector) (now (words .entry))) ⌝ }
+    requires { ⌜ headWords ≤ length (now words) ⌝ }
+    ensures { λ r. ⌜ (r ≡ heard .answer) × (now (words .exit) ≡ headAfter (heard .answer) (heard .detector) (now (words .entry))) ⌝ }
 {
     let answer = heard.answer;
     if number_of(answer) != NO_ROOM {
@@ -77,13 +108,13 @@ fn keep(heard: Heard, words: &mut [u32]) -> Answer
 
 // Begins a run and keeps its detector: refusals 6, for fewer words than it needs, 2 and 4, in this order,
 // leave the words as they were.
-pub fn begin(total: usize, sensitivity: f32, words: &mut [u32]) -> Answer
-    ensures { λ r. ⌜ told r (now (words .exit)) [] ≡ beginKept total sensitivity (now (words .entry)) ⌝ }
+pub fn begin(start: Start, total: usize, sensitivity: f32, words: &mut [u32]) -> Answer
+    ensures { λ r. ⌜ told r (now (words .exit)) [] ≡ beginKept start total sensitivity (now (words .entry)) ⌝ }
 {
     if words.len() < STATE_WORDS {
         return Answer::Refused(Reason::Workspace);
     }
-    match announce(total, sensitivity) {
+    match announce(start, total, sensitivity) {
         Announced::Begun(detector) => {
             write_detector(detector, words);
             Answer::Done(0)
@@ -99,7 +130,9 @@ pub fn piece(words: &mut [u32], piece: &[u32], flags: &mut [u8]) -> Answer
     if words.len() < STATE_WORDS {
         return Answer::Refused(Reason::Workspace);
     }
-    keep(super::piece(read_detector(words), piece, flags), words)
+    let detector = read_detector(words);
+    let heard = super::piece(detector, &mut words[HEAD_WORDS..], piece, flags);
+    keep(heard, words)
 }
 
 // Ends the run of the kept detector: refusal 6 for fewer words than it needs, and else all is as of `finish`.
@@ -109,5 +142,7 @@ pub fn finish(words: &mut [u32], flags: &mut [u8]) -> Answer
     if words.len() < STATE_WORDS {
         return Answer::Refused(Reason::Workspace);
     }
-    keep(super::finish(read_detector(words), flags), words)
+    let detector = read_detector(words);
+    let heard = super::finish(detector, &mut words[HEAD_WORDS..], flags);
+    keep(heard, words)
 }

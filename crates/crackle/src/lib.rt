@@ -1,28 +1,41 @@
 // Crackle detection as the sound arrives: decrackle's detector, lent a recording in consecutive pieces. It
-// flags the same samples, each when the one behind it is in, and repairs nothing.
+// flags the same samples and repairs nothing. A flag comes when the sample behind its own is in; where the floor
+// starts from the mean, the first 1,024 flags are held back until that is known.
 pub mod kept;
 
 ghost use mathlib.Core.Path.{_≡_};
+ghost use mathlib.Core.List.{map};
 ghost use Prim.Native.Nat.{_+_, _-_, _^_, _≤_, _<_};
-ghost use lib.ListN.{length, drop};
-ghost use Rattle.crackle.specs.Pieces.{announced, floorWith, flagWith, valueBefore, withSample, withPiece, flagsBefore, flagsDue};
-ghost use Rattle.crackle.specs.Inner.{flagAgainst};
+ghost use lib.ListN.{length, take};
+ghost use lib.Seq.{sets};
+ghost use Rattle.leaves.specs.Arithmetic.{nought};
+ghost use Rattle.decrackle.specs.Decrackle.{meanOver, summed};
+ghost use Rattle.crackle.specs.Pieces.{announced, knownBy, heldBack, givenBy, flagsDue, Holding, holding, valuesWith, judgedWith, floorAlong};
+ghost use Rattle.crackle.specs.Pieces.{flagsAlong, flagsWith, floorWith, valueBefore, overWith, flagsBy, withSample, withPiece, flagsBefore};
 ghost use Rattle.crackle.specs.Pieces.{flagByte, flagsIn, closed, tooMuch, notAll, told, pieceTold, endTold};
+ghost use Rattle.crackle.specs.Inner.{flagAgainst, floorBehind, magnitudesIn};
 use decrackle::LEAST_SAMPLES;
-use decrackle::OPENING_FLOOR;
+use decrackle::MEAN_OVER;
+use decrackle::OLD_FLOOR;
+use decrackle::Start;
 use decrackle::factor_for;
 use decrackle::from_middle;
+use decrackle::mean_floor;
 use decrackle::raise_floor;
 use decrackle::stands_out;
 use leaves::order::magnitude32;
 use leaves::words::f32_of_word;
+use leaves::words::word_of_f32;
 use recording::Answer;
 use recording::Reason;
 use recording::open::MOST_SAMPLES;
 use recording::read::check_words;
 
-// The detector between two calls: the running floor and the last two samples, beside what it counts by.
+// The detector between two calls: the running floor and the last two samples, beside what it counts by. The values
+// that it holds back stand in a room of 1,024 words that is lent with it.
 pub struct Detector {
+    // Where the floor starts.
+    pub start: Start,
     // How many samples were announced, and how many of them are in.
     pub total: u32,
     pub taken: u32,
@@ -49,21 +62,9 @@ pub struct Heard {
     pub detector: Detector,
 }
 
-// What becomes of a place that is judged: its flag, and the floor behind it.
-struct Judged {
-    flag: u8,
-    floor: f32,
-}
-
-// What a sample brings: the flag of the place before it, and the detector when it is in.
-struct Step {
-    flag: u8,
-    detector: Detector,
-}
-
 // Begins a run of so many samples: refusals 2 and 4, or a detector with nothing in it.
-pub fn announce(total: usize, sensitivity: f32) -> Announced
-    ensures { λ r. ⌜ r ≡ announced total sensitivity ⌝ }
+pub fn announce(start: Start, total: usize, sensitivity: f32) -> Announced
+    ensures { λ r. ⌜ r ≡ announced start total sensitivity ⌝ }
 {
     if MOST_SAMPLES < total {
         return Announced::TurnedAway(Reason::TooMany);
@@ -72,14 +73,45 @@ pub fn announce(total: usize, sensitivity: f32) -> Announced
         return Announced::TurnedAway(Reason::Setting);
     }
     Announced::Begun(Detector {
+        start,
         total: total as u32,
         taken: 0,
         running: true,
         factor: factor_for(sensitivity),
-        floor: OPENING_FLOOR,
+        floor: OLD_FLOOR,
         before: 0.0,
         last: 0.0,
     })
+}
+
+// Whether flags are held back when so many samples are in: where the floor starts from the mean, as long as fewer
+// than 1,024 values are known. The value of a place is known when the sample behind it is in.
+fn held_back(start: Start, taken: usize) -> bool
+    ensures { λ r. ⌜ r ≡ heldBack start taken ⌝ }
+{
+    match start {
+        Start::Mean => taken <= MEAN_OVER,
+        Start::Old => false,
+    }
+}
+
+// How many flags have been given when so many samples are in.
+fn given_by(start: Start, taken: usize) -> usize
+    ensures { λ r. ⌜ r ≡ givenBy start taken ⌝ }
+{
+    if held_back(start, taken) {
+        return 0;
+    }
+    if taken == 0 { 0 } else { taken - 1 }
+}
+
+// How many flags a piece of n samples brings when so many are in. More are given with more samples, so that the
+// difference is not below 0.
+fn flags_due(start: Start, taken: usize, n: usize) -> usize
+    requires { ⌜ taken + n < 2 ^ 64 ⌝ }
+    ensures { λ r. ⌜ r ≡ flagsDue start taken n ⌝ }
+{
+    given_by(start, taken + n) - given_by(start, taken)
 }
 
 // 1 where a place with the detector's magnitude a is flagged, and else 0; where fewer than 8 samples were
@@ -97,16 +129,75 @@ fn flag_byte(detector: Detector, floor: f32, a: f32) -> u8
     }
 }
 
-// Judges the place where the detector's value is this: the floor takes it in first.
-fn judge(detector: Detector, value: f32) -> Judged
-    ensures { λ r. ⌜ (r .flag ≡ flagByte (flagWith detector value)) × (r .floor ≡ floorWith detector value) ⌝ }
+// The sum of the magnitudes of the first n values that are held, in order.
+fn sum_held(held: &[u32], n: usize) -> f32
+    requires { ⌜ n ≤ length (now held) ⌝ }
+    ensures { λ r. ⌜ r ≡ summed nought (magnitudesIn (take n (now (held .entry)))) ⌝ }
 {
-    let a = magnitude32(value);
-    let floor = raise_floor(detector.floor, a);
-    Judged {
-        flag: flag_byte(detector, floor, a),
-        floor,
+    let mut sum: f32 = 0.0;
+    let mut k: usize = 0;
+    while k < n {
+        sum = sum + magnitude32(f32_of_word(held[k]));
+        k += 1;
     }
+    sum
+}
+
+// Judges the first n values that are held, where this is the floor before them: each raises it first, and is then held
+// against it. Their flags are written from place `at` of the room on, and the floor behind them is given.
+fn judge_held(
+    detector: Detector,
+    floor: f32,
+    held: &[u32],
+    n: usize,
+    flags: &mut [u8],
+    at: usize,
+) -> f32
+    requires { ⌜ (n ≤ length (now held)) × (at + n ≤ length (now flags)) ⌝ }
+    ensures { λ r. ⌜ (r ≡ floorAlong floor (magnitudesIn (take n (now (held .entry)))))
+        × (now (flags .exit) ≡ sets (now (flags .entry)) at (map flagByte (flagsAlong detector floor (magnitudesIn (take n (now (held .entry))))))) ⌝ }
+{
+    let mut present = floor;
+    let mut k: usize = 0;
+    while k < n {
+        let a = magnitude32(f32_of_word(held[k]));
+        present = raise_floor(present, a);
+        flags[at + k] = flag_byte(detector, present, a);
+        k += 1;
+    }
+    present
+}
+
+// Judges the place whose value this is, or holds it back; once that is `over`, all that are held. The flags are
+// written from place `at` of the room on, and the floor behind them is given.
+fn judge(
+    detector: Detector,
+    held: &mut [u32],
+    value: f32,
+    over: bool,
+    flags: &mut [u8],
+    at: usize,
+) -> f32
+    requires { ⌜ (1 ≤ detector .taken) × (meanOver ≤ length (now held))
+        × (at + length (judgedWith (holding detector (now held)) value over) ≤ length (now flags)) ⌝ }
+    ensures { λ r. ⌜ (r ≡ floorWith (holding detector (now (held .entry))) value over)
+        × (now (held .exit) ≡ valuesWith (holding detector (now (held .entry))) value)
+        × (now (flags .exit) ≡ sets (now (flags .entry)) at (map flagByte (flagsWith (holding detector (now (held .entry))) value over))) ⌝ }
+{
+    let start = detector.start;
+    let taken = detector.taken as usize;
+    if !held_back(start, taken) {
+        let a = magnitude32(value);
+        let floor = raise_floor(detector.floor, a);
+        flags[at] = flag_byte(detector, floor, a);
+        return floor;
+    }
+    held[taken - 1] = word_of_f32(value);
+    if !over {
+        return detector.floor;
+    }
+    let opening = mean_floor(sum_held(held, taken), taken);
+    judge_held(detector, opening, held, taken, flags, at)
 }
 
 // The detector's value at the place of the last sample, where this is the next one.
@@ -120,92 +211,83 @@ fn value_before(detector: Detector, next: f32) -> f32
     }
 }
 
-// The detector with its very first sample in, which brings no flag.
-fn with_first(detector: Detector, next: f32) -> Detector
-    requires { ⌜ detector .taken ≡ 0 ⌝ }
-    ensures { λ r. ⌜ r ≡ withSample detector next ⌝ }
+// The floor when the next sample is in, which makes the value of the last place known; the very first makes none.
+fn judge_before(detector: Detector, held: &mut [u32], next: f32, flags: &mut [u8], at: usize) -> f32
+    requires { ⌜ (meanOver ≤ length (now held)) × (at + flagsDue (detector .start) (detector .taken) 1 ≤ length (now flags)) ⌝ }
+    ensures { λ r. ⌜ (r ≡ floorBehind (holding detector (now (held .entry))) next)
+        × (now (held .exit) ≡ withSample (holding detector (now (held .entry))) next .values)
+        × (now (flags .exit) ≡ sets (now (flags .entry)) at (map flagByte (flagsBy (holding detector (now (held .entry))) next))) ⌝ }
 {
-    Detector {
-        total: detector.total,
-        taken: 1,
-        running: detector.running,
-        factor: detector.factor,
-        floor: detector.floor,
-        before: detector.last,
-        last: next,
+    if detector.taken == 0 {
+        return detector.floor;
     }
+    let start = detector.start;
+    let over = !held_back(start, detector.taken as usize + 1);
+    judge(
+        detector,
+        held,
+        value_before(detector, next),
+        over,
+        flags,
+        at,
+    )
 }
 
-// The detector with one sample more in, and the flag that it brings. The count of samples has 32 bits.
-fn with_next(detector: Detector, next: f32) -> Step
-    requires { ⌜ (1 ≤ detector .taken) × (detector .taken + 1 < 2 ^ 32) ⌝ }
-    ensures { λ r. ⌜ (r .flag ≡ flagByte (flagWith detector (valueBefore detector next))) × (r .detector ≡ withSample detector next) ⌝ }
+// Takes in one sample, and writes the flags that it brings from place `at` of the room on. The count of samples has
+// 32 bits.
+fn with_sample(
+    detector: Detector,
+    held: &mut [u32],
+    next: f32,
+    flags: &mut [u8],
+    at: usize,
+) -> Detector
+    requires { ⌜ (meanOver ≤ length (now held)) × (at + flagsDue (detector .start) (detector .taken) 1 ≤ length (now flags))
+        × (detector .taken + 1 < 2 ^ 32) ⌝ }
+    ensures { λ r. ⌜ (holding r (now (held .exit)) ≡ withSample (holding detector (now (held .entry))) next)
+        × (now (flags .exit) ≡ sets (now (flags .entry)) at (map flagByte (flagsBy (holding detector (now (held .entry))) next))) ⌝ }
 {
-    let judged = judge(detector, value_before(detector, next));
-    let detector = Detector {
+    let start = detector.start;
+    let floor = judge_before(detector, held, next, flags, at);
+    Detector {
+        start,
         total: detector.total,
         taken: detector.taken + 1,
         running: detector.running,
         factor: detector.factor,
-        floor: judged.floor,
+        floor,
         before: detector.last,
         last: next,
-    };
-    Step {
-        flag: judged.flag,
-        detector,
     }
 }
 
-// Takes in the samples of a piece from place `from` on, none of which is the very first: each brings a flag. Their
-// count fits in 32 bits, since it is at most the total.
-fn follow(detector: Detector, piece: &[u32], from: usize, flags: &mut [u8]) -> Detector
-    requires { ⌜ (1 ≤ detector .taken) × (from ≤ length (now piece)) × (detector .taken + (length (now piece) - from) < 2 ^ 32)
-        × (length (now piece) - from ≤ length (now flags)) ⌝ }
-    ensures { λ r. ⌜ (r ≡ withPiece detector (drop from (now (piece .entry))))
-        × (now (flags .exit) ≡ flagsIn (now (flags .entry)) (flagsBefore detector (drop from (now (piece .entry))))) ⌝ }
+// Takes in a piece sample by sample, and writes the flags that it brings. The count of samples fits in 32 bits, since
+// it is at most the total.
+fn take_in(detector: Detector, held: &mut [u32], piece: &[u32], flags: &mut [u8]) -> Detector
+    requires { ⌜ (meanOver ≤ length (now held)) × (detector .taken + length (now piece) < 2 ^ 32)
+        × (flagsDue (detector .start) (detector .taken) (length (now piece)) ≤ length (now flags)) ⌝ }
+    ensures { λ r. ⌜ (holding r (now (held .exit)) ≡ withPiece (holding detector (now (held .entry))) (now (piece .entry)))
+        × (now (flags .exit) ≡ flagsIn (now (flags .entry)) (flagsBefore (holding detector (now (held .entry))) (now (piece .entry)))) ⌝ }
 {
+    let start = detector.start;
+    let taken = detector.taken as usize;
     let mut present = detector;
-    let mut i = from;
+    let mut i: usize = 0;
     while i < piece.len() {
-        let step = with_next(present, f32_of_word(piece[i]));
-        flags[i - from] = step.flag;
-        present = step.detector;
+        let given = flags_due(start, taken, i);
+        present = with_sample(present, held, f32_of_word(piece[i]), flags, given);
         i += 1;
     }
     present
-}
-
-// Takes in a piece, and writes the flags that it brings.
-fn take_in(detector: Detector, piece: &[u32], flags: &mut [u8]) -> Detector
-    requires { ⌜ (detector .taken + length (now piece) < 2 ^ 32) × (flagsDue (detector .taken) (length (now piece)) ≤ length (now flags)) ⌝ }
-    ensures { λ r. ⌜ (r ≡ withPiece detector (now (piece .entry)))
-        × (now (flags .exit) ≡ flagsIn (now (flags .entry)) (flagsBefore detector (now (piece .entry)))) ⌝ }
-{
-    if piece.len() == 0 {
-        return detector;
-    }
-    if detector.taken == 0 {
-        return follow(with_first(detector, f32_of_word(piece[0])), piece, 1, flags);
-    }
-    follow(detector, piece, 0, flags)
-}
-
-// How many flags a piece of n samples brings when so many are in: one for each but the very first.
-fn flags_due(taken: u32, n: usize) -> usize
-    ensures { λ r. ⌜ r ≡ flagsDue taken n ⌝ }
-{
-    if taken != 0 {
-        return n;
-    }
-    if n == 0 { 0 } else { n - 1 }
 }
 
 // The detector of a run that does not go on.
 fn close(detector: Detector) -> Detector
     ensures { λ r. ⌜ r ≡ closed detector ⌝ }
 {
+    let start = detector.start;
     Detector {
+        start,
         total: detector.total,
         taken: detector.taken,
         running: false,
@@ -239,19 +321,27 @@ fn not_all(detector: Detector) -> bool
     detector.taken != detector.total
 }
 
-// Gives the detector a piece, and writes the flags that this brings from the first place of the room on:
-// refusals 13, 6 and 7, in this order, leave the room as it was.
-pub fn piece(detector: Detector, piece: &[u32], flags: &mut [u8]) -> Heard
-    ensures { λ r. ⌜ told (r .answer) (r .detector) (now (flags .exit)) ≡ pieceTold detector (now (piece .entry)) (now (flags .entry)) ⌝ }
+// Gives the detector a piece, and writes the flags that this brings from the first place of the room on: refusals 6,
+// for room for fewer than 1,024 held values, 13, 6 and 7, in this order, leave both rooms as they were.
+pub fn piece(detector: Detector, held: &mut [u32], piece: &[u32], flags: &mut [u8]) -> Heard
+    ensures { λ r. ⌜ told (r .answer) (holding (r .detector) (now (held .exit))) (now (flags .exit))
+        ≡ pieceTold (holding detector (now (held .entry))) (now (piece .entry)) (now (flags .entry)) ⌝ }
 {
+    let start = detector.start;
     let n = piece.len();
+    if held.len() < MEAN_OVER {
+        return Heard {
+            answer: Answer::Refused(Reason::Workspace),
+            detector,
+        };
+    }
     if too_much(detector, n) {
         return Heard {
             answer: Answer::Refused(Reason::Pieces),
             detector: close(detector),
         };
     }
-    let due = flags_due(detector.taken, n);
+    let due = flags_due(start, detector.taken as usize, n);
     if flags.len() < due {
         return Heard {
             answer: Answer::Refused(Reason::Workspace),
@@ -267,37 +357,46 @@ pub fn piece(detector: Detector, piece: &[u32], flags: &mut [u8]) -> Heard
     };
     Heard {
         answer: Answer::Done(due),
-        detector: take_in(detector, piece, flags),
+        detector: take_in(detector, held, piece, flags),
     }
 }
 
-// Ends the run, and writes the last flag in the first place of the room, or none where the total is 0:
-// refusals 13 and 6, in this order, leave the room as it was.
-pub fn finish(detector: Detector, flags: &mut [u8]) -> Heard
-    ensures { λ r. ⌜ told (r .answer) (r .detector) (now (flags .exit)) ≡ endTold detector (now (flags .entry)) ⌝ }
+// Ends the run, and writes the flags that are left from the first place of the room on, none where the total is 0:
+// refusals 6, for room for fewer than 1,024 held values, 13 and 6, in this order, leave both rooms as they were.
+pub fn finish(detector: Detector, held: &mut [u32], flags: &mut [u8]) -> Heard
+    ensures { λ r. ⌜ told (r .answer) (holding (r .detector) (now (held .exit))) (now (flags .exit))
+        ≡ endTold (holding detector (now (held .entry))) (now (flags .entry)) ⌝ }
 {
+    if held.len() < MEAN_OVER {
+        return Heard {
+            answer: Answer::Refused(Reason::Workspace),
+            detector,
+        };
+    }
     if not_all(detector) {
         return Heard {
             answer: Answer::Refused(Reason::Pieces),
             detector: close(detector),
         };
     }
-    if detector.taken == 0 {
+    let start = detector.start;
+    let taken = detector.taken as usize;
+    if taken == 0 {
         return Heard {
             answer: Answer::Done(0),
             detector: close(detector),
         };
     }
-    if flags.len() == 0 {
+    let due = taken - given_by(start, taken);
+    if flags.len() < due {
         return Heard {
             answer: Answer::Refused(Reason::Workspace),
             detector,
         };
     }
-    let judged = judge(detector, 0.0);
-    flags[0] = judged.flag;
+    judge(detector, held, 0.0, true, flags, 0);
     Heard {
-        answer: Answer::Done(1),
+        answer: Answer::Done(due),
         detector: close(detector),
     }
 }

@@ -12,7 +12,6 @@ use lib.ListN.{length, getD, drop, length-map}
 use lib.Ieee.{Float, eq}
 use Rattle.leaves.proofs.words.Laws.{number-test}
 use Rattle.recording.specs.Recording.{State, called}
-use Rattle.recording.specs.Marks as marks
 use Rattle.recording.specs.Inner.{flags}
 use Rattle.recording.specs.Runs.{begins, runLength}
 use Rattle.recording.proofs.Runs.{begins-there, run-short}
@@ -21,7 +20,8 @@ use Rattle.redraw.specs.Runs.{overRuns}
 use Rattle.redraw.specs.Inner.{wordsIn, flagsIn, drawnIn, flaggedAt, Holds, Room}
 use Rattle.redraw.proofs.Workspace.{rest-behind, flags-behind, flags-count, room-stays}
 use Rattle.redraw.proofs.Runs.{over-one, over-none, over-all}
-use Rattle.decrackle.specs.Decrackle.{flagsOf, repairHermite, smoothed, decrackled, decracklePlan, decrackleRepair}
+use Rattle.decrackle.specs.declared.Start.{Start}
+use Rattle.decrackle.specs.Decrackle.{flagsOf, repairHermite, smoothed, decrackled, markFor, decracklePlan, decrackleRepair}
 use Rattle.decrackle.proofs.Ends.{ends-never-flagged}
 
 -- ---- A run that begins behind the first place and does not reach the last
@@ -103,17 +103,17 @@ module _ (n : ℕ) (w₀ : List ℕ) (i : ℕ) (w : List ℕ) (there : Smoothing
 -- ---- All of it
 
 -- a short recording stays as it was laid out
-pub drawn-short : (sensitivity : Float) (samples w : List ℕ) → length samples < 8 → drawnIn (length samples) w ≡ untouched samples
-    → Holds (length samples) (decrackled sensitivity samples) w w
+pub drawn-short : (start : Start) (sensitivity : Float) (samples w : List ℕ) → length samples < 8 → drawnIn (length samples) w ≡ untouched samples
+    → Holds (length samples) (decrackled start sensitivity samples) w w
 unfolding decrackled
-drawn-short sensitivity samples w h e = record { holds = e ∙ rw (lt-ltb _ _ h) refl; keeps = refl }
+drawn-short start sensitivity samples w h e = record { holds = e ∙ rw (lt-ltb _ _ h) refl; keeps = refl }
 
-module _ (sensitivity : Float) (samples w v : List ℕ) (laid : drawnIn (length samples) w ≡ untouched samples)
-    (flagging : Holds (length samples) (drawn (wordsIn (length samples) w) (flagsOf sensitivity samples)) w v) where
+module _ (start : Start) (sensitivity : Float) (samples w v : List ℕ) (laid : drawnIn (length samples) w ≡ untouched samples)
+    (flagging : Holds (length samples) (drawn (wordsIn (length samples) w) (flagsOf start sensitivity samples)) w v) where
   abbrev n : ℕ
   n = length samples
 
-  named : flags (flagsIn n v) ≡ flagsOf sensitivity samples
+  named : flags (flagsIn n v) ≡ flagsOf start sensitivity samples
   named = ap (λ (d : Drawn). d .named) (flagging .holds)
 
   words : wordsIn n v ≡ samples
@@ -121,31 +121,32 @@ module _ (sensitivity : Float) (samples w v : List ℕ) (laid : drawnIn (length 
 
   -- neither end is flagged
   pub first-clear : flaggedAt n v 0 ≡ false
-  first-clear = ap (λ (bs : List Bool). getD bs 0 false) named ∙ ends-never-flagged sensitivity samples 0 (inl refl)
+  first-clear = ap (λ (bs : List Bool). getD bs 0 false) named ∙ ends-never-flagged start sensitivity samples 0 (inl refl)
 
   pub last-clear : 8 ≤ n → flaggedAt n v (n - 1) ≡ false
-  last-clear h = ap (λ (bs : List Bool). getD bs (n - 1) false) named ∙ ends-never-flagged sensitivity samples (n - 1) (inr (omega arith))
+  last-clear h = ap (λ (bs : List Bool). getD bs (n - 1) false) named ∙ ends-never-flagged start sensitivity samples (n - 1) (inr (omega arith))
 
   -- what the flags and the runs make of the samples
   pub drawn-all : (u : List ℕ) → 8 ≤ n → (wordsIn n u ≡ smoothed (flags (flagsIn n v)) (wordsIn n v)) × (drop n u ≡ drop n v)
-      → Holds n (decrackled sensitivity samples) w u
+      → Holds n (decrackled start sensitivity samples) w u
   unfolding decrackled
   drawn-all u h made =
-      let flags-so : flags (flagsIn n u) ≡ flagsOf sensitivity samples = ap flags (flags-behind n u v (made .1)) ∙ named in
-      let words-so : wordsIn n u ≡ smoothed (flagsOf sensitivity samples) samples =
-      made .0 ∙ ap (λ (bs : List Bool). smoothed bs (wordsIn n v)) named ∙ ap (smoothed (flagsOf sensitivity samples)) words in
+      let flags-so : flags (flagsIn n u) ≡ flagsOf start sensitivity samples = ap flags (flags-behind n u v (made .1)) ∙ named in
+      let words-so : wordsIn n u ≡ smoothed (flagsOf start sensitivity samples) samples =
+      made .0 ∙ ap (λ (bs : List Bool). smoothed bs (wordsIn n v)) named ∙ ap (smoothed (flagsOf start sensitivity samples)) words in
       record {
         holds = ap (λ (l : List ℕ). drawn l (flags (flagsIn n u))) words-so
-            ∙ ap (λ (bs : List Bool). drawn (smoothed (flagsOf sensitivity samples) samples) bs) flags-so
+            ∙ ap (λ (bs : List Bool). drawn (smoothed (flagsOf start sensitivity samples) samples) bs) flags-so
             ∙ rw (le-ltb _ _ h) refl;
         keeps = rest-behind n u v (made .1) ∙ flagging .keeps;
       }
 
 -- ---- The call
 
--- its whole rule, with the code's test of its sensitivity
-pub decrackle-is : (sensitivity : Float) (room : ℕ) (s : State)
-    → called (wholePlan (eq sensitivity sensitivity) room marks.decrackle (decrackled sensitivity)) s ≡ decrackleRepair sensitivity room s
+-- its whole rule, with the code's test of its sensitivity, and the mark under another name
+pub decrackle-is : (start : Start) (sensitivity : Float) (room mark : ℕ) (s : State) → mark ≡ markFor start
+    → called (wholePlan (eq sensitivity sensitivity) room mark (decrackled start sensitivity)) s ≡ decrackleRepair start sensitivity room s
 unfolding decrackleRepair decracklePlan
-decrackle-is sensitivity room s =
-    ap (λ (b : Bool). called (wholePlan b room marks.decrackle (decrackled sensitivity)) s) (number-test sensitivity)
+decrackle-is start sensitivity room mark s e =
+    ap (λ (k : ℕ). called (wholePlan (eq sensitivity sensitivity) room k (decrackled start sensitivity)) s) e
+    ∙ ap (λ (b : Bool). called (wholePlan b room (markFor start) (decrackled start sensitivity)) s) (number-test sensitivity)

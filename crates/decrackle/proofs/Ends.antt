@@ -14,7 +14,8 @@ use lib.ListN.{length, getD}
 use lib.Ieee.{Float, nan, inf, fin, binary32, lt, up, down}
 use Rattle.leaves.specs.Arithmetic.{_-₃₂_, _*₃₂_, nought, one, count}
 use Rattle.leaves.specs.Floats.{magnitude, larger, held}
-use Rattle.decrackle.specs.Decrackle.{detector, factorFor, openingFloor, leastFloor, floorAfter, flagged, flagsFrom, flagsOf}
+use Rattle.decrackle.specs.Decrackle.{detector, factorFor, magnitudesFrom, magnitudes, openingFloor, leastFloor, floorAfter, flagged}
+use Rattle.decrackle.specs.Decrackle.{flagsFrom, flagsOf}
 use Rattle.decrackle.specs.Consequences.{EndsNeverFlagged}
 use Rattle.decrackle.proofs.Signs.{unsigned, unsigned-not-below, mul-unsigned, sub-unsigned, larger-unsigned}
 
@@ -89,8 +90,8 @@ end-detector s i (inr h) = rw (eq-eqb _ _ h, or-true (eqb i 0)) refl
 -- ---- All flags: those from place i on, whatever the floor before it is, where the place that is j further is an end
 
 module _ (factor : Float) (s : List ℕ) (h : unsigned factor ≡ true) where
-  end-flags : (floor : Float) (i n j : ℕ) → End s (i + j) → getD (flagsFrom factor s floor i n) j false ≡ false
-  unfolding flagsFrom
+  end-flags : (floor : Float) (i n j : ℕ) → End s (i + j) → getD (flagsFrom factor floor (magnitudesFrom s i n)) j false ≡ false
+  unfolding magnitudesFrom flagsFrom
   end-flags floor i zero j e = refl
   end-flags floor i (suc n) zero e =
       let next : Float = floorAfter floor (magnitude (detector s i)) in
@@ -101,7 +102,7 @@ module _ (factor : Float) (s : List ℕ) (h : unsigned factor ≡ true) where
       end-flags (floorAfter floor (magnitude (detector s i))) (i + 1) n j (subst (End s) there e)
 
 pub ends-never-flagged : EndsNeverFlagged
-unfolding flagsOf
-ends-never-flagged sensitivity samples i h =
-    end-flags (factorFor sensitivity) samples (factor-unsigned sensitivity) openingFloor 0 (length samples) i
+unfolding flagsOf magnitudes
+ends-never-flagged start sensitivity samples i h =
+    end-flags (factorFor sensitivity) samples (factor-unsigned sensitivity) (openingFloor start (magnitudes samples)) 0 (length samples) i
     (subst (End samples) (sym (zero-add i)) h)

@@ -1,7 +1,7 @@
 -- The flags of decrackle: the detector, the floor, and the flags as a loop stores them, one by one. Assumes nothing.
 use mathlib.Core.Path.{_≡_, refl, sym, ap, _∙_}
 use mathlib.Core.Bool.{Bool, true, false, not}
-use mathlib.Core.List.{List, map}
+use mathlib.Core.List.{List, [], _∷_, map}
 use Prim.Native.Nat.{ℕ, zero, suc, _+_, _-_, _≤_, _<_}
 use native.Mathlib.Omega.{arith}
 use native.Mathlib.Nat.{add-zero, sub-zero}
@@ -19,7 +19,10 @@ use Rattle.redraw.specs.Whole.{drawn}
 use Rattle.redraw.specs.Inner.{wordsIn, flagWord, flaggedAt, Holds, Room}
 use Rattle.redraw.proofs.Workspace.{flagged-there}
 use Rattle.redraw.proofs.Flags as stored
-use Rattle.decrackle.specs.Decrackle.{factorFor, fromMiddle, detector, openingFloor, leastFloor, alpha, floorAfter, flagged, flagsFrom, flagsOf}
+use Rattle.decrackle.specs.declared.Start.{Start}
+use Rattle.decrackle.specs.Decrackle.{factorFor, fromMiddle, detector, magnitudesFrom, magnitudes, leastFloor, openingFloor, alpha}
+use Rattle.decrackle.specs.Decrackle.{floorAfter, flagged, flagsFrom, flagsOf}
+use Rattle.decrackle.proofs.Opening.{millionth, length-magnitudes}
 
 -- ---- The code's literals
 
@@ -30,10 +33,6 @@ ten = refl
 twelve : ofBits binary32 1094713344 ≡ count 12
 unfolding ofBits count ofInt
 twelve = refl
-
-pub millionth : ofBits binary32 897988541 ≡ near binary32 1 1000000
-unfolding ofBits near round
-millionth = refl
 
 thousandth : ofBits binary32 981668463 ≡ near binary32 1 1000
 unfolding ofBits near round
@@ -77,45 +76,46 @@ out-is factor floor a least e = rw (e, millionth) refl
 
 -- ---- The flags, stored one by one
 
-module _ (factor : Float) (s : List ℕ) where
-  length-flags : (floor : Float) (i n : ℕ) → length (flagsFrom factor s floor i n) ≡ n
-  unfolding flagsFrom
-  length-flags floor i zero = refl
-  length-flags floor i (suc n) = ap suc (length-flags _ (i + 1) n)
+-- there are as many as magnitudes
+pub length-flags : (factor floor : Float) (ms : List Float) → length (flagsFrom factor floor ms) ≡ length ms
+unfolding flagsFrom
+length-flags factor floor [] = refl
+length-flags factor floor (a ∷ ms) = ap suc (length-flags factor (floorAfter floor a) ms)
 
+module _ (factor : Float) (s : List ℕ) where
   -- what is left to store from place i on, with the floor before it
   abbrev pub left-from : Float → ℕ → ℕ → List ℕ
-  left-from floor i n = map flagWord (flagsFrom factor s floor i (n - i))
+  left-from floor i n = map flagWord (flagsFrom factor floor (magnitudesFrom s i (n - i)))
 
   -- one flag is stored, and what is left to store gives the whole
   pub flag-stored : (floor d a next : Float) (i n w : ℕ) (work whole : List ℕ) → i < n
       → d ≡ detector s i → a ≡ magnitude d → next ≡ floorAfter floor a → w ≡ flagWord (flagged factor next a)
       → sets work (n + i) (left-from floor i n) ≡ whole
       → sets (set work (n + i) w) (n + (i + 1)) (left-from next (i + 1) n) ≡ whole
-  unfolding flagsFrom
+  unfolding magnitudesFrom flagsFrom
   flag-stored floor d a next i n w work whole h ed ea en ew rest =
       let left : n - i ≡ suc (n - (i + 1)) = omega arith in
       let there : n + (i + 1) ≡ suc (n + i) = omega arith in
-      rw (there, ew, en, ea, ed) (sym (ap (λ (k : ℕ). sets work (n + i) (map flagWord (flagsFrom factor s floor i k))) left) ∙ rest)
+      rw (there, ew, en, ea, ed) (sym (ap (λ (k : ℕ). sets work (n + i) (map flagWord (flagsFrom factor floor (magnitudesFrom s i k)))) left) ∙ rest)
 
   -- where nothing is left to store, the whole is there
   pub flags-stored : (floor : Float) (i n : ℕ) (work whole : List ℕ) → n ≤ i → sets work (n + i) (left-from floor i n) ≡ whole → work ≡ whole
-  unfolding flagsFrom
+  unfolding magnitudesFrom flagsFrom
   flags-stored floor i n work whole h rest =
       let none : n - i ≡ 0 = omega arith in
-      sym (ap (λ (k : ℕ). sets work (n + i) (map flagWord (flagsFrom factor s floor i k))) none) ∙ rest
+      sym (ap (λ (k : ℕ). sets work (n + i) (map flagWord (flagsFrom factor floor (magnitudesFrom s i k)))) none) ∙ rest
 
--- all of them, from the code's opening floor on
-pub flags-held : (sensitivity factor floor : Float) (s w u : List ℕ) (i : ℕ) → Room (length s) w → factor ≡ factorFor sensitivity → length s ≤ i
-    → sets u (length s + i) (left-from factor s floor i (length s))
-    ≡ sets w (length s + 0) (left-from factor s (ofBits binary32 897988541) 0 (length s))
-    → Holds (length s) (drawn (wordsIn (length s) w) (flagsOf sensitivity s)) w u
-unfolding flagsOf openingFloor
-flags-held sensitivity factor floor s w u i room ef h rest =
+-- all of them, from the opening floor on
+pub flags-held : (start : Start) (sensitivity factor opening floor : Float) (s w u : List ℕ) (i : ℕ) → Room (length s) w
+    → factor ≡ factorFor sensitivity → opening ≡ openingFloor start (magnitudes s) → length s ≤ i
+    → sets u (length s + i) (left-from factor s floor i (length s)) ≡ sets w (length s + 0) (left-from factor s opening 0 (length s))
+    → Holds (length s) (drawn (wordsIn (length s) w) (flagsOf start sensitivity s)) w u
+unfolding flagsOf magnitudes
+flags-held start sensitivity factor opening floor s w u i room ef eo h rest =
     let n = length s in
-    let all : u ≡ sets w n (map flagWord (flagsOf sensitivity s)) =
-    flags-stored factor s floor i n u _ h rest ∙ rw (add-zero n, sub-zero n, millionth, ef) refl in
-    stored.flags-stored n (flagsOf sensitivity s) w u room (length-flags (factorFor sensitivity) s openingFloor 0 n) all
+    let all : u ≡ sets w n (map flagWord (flagsOf start sensitivity s)) =
+    flags-stored factor s floor i n u _ h rest ∙ rw (add-zero n, sub-zero n, eo, ef) refl in
+    stored.flags-stored n (flagsOf start sensitivity s) w u room (length-flags (factorFor sensitivity) _ (magnitudes s) ∙ length-magnitudes s 0 n) all
 
 -- ---- Whether a place is flagged, by its word
 

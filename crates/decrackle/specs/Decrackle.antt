@@ -1,8 +1,9 @@
--- Decrackle: document 01's decrackle.rs paragraph, whose sentences the comments quote. Definitions only.
+-- Decrackle: document 01's decrackle.rs paragraph, and where its floor starts also request P7 of document 02. The comments quote their
+-- sentences. Definitions only.
 use Prim.Native.Nat.{ℕ, zero, suc, _+_, _-_}
 use mathlib.Core.Bool.{Bool, false, not, _||_}
 use mathlib.Core.List.{List, [], _∷_}
-use lib.ListN.{length, getD}
+use lib.ListN.{length, getD, take}
 use lib.Dec.{leb, ltb, eqb}
 use lib.Ieee.{Float, binary32, lt, isNan, add, sub, mul, div, neg}
 use Rattle.leaves.specs.Arithmetic.{_+₃₂_, _-₃₂_, _*₃₂_, _/₃₂_, nought, one, half, near, float, count}
@@ -12,6 +13,8 @@ use Rattle.leaves.specs.Choice.{if_then_else_}
 use Rattle.recording.specs.Marks as marks
 use Rattle.redraw.specs.Whole.{sample, store, Drawn, drawn, untouched, wholePlan}
 use Rattle.redraw.specs.Runs.{overRuns}
+use Rattle.decrackle.specs.declared.Start.{Start}
+use Rattle.decrackle.specs.declared.Start.the-variants.{Mean, Old}
 
 -- ---- The settings
 
@@ -38,15 +41,48 @@ detector s i =
     if eqb i 0 || eqb (i + 1) (length s) then nought
     else fromMiddle (sample s (i - 1)) (sample s i) (sample s (i + 1))
 
--- "Floor starts at 1e-6"
-unfoldable pub openingFloor : Float
-unfolding near
-openingFloor = near binary32 1 1000000
+-- the detector's magnitudes at n places from i on
+unfoldable pub magnitudesFrom : List ℕ → ℕ → ℕ → List Float
+unfolding detector
+magnitudesFrom s i zero = []
+magnitudesFrom s i (suc n) = magnitude (detector s i) ∷ magnitudesFrom s (i + 1) n
 
--- the 1e-6 of "max(floor,1e-6)"
+-- those of all places
+unfoldable pub magnitudes : List ℕ → List Float
+unfolding magnitudesFrom
+magnitudes s = magnitudesFrom s 0 (length s)
+
+-- the 1e-6 of "max(floor,1e-6)", and of "raised to 1e-6 if below"
 unfoldable pub leastFloor : Float
 unfolding near
 leastFloor = near binary32 1 1000000
+
+-- the 1,024 of "the first 1,024 detector magnitudes"
+abbrev pub meanOver : ℕ
+meanOver = 1024
+
+-- "summed in order", on top of what is summed already
+unfoldable pub summed : Float → List Float → Float
+unfolding add
+summed sum [] = sum
+summed sum (a ∷ ms) = summed (sum +₃₂ a) ms
+
+-- "and divided once, raised to 1e-6 if below": the mean of n magnitudes, by their sum
+unfoldable pub meanFloor : Float → ℕ → Float
+unfolding larger leastFloor count div
+meanFloor sum n = larger (sum /₃₂ count n) leastFloor
+
+-- the 1e-6 of "Floor starts at 1e-6", which is now the old start
+unfoldable pub oldFloor : Float
+unfolding near
+oldFloor = near binary32 1 1000000
+
+-- where the floor starts, by the magnitudes of all places: "from the f32 mean of the first 1,024 detector magnitudes (all of them if fewer)"; or,
+-- as document 01 has it, at 1e-6
+unfoldable pub openingFloor : Start → List Float → Float
+unfolding summed meanFloor oldFloor
+openingFloor Mean ms = let first = take meanOver ms in meanFloor (summed nought first) (length first)
+openingFloor Old ms = oldFloor
 
 -- the 0.001 of "floor=floor*(1−0.001)+a*0.001"
 unfoldable pub alpha : Float
@@ -63,19 +99,16 @@ unfoldable pub flagged : Float → Float → Float → Bool
 unfolding larger leastFloor lt mul
 flagged factor floor a = lt (factor *₃₂ larger floor leastFloor) a
 
--- the flags of n places from i on, where `floor` is the floor before them: a is the detector's magnitude
-unfoldable pub flagsFrom : Float → List ℕ → Float → ℕ → ℕ → List Bool
-unfolding detector floorAfter flagged
-flagsFrom factor s floor i zero = []
-flagsFrom factor s floor i (suc n) =
-    let a = magnitude (detector s i) in
-    let next = floorAfter floor a in
-    flagged factor next a ∷ flagsFrom factor s next (i + 1) n
+-- the flags of places with these magnitudes, where `floor` is the floor before them
+unfoldable pub flagsFrom : Float → Float → List Float → List Bool
+unfolding floorAfter flagged
+flagsFrom factor floor [] = []
+flagsFrom factor floor (a ∷ ms) = let next = floorAfter floor a in flagged factor next a ∷ flagsFrom factor next ms
 
 -- those of all places
-unfoldable pub flagsOf : Float → List ℕ → List Bool
-unfolding factorFor flagsFrom openingFloor
-flagsOf sensitivity s = flagsFrom (factorFor sensitivity) s openingFloor 0 (length s)
+unfoldable pub flagsOf : Start → Float → List ℕ → List Bool
+unfolding factorFor magnitudes openingFloor flagsFrom
+flagsOf start sensitivity s = flagsFrom (factorFor sensitivity) (openingFloor start (magnitudes s)) (magnitudes s)
 
 -- ---- "Each flagged run is rewritten as `repair_hermite` does": the run from s to before e, between the anchors at s-1 and e
 
@@ -126,18 +159,23 @@ abbrev pub leastSamples : ℕ
 leastSamples = 8
 
 -- "Under 8 samples: nothing named." "Named: the flagged places."
-unfoldable pub decrackled : Float → List ℕ → Drawn
+unfoldable pub decrackled : Start → Float → List ℕ → Drawn
 unfolding flagsOf smoothed
-decrackled sensitivity samples =
-    let flags = flagsOf sensitivity samples in
+decrackled start sensitivity samples =
+    let flags = flagsOf start sensitivity samples in
     if ltb (length samples) leastSamples then untouched samples else drawn (smoothed flags samples) flags
 
+-- "This sets mark 7", and "the old start by name, which keeps mark 4"
+unfoldable pub markFor : Start → ℕ
+markFor Mean = marks.decrackleFromMean
+markFor Old = marks.decrackle
+
 -- its plan: refusals 4, 6 and 7, or the mark and the named samples
-unfoldable pub decracklePlan : Float → ℕ → List ℕ → Plan
-unfolding wholePlan decrackled isNan
-decracklePlan sensitivity room = wholePlan (allowed sensitivity) room marks.decrackle (decrackled sensitivity)
+unfoldable pub decracklePlan : Start → Float → ℕ → List ℕ → Plan
+unfolding wholePlan markFor decrackled isNan
+decracklePlan start sensitivity room = wholePlan (allowed sensitivity) room (markFor start) (decrackled start sensitivity)
 
 -- the call
-unfoldable pub decrackleRepair : Float → ℕ → State → Ended
+unfoldable pub decrackleRepair : Start → Float → ℕ → State → Ended
 unfolding decracklePlan called
-decrackleRepair sensitivity room = called (decracklePlan sensitivity room)
+decrackleRepair start sensitivity room = called (decracklePlan start sensitivity room)

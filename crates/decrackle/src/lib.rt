@@ -11,8 +11,10 @@ ghost use Rattle.recording.specs.Inner.{flags};
 ghost use Rattle.recording.specs.Runs.{begins, runLength};
 ghost use Rattle.redraw.specs.Whole.{drawn, untouched, needed};
 ghost use Rattle.redraw.specs.Inner.{wordsIn, flagsIn, drawnIn, flagWord, flaggedAt, Holds, Room};
-ghost use Rattle.decrackle.specs.Decrackle.{factorFor, fromMiddle, detector, floorAfter, flagged, flagsOf, slopeBefore, slopeBehind};
-ghost use Rattle.decrackle.specs.Decrackle.{hermiteAt, repairHermite, smoothed, decrackled, decrackleRepair};
+ghost use Rattle.leaves.specs.Arithmetic.{nought};
+ghost use Rattle.decrackle.specs.Decrackle.{factorFor, fromMiddle, detector, magnitudesFrom, magnitudes, meanOver, summed, meanFloor, openingFloor};
+ghost use Rattle.decrackle.specs.Decrackle.{floorAfter, flagged, flagsOf, slopeBefore, slopeBehind};
+ghost use Rattle.decrackle.specs.Decrackle.{hermiteAt, repairHermite, smoothed, decrackled, markFor, decrackleRepair};
 use leaves::order::clamp32;
 use leaves::order::larger32;
 use leaves::order::magnitude32;
@@ -21,15 +23,25 @@ use leaves::words::f32_of_word;
 use leaves::words::word_of_f32;
 use recording::Answer;
 use recording::marks::DECRACKLE;
+use recording::marks::DECRACKLE_FROM_MEAN;
 use redraw::begin;
 use redraw::finish;
 
 // A shorter recording has nothing named.
 pub const LEAST_SAMPLES: usize = 8;
 
-// The floor before the first sample, the least that a sample is held against, and how much of a sample's
-// magnitude the floor takes in.
-pub const OPENING_FLOOR: f32 = 1e-6;
+// Where the floor starts: at the mean of the first magnitudes, which is the default, or at 1e-6, as it used to.
+pub enum Start {
+    Mean,
+    Old,
+}
+
+// The mean is that of so many of the detector's magnitudes, or of all where there are fewer.
+pub const MEAN_OVER: usize = 1024;
+
+// The floor before the first sample by the old start, the least that a sample is held against and that the mean
+// is raised to, and how much of a sample's magnitude the floor takes in.
+pub const OLD_FLOOR: f32 = 1e-6;
 
 const LEAST_FLOOR: f32 = 1e-6;
 
@@ -65,6 +77,42 @@ fn detector_at(samples: &[u32], i: usize) -> f32
     from_middle(before, f32_of_word(samples[i]), behind)
 }
 
+// The sum of the detector's magnitudes at the first n places, in order.
+fn sum_magnitudes(samples: &[u32], n: usize) -> f32
+    requires { ⌜ n ≤ length (now samples) ⌝ }
+    ensures { λ r. ⌜ r ≡ summed nought (magnitudesFrom (now (samples .entry)) 0 n) ⌝ }
+{
+    let mut sum: f32 = 0.0;
+    let mut i: usize = 0;
+    while i < n {
+        sum = sum + magnitude32(detector_at(samples, i));
+        i += 1;
+    }
+    sum
+}
+
+// The floor that starts at the mean of n magnitudes, by their sum: divided once, and raised to 1e-6 where it is below.
+pub fn mean_floor(sum: f32, n: usize) -> f32
+    requires { ⌜ n ≤ meanOver ⌝ }
+    ensures { λ r. ⌜ r ≡ meanFloor sum n ⌝ }
+{
+    larger32(sum / count_as_f32(n), LEAST_FLOOR)
+}
+
+// The floor before the first sample: the mean goes over the first 1,024 places, or over all where there are fewer.
+fn opening_floor(start: Start, samples: &[u32]) -> f32
+    ensures { λ r. ⌜ r ≡ openingFloor start (magnitudes (now (samples .entry))) ⌝ }
+{
+    let Start::Mean = start else {
+        return OLD_FLOOR;
+    };
+    let n = samples.len();
+    if n < MEAN_OVER {
+        return mean_floor(sum_magnitudes(samples, n), n);
+    }
+    mean_floor(sum_magnitudes(samples, MEAN_OVER), MEAN_OVER)
+}
+
 // The floor once it has taken in the detector's magnitude a.
 pub fn raise_floor(floor: f32, a: f32) -> f32
     ensures { λ r. ⌜ r ≡ floorAfter floor a ⌝ }
@@ -87,15 +135,15 @@ fn flag_word(factor: f32, floor: f32, a: f32) -> u32
 }
 
 // Flags the samples that stand out: each raises the floor first, and is then held against it.
-fn flag_samples(samples: &[u32], sensitivity: f32, work: &mut [u32])
+fn flag_samples(samples: &[u32], sensitivity: f32, start: Start, work: &mut [u32])
     requires { ⌜ Room (length (now samples)) (now work) ⌝ }
     ensures { λ _. ⌜ Holds (length (now (samples .entry)))
-        (drawn (wordsIn (length (now (samples .entry))) (now (work .entry))) (flagsOf sensitivity (now (samples .entry))))
+        (drawn (wordsIn (length (now (samples .entry))) (now (work .entry))) (flagsOf start sensitivity (now (samples .entry))))
         (now (work .entry)) (now (work .exit)) ⌝ }
 {
     let n = samples.len();
     let factor = factor_for(sensitivity);
-    let mut floor = OPENING_FLOOR;
+    let mut floor = opening_floor(start, samples);
     let mut i: usize = 0;
     while i < n {
         let a = magnitude32(detector_at(samples, i));
@@ -207,16 +255,26 @@ fn smooth_runs(work: &mut [u32], n: usize)
 }
 
 // Works out the words and the flags of all samples in the workspace.
-fn draw(samples: &[u32], sensitivity: f32, work: &mut [u32])
+fn draw(samples: &[u32], sensitivity: f32, start: Start, work: &mut [u32])
     requires { ⌜ Room (length (now samples)) (now work) × (drawnIn (length (now samples)) (now work) ≡ untouched (now samples)) ⌝ }
-    ensures { λ _. ⌜ Holds (length (now (samples .entry))) (decrackled sensitivity (now (samples .entry))) (now (work .entry)) (now (work .exit)) ⌝ }
+    ensures { λ _. ⌜ Holds (length (now (samples .entry))) (decrackled start sensitivity (now (samples .entry))) (now (work .entry)) (now (work .exit)) ⌝ }
 {
     let n = samples.len();
     if n < LEAST_SAMPLES {
         return;
     }
-    flag_samples(samples, sensitivity, work);
+    flag_samples(samples, sensitivity, start, work);
     smooth_runs(work, n);
+}
+
+// The mark of what is redrawn, which tells where the floor started.
+fn mark_for(start: Start) -> u8
+    ensures { λ r. ⌜ r ≡ markFor start ⌝ }
+{
+    match start {
+        Start::Mean => DECRACKLE_FROM_MEAN,
+        Start::Old => DECRACKLE,
+    }
 }
 
 // Repairs the samples that stand out from their neighbours, or refuses and changes nothing.
@@ -227,10 +285,11 @@ pub fn decrackle(
     journal: &mut [u32],
     used: &mut usize,
     sensitivity: f32,
+    start: Start,
     work: &mut [u32],
 ) -> Answer
     ensures { λ r. ⌜ (ended r (left samples marks counts journal used)
-        ≡ decrackleRepair sensitivity (length (now (work .entry))) (lent samples marks counts journal used))
+        ≡ decrackleRepair start sensitivity (length (now (work .entry))) (lent samples marks counts journal used))
         × (now (work .exit) ≡ workAfter 0 (needed (length (now (samples .entry)))) r (now (work .entry))) ⌝ }
 {
     let begun = begin(
@@ -245,6 +304,6 @@ pub fn decrackle(
     let Answer::Done(_) = begun else {
         return begun;
     };
-    draw(samples, sensitivity, work);
-    finish(samples, marks, counts, journal, used, work, DECRACKLE)
+    draw(samples, sensitivity, start, work);
+    finish(samples, marks, counts, journal, used, work, mark_for(start))
 }

@@ -1,4 +1,4 @@
--- Tests: each holds or does not, what two say that both hold, or of which neither does, and what holds of the one of two things that a test chooses.
+-- Tests: each holds or does not, what two say that both hold, or of which one or neither does, and what holds of the one of two things that a test chooses.
 -- Assumes nothing.
 use mathlib.Core.Path.{_≡_, refl, sym}
 use mathlib.Core.Bool.{Bool, true, false, true≢false, _&&_, _||_}
@@ -18,6 +18,11 @@ pub both-hold : (a b : Bool) → a && b ≡ true → (a ≡ true) × (b ≡ true
 both-hold true true h = (refl, refl)
 both-hold true false h = absurd (true≢false (sym h))
 both-hold false b h = absurd (true≢false (sym h))
+
+-- two tests of which one holds, or both
+pub either : (a b : Bool) → a || b ≡ true → (a ≡ true) ⊎ (b ≡ true)
+either true b h = inl refl
+either false b h = inr h
 
 -- two tests of which neither holds
 pub neither : (a b : Bool) → a || b ≡ false → (a ≡ false) × (b ≡ false)

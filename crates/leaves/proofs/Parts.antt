@@ -17,12 +17,16 @@ module _ {A : Type 0} where
   drop-sets w [] d n h = refl
   drop-sets w (x ∷ l) d n h = drop-sets (set w d x) l (suc d) n (omega arith) ∙ drop-set-lt n w d x (omega arith)
 
+  -- a second run right behind it
+  pub sets-both : (w l m : List A) (d : ℕ) → sets (sets w d l) (d + length l) m ≡ sets w d (l ++ m)
+  sets-both w [] m d = let here : d + 0 ≡ d = omega arith in rw here refl
+  sets-both w (x ∷ l) m d =
+      let next : d + suc (length l) ≡ suc d + length l = omega arith in
+      rw next (sets-both (set w d x) l m (suc d))
+
   -- one store more behind a run, and one before it
   pub store-next : (w l : List A) (d : ℕ) (v : A) → set (sets w d l) (d + length l) v ≡ sets w d (l ++ (v ∷ []))
-  store-next w [] d v = let here : d + 0 ≡ d = omega arith in rw here refl
-  store-next w (x ∷ l) d v =
-      let next : d + suc (length l) ≡ suc d + length l = omega arith in
-      rw next (store-next (set w d x) l (suc d) v)
+  store-next w l d v = sets-both w l (v ∷ []) d
 
   pub store-before : (w l : List A) (a d : ℕ) (v : A) → a < d → set (sets w d l) a v ≡ sets (set w a v) d l
   store-before w [] a d v h = refl

@@ -1,7 +1,7 @@
 -- A repair whose plan keeps to its rule: it leaves all as it is, or it enters what it names; and what is then kept.
 -- Assumes nothing.
 use mathlib.Core.Path.{_≡_, refl, sym, ap, _∙_}
-use mathlib.Core.Bool.{true, false}
+use mathlib.Core.Bool.{true, false, _&&_}
 use mathlib.Core.List.{List, [], _∷_}
 use mathlib.Core.Logic.{_⊎_, inl, inr, _≢_}
 use Prim.Native.Nat.{ℕ, _+_, _-_, _≤_, _<_}
@@ -27,7 +27,7 @@ use Rattle.recording.proofs.Put.{length-put, length-places}
 use Rattle.recording.proofs.Counting.{recounted-all}
 use Rattle.recording.proofs.Journal.{length-entry}
 use Rattle.recording.proofs.open.Laws.{fits-done, fits-or-not}
-use Rattle.leaves.proofs.Choice.{truth, EitherWay, both-hold}
+use Rattle.leaves.proofs.Choice.{truth, EitherWay, both-hold, either}
 
 -- a repair of these samples is accepted, names some and enters them
 pub record Enters (s : State) (mark : ℕ) (cs : List Placed) : Type 0 where
@@ -47,7 +47,11 @@ pub record Sound (s : State) : Type 0 where
 
 -- a mark that a repair sets is a byte
 made-byte : (k : ℕ) → made k ≡ true → k < 256
-made-byte k h = omega (arith, leb-true k 5 (both-hold (leb 1 k) (leb k 5) h .1))
+made-byte k h =
+    elim (either (leb 1 k && leb k 5) (eqb k 7) h) [
+      | inl e ↦ omega (arith, leb-true k 5 (both-hold (leb 1 k) (leb k 5) e .1))
+      | inr e ↦ omega (arith, eqb-true k 7 e)
+    ]
 
 -- such a repair ends in the commit
 pub enters-ends : {s : State} {mark : ℕ} {cs : List Placed} → Enters s mark cs

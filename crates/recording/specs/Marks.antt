@@ -1,8 +1,8 @@
 -- The marks: what documents 01 and 02 say of a sample by its byte, in the sentence that the comment quotes. The code has them by the
 -- same names in src/marks.rt. Definitions only.
 use Prim.Native.Nat.{ℕ}
-use mathlib.Core.Bool.{Bool, _&&_}
-use lib.Dec.{leb}
+use mathlib.Core.Bool.{Bool, _&&_, _||_}
+use lib.Dec.{leb, eqb}
 
 -- "0 measured, 1 gap by model, 2 gap by straight line, 3 cubic declip, 4 decrackle, 5 dequantize (either form)"
 abbrev pub measured : ℕ
@@ -27,6 +27,10 @@ dequantize = 5
 abbrev pub notReceived : ℕ
 notReceived = 6
 
--- the marks that a repair sets: 1 to 5. "No repair sets mark 6".
+-- request P7, of decrackle that starts from the mean: "This sets mark 7."
+abbrev pub decrackleFromMean : ℕ
+decrackleFromMean = 7
+
+-- the marks that a repair sets: 1 to 5, and 7. "No repair sets mark 6".
 abbrev pub made : ℕ → Bool
-made k = leb gapByModel k && leb k dequantize
+made k = leb gapByModel k && leb k dequantize || eqb k decrackleFromMean

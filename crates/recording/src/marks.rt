@@ -14,7 +14,7 @@ pub const GAP_BY_LINE: u8 = 2;
 // Cubic declip bridged it.
 pub const CUBIC_DECLIP: u8 = 3;
 
-// Decrackle redrew it.
+// Decrackle redrew it, from the old start.
 pub const DECRACKLE: u8 = 4;
 
 // Dequantize moved it, in either form.
@@ -23,12 +23,18 @@ pub const DEQUANTIZE: u8 = 5;
 // The bus lost its frame: the sample was not received, and the word that stands there is a NaN.
 pub const NOT_RECEIVED: u8 = 6;
 
-// Whether a journal word is a mark that a repair sets: the first of these is 1, and the last 5.
+// Decrackle redrew it, from the mean.
+pub const DECRACKLE_FROM_MEAN: u8 = 7;
+
+// Whether a journal word is a mark that a repair sets: 1 to 5, and 7.
 pub fn is_made(word: u32) -> bool
     ensures { λ r. ⌜ r ≡ made word ⌝ }
 {
     if word < GAP_BY_MODEL as u32 {
         return false;
     }
-    word <= DEQUANTIZE as u32
+    if word <= DEQUANTIZE as u32 {
+        return true;
+    }
+    word == DECRACKLE_FROM_MEAN as u32
 }

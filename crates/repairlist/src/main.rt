@@ -6,7 +6,7 @@
 //   g start len passes                 one gap
 //   s rate limit 0                     the scan, with its limit in milliseconds
 //   d threshold 0 0                    cubic declip
-//   c sensitivity 0 0                  decrackle
+//   c sensitivity 0 0                  decrackle, from the old start
 //   q bits strength 0                  `dequantize`
 //   p bits strength iterations         `dequantize_cosparse`
 // Number and value are the answer's. Beside them stands the order of the model for a gap, and else 0. Of a scan
@@ -17,6 +17,7 @@ ghost use Prim.Native.Nat.{_+_, _*_, _^_, _≤_, _<_};
 ghost use mathlib.Core.Path.{_≡_};
 ghost use lib.ListN.{length};
 ghost use Rattle.repairlist.specs.Layout.{wordBytes, headBytes, rowBytes};
+use decrackle::Start;
 use dequant::cosparse::dequantize_cosparse;
 use dequant::passes::dequantize;
 use inpaint::GapAnswer;
@@ -276,7 +277,16 @@ fn repair_whole(
     let mut used: usize = 0;
     match letter {
         b'd' => declip::declip(samples, marks, counts, journal, &mut used, a, work),
-        b'c' => decrackle::decrackle(samples, marks, counts, journal, &mut used, a, work),
+        b'c' => decrackle::decrackle(
+            samples,
+            marks,
+            counts,
+            journal,
+            &mut used,
+            a,
+            Start::Old,
+            work,
+        ),
         b'q' => dequantize(samples, marks, counts, journal, &mut used, first, b, work),
         _ => dequantize_cosparse(
             samples,

@@ -1,6 +1,6 @@
 -- `crackle::flag_byte` meets its contract: it is 0 under 8 samples, and else what the test found. Assumes nothing.
 use borrow.Author.Needs.{needs}
-use Rattle.crackle.proofs.Steps.{few-flag, flag-by}
+use Rattle.crackle.proofs.Judging.{few-flag, flag-by}
 use Rattle.crackle.proofs.flag_byte.Statement.{statement}
 use Rattle.crackle.proofs.flag_byte.Tie as tie
 

@@ -1,6 +1,6 @@
 -- `crackle::value_before` meets its contract: either way out is a case of the rule. Assumes nothing.
 use borrow.Author.Needs.{needs}
-use Rattle.crackle.proofs.Steps.{value-first, value-later}
+use Rattle.crackle.proofs.Judging.{value-first, value-later}
 use Rattle.crackle.proofs.value_before.Statement.{statement}
 use Rattle.crackle.proofs.value_before.Tie as tie
 

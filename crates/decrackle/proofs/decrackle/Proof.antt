@@ -1,10 +1,10 @@
 -- `decrackle::decrackle` meets its contract: a refusal of the start ends it, and else what the workspace holds is committed.
 -- Assumes nothing.
+use mathlib.Core.Path.{refl}
 use borrow.Author.Needs.{needs}
 use Rattle.recording.specs.Recording.{State, state}
-use Rattle.recording.specs.Marks.{decrackle}
 use Rattle.redraw.proofs.Ending.{start-room, start-finishes, start-holds, whole-refused, whole-done}
-use Rattle.decrackle.specs.Decrackle.{decrackled}
+use Rattle.decrackle.specs.Decrackle.{decrackled, markFor}
 use Rattle.decrackle.proofs.Drawing.{decrackle-is}
 use Rattle.decrackle.proofs.decrackle.Statement.{statement}
 use Rattle.decrackle.proofs.decrackle.Tie as tie
@@ -47,8 +47,11 @@ returns : tie.Need-returns
 returns c =
     let at = c .before .before .before .before in
     let a = start at .args in
-    whole-refused _ (a .work .now) (recording at) _ (at .begin .ensures .0) decrackle (decrackled (a .sensitivity)) _ (decrackle-is _ _ (recording at))
+    whole-refused _ (a .work .now) (recording at) _ (at .begin .ensures .0) (markFor (a .start)) (decrackled (a .start) (a .sensitivity)) _ (decrackle-is _ _ _ _ (recording at) refl)
     _ _ (c .enum-told2 .given .1) (at .begin .ensures .1)
+
+mark-for-requires : tie.Need-mark-for-requires
+mark-for-requires c κs = search needs
 
 draw-requires : tie.Need-draw-requires
 draw-requires c κs =
@@ -62,7 +65,7 @@ draw-requires c κs =
 
 finish-requires : tie.Need-finish-requires
 finish-requires c κs =
-    let drawn = c .before .before .before .before .before .before .before in
+    let drawn = c .before .before .before .before .before .before .before .before in
     let told = drawn .before .before .before .before in
     let laid = told .before .before .before in
     let at = laid .before in
@@ -87,12 +90,13 @@ same-length-10 c = search needs
 returns-2 : tie.Need-returns-2
 returns-2 c =
     let end = c .before .before .before .before .before .before .before .before .before .before in
-    let drawn = end .before .before .before .before .before .before .before .before in
+    let marked = end .before in
+    let drawn = marked .before .before .before .before .before .before .before .before in
     let told = drawn .before .before .before .before in
     let laid = told .before .before .before in
     let at = laid .before in
     let a = start at .args in
-    whole-done _ (a .work .now) (recording at) _ (at .begin .ensures .0) decrackle (decrackled (a .sensitivity)) _ (decrackle-is _ _ (recording at))
+    whole-done _ (a .work .now) (recording at) _ (at .begin .ensures .0) (marked .mark-for .result) (decrackled (a .start) (a .sensitivity)) _ (decrackle-is _ _ _ _ (recording at) (marked .mark-for .ensures))
     _ _ _ _ _ (after end) (told .enum-told .given .1) (at .begin .ensures .1) (laid .work .given)
     (drawn .before .draw .ensures) (drawn .work2 .given) (end .finish .ensures .0) (end .finish .ensures .1)
 
@@ -110,6 +114,7 @@ decrackle-spec =
     same-length-5
     returns
     draw-requires
+    mark-for-requires
     finish-requires
     same-length-6
     same-length-7

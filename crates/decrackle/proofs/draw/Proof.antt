@@ -7,7 +7,7 @@ use Rattle.decrackle.proofs.draw.Statement.{statement}
 use Rattle.decrackle.proofs.draw.Tie as tie
 
 returns : tie.Need-returns
-returns c = drawn-short _ _ _ (c .if1 .taken) (c .before .before .before .pre .1)
+returns c = drawn-short _ _ _ _ (c .if1 .taken) (c .before .before .before .pre .1)
 
 flag-samples-requires : tie.Need-flag-samples-requires
 flag-samples-requires c κs = search needs
@@ -18,9 +18,9 @@ smooth-runs-requires c κs =
     let long = flagging .before .before in
     let pre = long .before .before .before .pre in
     let made = flagging .flag-samples in (
-      room-stays _ _ _ (pre .0) (made .kept .1 .1 .0),
-      first-clear _ _ _ _ (pre .1) (made .ensures),
-      last-clear _ _ _ _ (pre .1) (made .ensures) (long .if1 .left),
+      room-stays _ _ _ (pre .0) (made .kept .1 .1 .1 .0),
+      first-clear _ _ _ _ _ (pre .1) (made .ensures),
+      last-clear _ _ _ _ _ (pre .1) (made .ensures) (long .if1 .left),
     )
 
 same-length : tie.Need-same-length
@@ -31,7 +31,7 @@ returns-2 c =
     let smoothing = c .before .before in
     let flagging = smoothing .before .before .before .before in
     let long = flagging .before .before in
-    drawn-all _ _ _ _ (long .before .before .before .pre .1) (flagging .flag-samples .ensures) _ (long .if1 .left) (smoothing .smooth-runs .ensures)
+    drawn-all _ _ _ _ _ (long .before .before .before .pre .1) (flagging .flag-samples .ensures) _ (long .if1 .left) (smoothing .smooth-runs .ensures)
 
 pub draw-spec : {M : Type 1} → statement M
 draw-spec =

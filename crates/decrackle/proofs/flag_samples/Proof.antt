@@ -19,11 +19,14 @@ abbrev μ-loop : tie.MeasureT-loop
 μ-loop samples sensitivity work₀ n factor floor₀ i₀ work floor i = length samples - i
 
 -- where the turn begins, once the flag is known
-abbrev start : tie.After-flag-word Inv-loop μ-loop → tie.In-loop Inv-loop μ-loop
-start c = c .before .before .before .before
+abbrev begins : tie.After-flag-word Inv-loop μ-loop → tie.In-loop Inv-loop μ-loop
+begins c = c .before .before .before .before
 
 factor-for-requires : tie.Need-factor-for-requires Inv-loop μ-loop
 factor-for-requires c κs = search needs
+
+opening-floor-requires : tie.Need-opening-floor-requires Inv-loop μ-loop
+opening-floor-requires c κs = search needs
 
 loop-holds : tie.Need-loop-holds Inv-loop μ-loop
 loop-holds c = (omega arith, refl, refl)
@@ -41,25 +44,25 @@ flag-word-requires : tie.Need-flag-word-requires Inv-loop μ-loop
 flag-word-requires c κs = search needs
 
 add-work : tie.Need-add-work Inv-loop μ-loop
-add-work c = let turn = start c in omega (arith, turn .before .before .before .before .before .pre .few)
+add-work c = let turn = begins c in omega (arith, turn .before .before .before .before .before .before .pre .few)
 
 mul-work : tie.Need-mul-work Inv-loop μ-loop
-mul-work c = let turn = start c in omega (arith, turn .before .before .before .before .before .pre .few)
+mul-work c = let turn = begins c in omega (arith, turn .before .before .before .before .before .before .pre .few)
 
 slice-write-work : tie.Need-slice-write-work Inv-loop μ-loop
 slice-write-work c =
-    let turn = start c in
-    omega (arith, turn .loop-test .taken, turn .before .loop .inv .1, turn .before .before .before .before .before .pre .enough)
+    let turn = begins c in
+    omega (arith, turn .loop-test .taken, turn .before .loop .inv .1, turn .before .before .before .before .before .before .pre .enough)
 
 add-i : tie.Need-add-i Inv-loop μ-loop
-add-i c = let turn = start c in omega (arith, turn .before .before .before .before .before .pre .few)
+add-i c = let turn = begins c in omega (arith, turn .before .before .before .before .before .before .pre .few)
 
 loop-less : tie.Need-loop-less Inv-loop μ-loop
-loop-less c = let turn = start c in omega (arith, turn .loop-test .taken)
+loop-less c = let turn = begins c in omega (arith, turn .loop-test .taken)
 
 loop-again : tie.Need-loop-again Inv-loop μ-loop
 loop-again c =
-    let turn = start c in
+    let turn = begins c in
     let inv = turn .before .loop .inv in
     let raised = c .before in
     let stored =
@@ -73,7 +76,9 @@ same-length c = c .before .loop .inv .1
 returns : tie.Need-returns Inv-loop μ-loop
 returns c =
     let at = c .before in
-    flags-held _ _ _ _ _ _ _ (at .before .before .before .before .pre) (at .before .factor-for .ensures) (c .loop-test .left) (at .loop .inv .2)
+    let opened = at .before in
+    flags-held _ _ _ _ _ _ _ _ _ (opened .before .before .before .before .pre) (opened .before .factor-for .ensures) (opened .opening-floor .ensures)
+    (c .loop-test .left) (at .loop .inv .2)
 
 pub flag-samples-spec : {M : Type 1} → statement M
 flag-samples-spec =
@@ -82,6 +87,7 @@ flag-samples-spec =
     Inv-loop
     μ-loop
     factor-for-requires
+    opening-floor-requires
     loop-holds
     detector-at-requires
     magnitude32-requires

@@ -5,7 +5,7 @@ use Rattle.crackle.proofs.kept.begin.Statement.{statement}
 use Rattle.crackle.proofs.kept.begin.Tie as tie
 
 returns : tie.Need-returns
-returns c = begin-few _ _ _ (c .if1 .taken)
+returns c = begin-few _ _ _ _ (c .if1 .taken)
 
 announce-requires : tie.Need-announce-requires
 announce-requires c κs = search needs
@@ -27,14 +27,14 @@ returns-2 c =
     let write = c .before .before in
     let known = write .before .before .before in
     let answered = known .before in
-    begin-so _ _ _ (answered .before .before .if1 .left) _ (answered .before .announce .ensures) _ _ (known .detector .given .1)
+    begin-so _ _ _ _ (answered .before .before .if1 .left) _ (answered .before .announce .ensures) _ _ (known .detector .given .1)
     (write .write-detector .ensures)
 
 returns-3 : tie.Need-returns-3
 returns-3 c =
     let known = c .before in
     let answered = known .before in
-    begin-away _ _ _ (answered .before .before .if1 .left) _ (answered .before .announce .ensures) _ (known .why .given .1)
+    begin-away _ _ _ _ (answered .before .before .if1 .left) _ (answered .before .announce .ensures) _ (known .why .given .1)
 
 pub begin-spec : {M : Type 1} → statement M
 begin-spec =

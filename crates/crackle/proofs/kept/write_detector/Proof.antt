@@ -42,6 +42,9 @@ word-of-f32-requires-4 c κs = search needs
 slice-write-words-7 : tie.Need-slice-write-words-7
 slice-write-words-7 c = simp length-set (omega arith)
 
+start-word-requires : tie.Need-start-word-requires
+start-word-requires c κs = search needs
+
 slice-write-words-8 : tie.Need-slice-write-words-8
 slice-write-words-8 c = simp length-set (omega arith)
 
@@ -50,11 +53,12 @@ same-length c = search needs
 
 returns : tie.Need-returns
 returns c =
-    let before = c .before in
+    let last = c .before in
+    let before = last .before in
     let floor = before .before in
     let factor = floor .before in
-    written-so _ _ _ _ _ _ _ (factor .before .running-word .ensures) (factor .word-of-f32 .ensures) (floor .word-of-f322 .ensures)
-    (before .word-of-f323 .ensures) (c .word-of-f324 .ensures)
+    written-so _ _ _ _ _ _ _ _ (factor .before .running-word .ensures) (factor .word-of-f32 .ensures) (floor .word-of-f322 .ensures)
+    (before .word-of-f323 .ensures) (last .word-of-f324 .ensures) (c .start-word .ensures)
 
 pub write-detector-spec : {M : Type 1} → statement M
 write-detector-spec =
@@ -72,6 +76,7 @@ write-detector-spec =
     slice-write-words-6
     word-of-f32-requires-4
     slice-write-words-7
+    start-word-requires
     slice-write-words-8
     same-length
     returns)
