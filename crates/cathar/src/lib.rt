@@ -237,7 +237,6 @@ pub extern "C" fn cathar_decrackle(
     ensures { λ r. ⌜ outcome r (now (value .exit) ∷ []) (left samples marks counts journal used) (words (now (work .exit)))
         ≡ ran (decrackle Mean sensitivity (now (work .entry))) (lent samples marks counts journal used) ⌝ }
 {
-    let start = Start::Mean;
     let answer = decrackle::decrackle(
         samples,
         marks,
@@ -245,7 +244,7 @@ pub extern "C" fn cathar_decrackle(
         journal,
         used,
         sensitivity,
-        start,
+        Start::Mean,
         work,
     );
     *value = value_of(answer);
@@ -267,7 +266,6 @@ pub extern "C" fn cathar_decrackle_old_start(
     ensures { λ r. ⌜ outcome r (now (value .exit) ∷ []) (left samples marks counts journal used) (words (now (work .exit)))
         ≡ ran (decrackle Old sensitivity (now (work .entry))) (lent samples marks counts journal used) ⌝ }
 {
-    let start = Start::Old;
     let answer = decrackle::decrackle(
         samples,
         marks,
@@ -275,7 +273,7 @@ pub extern "C" fn cathar_decrackle_old_start(
         journal,
         used,
         sensitivity,
-        start,
+        Start::Old,
         work,
     );
     *value = value_of(answer);

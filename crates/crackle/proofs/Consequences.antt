@@ -8,7 +8,7 @@ use Prim.Native.Nat.{ℕ, _≤_}
 use native.Mathlib.Omega.{arith}
 use borrow.Author.Tests.{ltb-false}
 use lib.Dec.{ltb, eqb}
-use lib.ListN.{length, drop, set, length-map}
+use lib.ListN.{length, drop, length-map}
 use lib.Seq.{length-sets, drop-set-lt}
 use Rattle.leaves.proofs.Choice.{picks, picks-by}
 use Rattle.leaves.proofs.Parts.{drop-sets}

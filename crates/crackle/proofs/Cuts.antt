@@ -1,7 +1,7 @@
 -- However a recording is cut, as specs/Cuts.antt states it: calls that bring in samples of it give the first of the flags that are left, and
 -- when it begins these are the flags of the whole. Assumes nothing.
 use mathlib.Core.Path.{_≡_, refl, sym, ap, subst, _∙_}
-use mathlib.Core.Bool.{Bool, true, false, not}
+use mathlib.Core.Bool.{Bool, true, false}
 use mathlib.Core.List.{List, [], _∷_, _++_, map, append-assoc, append-nil, map-append}
 use mathlib.Core.Logic.{inl, inr}
 use Prim.Native.Nat.{ℕ, zero, suc, _+_, _-_, _≤_, _<_}
@@ -26,10 +26,9 @@ use Rattle.redraw.specs.Whole.{untouched, drawn}
 use Rattle.redraw.proofs.Ending.{done-not-refused}
 use Rattle.decrackle.specs.declared.Start.{Start}
 use Rattle.decrackle.specs.declared.Start.the-variants.{Mean, Old}
-use Rattle.decrackle.specs.Decrackle.{leastSamples, magnitudesFrom, magnitudes, meanOver, openingFloor, flagsFrom, flagsOf, smoothed, decrackled}
+use Rattle.decrackle.specs.Decrackle.{leastSamples, magnitudesFrom, magnitudes, meanOver, openingFloor, flagsOf, smoothed, decrackled}
 use Rattle.decrackle.proofs.Opening.{length-magnitudes}
-use Rattle.crackle.specs.declared.Detector.{Detector}
-use Rattle.crackle.specs.Pieces.{begun, announced, knownBy, heldBack, givenBy, flagsDue, Holding, holding, flagsAlong, withSample, withPiece, flagsBefore}
+use Rattle.crackle.specs.Pieces.{begun, announced, heldBack, givenBy, flagsDue, Holding, holding, flagsAlong, withSample, withPiece, flagsBefore}
 use Rattle.crackle.specs.Pieces.{Told, told, flagByte, flagsIn, closed, stopped, tooMuch, unlessOut, pieceTold, lastFlags, lastValues, endTold}
 use Rattle.crackle.specs.Cuts.{wholeFlags, FlagsAreNamed, InRange, Offer, flagsGiven, Run, inTurn, byValue, handed, byRoom, Cut, Enough, fresh}
 use Rattle.crackle.specs.Cuts.{FlagsSoFar, HoweverCut, StoppedByASample, ClosedForGood}

@@ -1,17 +1,16 @@
 -- How many flags come when: the counts of specs/Pieces.antt, as numbers and as lengths of the lists that they count. Assumes nothing.
 use mathlib.Core.Path.{_≡_, refl, sym, ap, _∙_}
 use mathlib.Core.Bool.{Bool, true, false, not, true≢false}
-use mathlib.Core.List.{List, [], _∷_, _++_, map}
+use mathlib.Core.List.{List, [], _∷_}
 use mathlib.Core.Logic.{_⊎_, inl, inr}
-use Prim.Native.Nat.{ℕ, suc, _+_, _-_, _≤_, _<_}
+use Prim.Native.Nat.{ℕ, suc, _+_, _-_, _≤_}
 use native.Mathlib.Omega.{arith}
-use borrow.Author.Tests.{ltb-true, ltb-false, lt-ltb, le-ltb, le-leb, lt-leb, eq-eqb, ne-eqb, eqb-true, eqb-false}
+use borrow.Author.Tests.{ltb-true, ltb-false, le-ltb, le-leb, lt-leb, eqb-true, eqb-false}
 use lib.Dec.{ltb, leb, eqb}
 use lib.ListN.{length, take, set, replicate, length-append, length-map, length-set, length-replicate}
 use lib.Seq.{length-take-le}
 use lib.Ieee.{Float, binary32, toBits}
 use Rattle.leaves.specs.Arithmetic.{nought, float}
-use Rattle.leaves.specs.Choice.{if_then_else_}
 use Rattle.leaves.specs.Floats.{magnitude}
 use Rattle.leaves.proofs.Choice.{truth, picks}
 use Rattle.decrackle.specs.declared.Start.{Start}

@@ -5,8 +5,8 @@ use mathlib.Core.List.{List, [], _∷_, map}
 use Prim.Native.Nat.{ℕ, suc, _+_, _-_, _≤_, _<_}
 use native.Mathlib.Omega.{arith}
 use borrow.Author.Tests.{lt-ltb, le-ltb, eq-eqb, ne-eqb}
-use lib.Dec.{ltb, eqb}
-use lib.ListN.{length, getD, take, drop, set, replicate, length-map, drop-of-length-le}
+use lib.Dec.{ltb}
+use lib.ListN.{length, getD, take, drop, set, replicate, drop-of-length-le}
 use lib.Seq.{sets, drop-cons, getD-take, length-take-le, take-all}
 use lib.Ieee.{Float, binary32, ofBits, toBits}
 use Rattle.leaves.specs.Arithmetic.{_+₃₂_, nought, float}
@@ -17,9 +17,9 @@ use Rattle.decrackle.specs.declared.Start.{Start}
 use Rattle.decrackle.specs.declared.Start.the-variants.{Mean}
 use Rattle.decrackle.specs.Decrackle.{fromMiddle, meanOver, summed, meanFloor, openingFloor, floorAfter, flagged, flagsFrom, leastSamples}
 use Rattle.crackle.specs.declared.Detector.{Detector}
-use Rattle.crackle.specs.Inner.{flagAgainst, magnitudesIn}
-use Rattle.crackle.specs.Pieces.{knownBy, heldBack, Holding, holding, valuesWith, heldWith, judgedWith, floorBefore, floorAlong, flagsAlong}
-use Rattle.crackle.specs.Pieces.{flagsWith, floorWith, valueBefore, flagByte}
+use Rattle.crackle.specs.Inner.{flagAgainst}
+use Rattle.crackle.specs.Pieces.{heldBack, Holding, holding, valuesWith, magnitudesIn, heldWith, judgedWith, floorBefore, floorAlong}
+use Rattle.crackle.specs.Pieces.{flagsAlong, flagsWith, floorWith, valueBefore, flagByte}
 use Rattle.crackle.proofs.Due.{held-few, length-held, judged-free, judged-still, judged-all}
 
 -- ---- One place

@@ -2,13 +2,13 @@
 -- the first of what is left. Assumes nothing.
 use mathlib.Core.Path.{_≡_, refl, sym, ap, subst, _∙_}
 use mathlib.Core.Bool.{Bool, true, false, _||_}
-use mathlib.Core.List.{List, [], _∷_, _++_, map, append-assoc, map-append}
+use mathlib.Core.List.{List, [], _∷_, _++_, append-assoc, map-append}
 use mathlib.Core.Logic.{_⊎_, inl, inr}
 use Prim.Native.Nat.{ℕ, suc, _+_, _-_, _≤_, _<_}
 use native.Mathlib.Omega.{arith}
 use native.Mathlib.Nat.{add-zero}
 use borrow.Author.Tests.{eq-eqb, ne-eqb, eqb-true, eqb-false}
-use lib.Dec.{T, ltb, eqb}
+use lib.Dec.{T, eqb}
 use lib.ListN.{length, getD, take, drop, set, length-drop}
 use lib.Seq.{getD-drop, drop-drop, take-suc-set, take-append-le}
 use lib.Ieee.{Float, binary32, toBits, fits}
@@ -22,13 +22,12 @@ use Rattle.leaves.proofs.Literals.{nought-word}
 use Rattle.redraw.specs.Whole.{sample}
 use Rattle.decrackle.specs.declared.Start.{Start}
 use Rattle.decrackle.specs.declared.Start.the-variants.{Mean}
-use Rattle.decrackle.specs.Decrackle.{fromMiddle, detector, magnitudesFrom, magnitudes, meanOver, openingFloor, floorAfter, flagged, flagsFrom}
-use Rattle.decrackle.specs.Decrackle.{leastSamples}
+use Rattle.decrackle.specs.Decrackle.{fromMiddle, detector, magnitudesFrom, magnitudes, meanOver, openingFloor, floorAfter}
 use Rattle.decrackle.proofs.Opening.{length-magnitudes, magnitudes-both}
 use Rattle.decrackle.proofs.Ends.{end-detector}
 use Rattle.crackle.specs.declared.Detector.{Detector}
-use Rattle.crackle.specs.Inner.{flagAgainst, magnitudesIn}
-use Rattle.crackle.specs.Pieces.{knownBy, heldBack, givenBy, Holding, valuesWith, heldWith, judgedWith, floorBefore, floorAlong}
+use Rattle.crackle.specs.Inner.{flagAgainst}
+use Rattle.crackle.specs.Pieces.{knownBy, heldBack, givenBy, Holding, valuesWith, magnitudesIn, heldWith, judgedWith, floorBefore, floorAlong}
 use Rattle.crackle.specs.Pieces.{flagsAlong, flagsWith, floorWith, valueBefore, overWith, flagsBy, withSample, withPiece, flagsBefore, lastFlags}
 use Rattle.crackle.proofs.Due.{held-case, held-same, held-ends, held-few, held-before, given-none, given-known, length-along, over-is}
 use Rattle.crackle.proofs.Due.{judged-still}

@@ -1,7 +1,7 @@
 -- The steps of the code: what an announcement, a sample, a piece and the end give is what the rule says. Assumes nothing.
 use mathlib.Core.Path.{_≡_, refl, sym, ap, _∙_}
 use mathlib.Core.Bool.{Bool, true, false, not}
-use mathlib.Core.List.{List, [], _∷_, _++_, map, map-append}
+use mathlib.Core.List.{List, _++_, map, map-append}
 use mathlib.Core.Logic.{inl, inr}
 use Prim.Native.Nat.{ℕ, suc, _+_, _-_, _≤_, _<_}
 use native.Mathlib.Omega.{arith}
@@ -29,7 +29,7 @@ use Rattle.crackle.specs.Inner.{floorBehind}
 use Rattle.crackle.specs.Pieces.{begun, announced, heldBack, givenBy, flagsDue, Holding, holding, valuesWith, judgedWith}
 use Rattle.crackle.specs.Pieces.{flagsWith, floorWith}
 use Rattle.crackle.specs.Pieces.{valueBefore, overWith, flagsBy, withSample, withPiece, flagsBefore, told, flagByte, flagsIn, closed}
-use Rattle.crackle.specs.Pieces.{stopped, tooFewValues, tooMuch, notAll, pieceTold, lastFlags, lastValues, endTold}
+use Rattle.crackle.specs.Pieces.{tooMuch, notAll, pieceTold, lastFlags, lastValues, endTold}
 use Rattle.crackle.proofs.Due.{due-both, length-with, over-is, judged-length, by-length, last-length}
 
 -- ---- The announcement

@@ -23,7 +23,7 @@ use Rattle.decrackle.specs.declared.Start.{Start}
 use Rattle.decrackle.specs.declared.Start.the-variants.{Mean, Old}
 use Rattle.decrackle.specs.Decrackle.{factorFor, leastFloor, meanOver, summed, meanFloor, oldFloor, openingFloor, alpha, floorAfter}
 use Rattle.crackle.specs.declared.Announced.the-variants.{Begun}
-use Rattle.crackle.specs.Pieces.{begun, announced, heldBack, givenBy, Holding, holding, heldWith, judgedWith, floorBefore, floorAlong, floorWith}
+use Rattle.crackle.specs.Pieces.{begun, announced, heldBack, Holding, holding, heldWith, judgedWith, floorBefore, floorAlong, floorWith}
 use Rattle.crackle.specs.Pieces.{valueBefore, overWith, withSample, withPiece, flagByte, Told, told, closed, pieceTold, lastValues, endTold}
 use Rattle.crackle.specs.Kept.{headWords, stateWords, startWord, startOf, headOf, wordsOf, detectorOf, holdingOf, wordsAfter, keptTold}
 use Rattle.crackle.specs.Kept.{beginKept, keptBy, pieceKept, endKept}

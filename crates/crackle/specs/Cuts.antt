@@ -111,8 +111,7 @@ FlagsSoFar =
     → let s = p ++ rest in
     InRange p → Enough values → Cut start (length s) 0 offers p
     → let run = handed (fresh start (length s) sensitivity values) offers in
-    (run .numbers ≡ byRoom start 0 offers)
-    × (run .flags ≡ map flagByte (take (givenBy start (length p)) (wholeFlags start sensitivity s)))
+    (run .numbers ≡ byRoom start 0 offers) × (run .flags ≡ map flagByte (take (givenBy start (length p)) (wholeFlags start sensitivity s)))
 
 -- "However an in-range recording is cut, the flags joined together equal those of document 01 on the whole", with refusals for lack of room
 -- between, and "the last at the end", with all that were held back where 1,024 values never were in

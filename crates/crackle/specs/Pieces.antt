@@ -87,10 +87,15 @@ valuesWith h value =
     let d = h .detector in
     if heldBack (d .start) (d .taken) then set (h .values) (knownBy (d .taken)) (toBits binary32 value) else h .values
 
--- the magnitudes of all that are held then, one for each sample that is in
+-- the magnitudes of values that are held
+unfoldable pub magnitudesIn : List ℕ → List Float
+unfolding float
+magnitudesIn values = map (λ (w : ℕ). magnitude (float w)) values
+
+-- those of all that are held then, one for each sample that is in
 unfoldable pub heldWith : Holding → Float → List Float
-unfolding valuesWith float
-heldWith h value = map (λ (w : ℕ). magnitude (float w)) (take (h .detector .taken) (valuesWith h value))
+unfolding valuesWith magnitudesIn
+heldWith h value = magnitudesIn (take (h .detector .taken) (valuesWith h value))
 
 -- the magnitudes that are judged with it, in order: its own, or where flags are held back all of these, once that is over
 unfoldable pub judgedWith : Holding → Float → Bool → List Float

@@ -11,6 +11,7 @@ use super::Announced;
 use super::Detector;
 use super::Heard;
 use super::announce;
+use decrackle::MEAN_OVER;
 use decrackle::Start;
 use leaves::words::f32_of_word;
 use leaves::words::word_of_f32;
@@ -22,7 +23,7 @@ use recording::numbers::number_of;
 // them is never touched.
 const HEAD_WORDS: usize = 8;
 
-const STATE_WORDS: usize = 1032;
+const STATE_WORDS: usize = HEAD_WORDS + MEAN_OVER;
 
 // The word of a run that goes on; every other says that it does not.
 const RUNNING: u32 = 1;

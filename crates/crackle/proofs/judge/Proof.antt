@@ -1,6 +1,6 @@
 -- `crackle::judge` meets its contract: a place is judged at once, or its value is held, and once that is over all that are held are judged. Assumes
 -- nothing.
-use mathlib.Core.Path.{_≡_, refl, sym, _∙_}
+use mathlib.Core.Path.{refl, sym, _∙_}
 use Prim.Native.Nat.{_≤_}
 use native.Mathlib.Omega.{arith}
 use borrow.Author.Needs.{needs}

@@ -7,8 +7,7 @@ use native.Mathlib.Omega.{arith}
 use borrow.Author.Needs.{needs}
 use lib.ListN.{length, take, drop, length-set}
 use lib.Seq.{sets}
-use Rattle.crackle.specs.Inner.{magnitudesIn}
-use Rattle.crackle.specs.Pieces.{floorAlong, flagsAlong, flagByte}
+use Rattle.crackle.specs.Pieces.{magnitudesIn, floorAlong, flagsAlong, flagByte}
 use Rattle.crackle.proofs.Judging.{floor-more, flags-more, floor-all, flags-all}
 use Rattle.crackle.proofs.judge_held.Statement.{statement}
 use Rattle.crackle.proofs.judge_held.Tie as tie

@@ -6,7 +6,7 @@ use native.Mathlib.Omega.{arith}
 use borrow.Author.Needs.{needs}
 use lib.ListN.{take, drop}
 use Rattle.decrackle.specs.Decrackle.{summed}
-use Rattle.crackle.specs.Inner.{magnitudesIn}
+use Rattle.crackle.specs.Pieces.{magnitudesIn}
 use Rattle.crackle.proofs.Judging.{sum-more, sum-whole}
 use Rattle.crackle.proofs.sum_held.Statement.{statement}
 use Rattle.crackle.proofs.sum_held.Tie as tie
