@@ -216,7 +216,8 @@ lines-only (scan rate millis work) s =
     among-more _ (1 ∷ 14 ∷ 2 ∷ 3 ∷ 4 ∷ []) (6 ∷ 7 ∷ 8 ∷ 9 ∷ [])
     (first-among (applies (asked (scan rate millis work) s) s) (1 ∷ 14 ∷ 2 ∷ 3 ∷ 4 ∷ []))
 lines-only (declip threshold work) s = first-among (applies (asked (declip threshold work) s) s) (canGive (declip threshold work))
-lines-only (decrackle start sensitivity work) s = first-among (applies (asked (decrackle start sensitivity work) s) s) (canGive (decrackle start sensitivity work))
+lines-only (decrackle start sensitivity work) s =
+    first-among (applies (asked (decrackle start sensitivity work) s) s) (canGive (decrackle start sensitivity work))
 lines-only (dequantize bits strength work) s = first-among (applies (asked (dequantize bits strength work) s) s) (canGive (dequantize bits strength work))
 lines-only (cosparse bits strength iterations work) s =
     first-among (applies (asked (cosparse bits strength iterations work) s) s) (canGive (cosparse bits strength iterations work))

@@ -97,7 +97,8 @@ module _ (start : Start) (total : ℕ) (sensitivity : Float) (words : List ℕ) 
     begin-so d after h e =
         let front : length (take headWords words) ≡ headWords = length-take-le headWords words (omega (arith, enough)) in
         let so : after ≡ wordsOf (holding d (drop headWords words)) =
-        e ∙ ap (λ (l : List ℕ). sets l 0 (headOf d)) (sym (take-append-drop headWords words)) ∙ head-written d (take headWords words) (drop headWords words) front in
+        e ∙ ap (λ (l : List ℕ). sets l 0 (headOf d)) (sym (take-append-drop headWords words))
+        ∙ head-written d (take headWords words) (drop headWords words) front in
         rw (le-ltb _ _ enough, ← ea, h, so) refl
 
     pub begin-away : (why : Reason) → a ≡ TurnedAway why → told (Refused why) words [] ≡ beginKept start total sensitivity words

@@ -136,7 +136,8 @@ held-next s t h v at some held ev =
     let none : 0 + (t - 1) ≡ t - 1 = omega arith in
     let word : float (toBits binary32 v) ≡ detector s (t - 1) = rw ev (ofBits-toBits binary32 _ (value-fits s (t - 1))) in
     let stored : take t (valuesWith h v) ≡ take (t - 1) (h .values) ++ (toBits binary32 v ∷ []) =
-    rw (at .taken-is, held) (ap (λ (k : ℕ). take k (set (h .values) (t - 1) (toBits binary32 v))) next ∙ take-suc-set (h .values) (t - 1) (toBits binary32 v) inside)
+    rw (at .taken-is, held)
+    (ap (λ (k : ℕ). take k (set (h .values) (t - 1) (toBits binary32 v))) next ∙ take-suc-set (h .values) (t - 1) (toBits binary32 v) inside)
     in
     ap (λ (k : ℕ). magnitudesIn (take k (valuesWith h v))) (at .taken-is)
     ∙ ap magnitudesIn stored

@@ -1,5 +1,5 @@
--- `cathar::cathar_decrackle_old_start` meets its contract: it tells what the decrackle from the old start ends in, and the workspace is left as that answer says.
--- Assumes nothing.
+-- `cathar::cathar_decrackle_old_start` meets its contract: it tells what the decrackle from the old start ends in, and the workspace is left as
+-- that answer says. Assumes nothing.
 use borrow.Author.Needs.{needs}
 use lib.ListN.{length}
 use Rattle.redraw.specs.Whole.{needed}

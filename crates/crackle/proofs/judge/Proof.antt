@@ -70,7 +70,10 @@ returns-2 c =
     (not-true _ (c .if2 .taken))
 
 sum-held-requires : tie.Need-sum-held-requires
-sum-held-requires c κs = let word = c .before .before in simp length-set (omega (arith, few-in word, word .before .before .before .before .before .before .pre .1))
+sum-held-requires c κs =
+    let word = c .before .before in
+    let start = word .before .before .before .before .before .before in
+    simp length-set (omega (arith, few-in word, start .pre .1))
 
 mean-floor-requires : tie.Need-mean-floor-requires
 mean-floor-requires c κs = few-in (c .before .before .before)
@@ -100,8 +103,9 @@ returns-3 c =
     let over = summed .before .before in
     let word = over .before in
     let back = word .before in
+    let start = word .before .before .before .before .before .before in
     judged-held _ _ _ _ _ (back .before .held-back .ensures) (not-false _ (back .if1 .left)) _ _ refl (word .word-of-f32 .ensures)
-    (not-false _ (over .if2 .left)) _ _ _ _ _ _ (word .before .before .before .before .before .before .pre .1) (summed .sum-held .ensures) (opened .mean-floor .ensures) (judged .judge-held .ensures)
+    (not-false _ (over .if2 .left)) _ _ _ _ _ _ (start .pre .1) (summed .sum-held .ensures) (opened .mean-floor .ensures) (judged .judge-held .ensures)
 
 pub judge-spec : {M : Type 1} → statement M
 judge-spec =

@@ -63,7 +63,9 @@ with-sample-requires c κs =
     )
 
 add-i : tie.Need-add-i Inv-loop μ-loop
-add-i c = let turn = c .before .before .before .before .before .before .before .before .before .before in omega (arith, turn .loop-test .taken, turn .before .before .before .before .before .before .pre .1)
+add-i c =
+    let turn = c .before .before .before .before .before .before .before .before .before .before in
+    omega (arith, turn .loop-test .taken, turn .before .before .before .before .before .before .pre .1)
 
 loop-less : tie.Need-loop-less Inv-loop μ-loop
 loop-less c = omega (arith, c .before .before .before .before .before .before .before .before .before .before .loop-test .taken)

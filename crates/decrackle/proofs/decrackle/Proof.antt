@@ -47,8 +47,8 @@ returns : tie.Need-returns
 returns c =
     let at = c .before .before .before .before in
     let a = start at .args in
-    whole-refused _ (a .work .now) (recording at) _ (at .begin .ensures .0) (markFor (a .start)) (decrackled (a .start) (a .sensitivity)) _ (decrackle-is _ _ _ _ (recording at) refl)
-    _ _ (c .enum-told2 .given .1) (at .begin .ensures .1)
+    whole-refused _ (a .work .now) (recording at) _ (at .begin .ensures .0) (markFor (a .start)) (decrackled (a .start) (a .sensitivity)) _
+    (decrackle-is _ _ _ _ (recording at) refl) _ _ (c .enum-told2 .given .1) (at .begin .ensures .1)
 
 mark-for-requires : tie.Need-mark-for-requires
 mark-for-requires c κs = search needs
@@ -96,8 +96,8 @@ returns-2 c =
     let laid = told .before .before .before in
     let at = laid .before in
     let a = start at .args in
-    whole-done _ (a .work .now) (recording at) _ (at .begin .ensures .0) (marked .mark-for .result) (decrackled (a .start) (a .sensitivity)) _ (decrackle-is _ _ _ _ (recording at) (marked .mark-for .ensures))
-    _ _ _ _ _ (after end) (told .enum-told .given .1) (at .begin .ensures .1) (laid .work .given)
+    whole-done _ (a .work .now) (recording at) _ (at .begin .ensures .0) (marked .mark-for .result) (decrackled (a .start) (a .sensitivity)) _
+    (decrackle-is _ _ _ _ (recording at) (marked .mark-for .ensures)) _ _ _ _ _ (after end) (told .enum-told .given .1) (at .begin .ensures .1) (laid .work .given)
     (drawn .before .draw .ensures) (drawn .work2 .given) (end .finish .ensures .0) (end .finish .ensures .1)
 
 pub decrackle-spec : {M : Type 1} → statement M

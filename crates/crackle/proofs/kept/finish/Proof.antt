@@ -37,7 +37,8 @@ returns-2 c =
     let keeping = c .before .before in
     let called = keeping .before .before .before .before .before .before in
     let read = called .before .before .before in
-    kept-so _ _ _ _ _ _ _ _ _ _ (λ h. end-by-six h _) (read .before .before .if1 .left) (read .read-detector .ensures) (keeping .keep .ensures) (called .finish .ensures)
+    kept-so _ _ _ _ _ _ _ _ _ _ (λ h. end-by-six h _) (read .before .before .if1 .left) (read .read-detector .ensures) (keeping .keep .ensures)
+    (called .finish .ensures)
 
 pub finish-spec : {M : Type 1} → statement M
 finish-spec =

@@ -37,7 +37,8 @@ returns-2 c =
     let keeping = c .before .before in
     let called = keeping .before .before .before .before .before .before in
     let read = called .before .before .before in
-    kept-so _ _ _ _ _ _ _ _ _ _ (piece-by-six _ _) (read .before .before .if1 .left) (read .read-detector .ensures) (keeping .keep .ensures) (called .piece .ensures)
+    kept-so _ _ _ _ _ _ _ _ _ _ (piece-by-six _ _) (read .before .before .if1 .left) (read .read-detector .ensures) (keeping .keep .ensures)
+    (called .piece .ensures)
 
 pub piece-spec : {M : Type 1} → statement M
 piece-spec =

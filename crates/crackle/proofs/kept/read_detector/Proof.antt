@@ -49,7 +49,8 @@ returns c =
     let before = last .before .before in
     let floor = before .before .before in
     let factor = floor .before .before .before .before .before in
-    read-so _ _ _ _ _ _ (factor .start-of .ensures) (floor .f32-of-word .ensures) (before .f32-of-word2 .ensures) (last .f32-of-word3 .ensures) (c .f32-of-word4 .ensures)
+    read-so _ _ _ _ _ _ (factor .start-of .ensures) (floor .f32-of-word .ensures) (before .f32-of-word2 .ensures) (last .f32-of-word3 .ensures)
+    (c .f32-of-word4 .ensures)
 
 pub read-detector-spec : {M : Type 1} → statement M
 read-detector-spec =
