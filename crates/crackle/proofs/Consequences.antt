@@ -22,13 +22,14 @@ use Rattle.recording.proofs.read.Laws.{ReadEnds, readable-ends}
 use Rattle.redraw.proofs.Ending.{done-not-refused}
 use lib.Ieee.{Float, binary32, toBits}
 use Rattle.leaves.specs.Arithmetic.{nought, float}
+use Rattle.decrackle.specs.declared.Start.the-variants.{Old}
 use Rattle.decrackle.specs.Decrackle.{meanOver}
 use Rattle.crackle.specs.declared.Detector.{Detector}
 use Rattle.crackle.specs.Pieces.{knownBy, heldBack, flagsDue, Holding, holding, valuesWith, valueBefore, withSample, withPiece, flagsBefore}
 use Rattle.crackle.specs.Pieces.{Told, told, flagByte, flagsIn, closed, stopped, tooFewValues, tooMuch, notAll, unlessOut, pieceTold}
 use Rattle.crackle.specs.Pieces.{lastFlags, lastValues, endTold}
-use Rattle.crackle.specs.Consequences.{AsManyAsDue, Ends, PieceEnds, EndEnds, OnlyTheseRefusals}
-use Rattle.crackle.proofs.Due.{held-few, due-length, piece-room, last-room}
+use Rattle.crackle.specs.Consequences.{AsManyAsDue, Ends, PieceEnds, EndEnds, OldHoldsNothing, OnlyTheseRefusals}
+use Rattle.crackle.proofs.Due.{held-few, same-start, due-length, piece-room, last-room}
 
 pub as-many-as-due : AsManyAsDue
 as-many-as-due = due-length
@@ -164,6 +165,32 @@ pub end-ends : EndEnds
 end-ends h room =
     end-by (Ends h room) h room (stops-run h room Pieces (λ e. omega (arith, ap reasonNumber e))) (keeps h room)
     (λ values enough. gives h room _ (lastFlags h) _ refl (last-room h) (last-behind h))
+
+-- ---- The old start
+
+values-kept : (h : Holding) (value : Float) → h .detector .start ≡ Old → valuesWith h value ≡ h .values
+unfolding valuesWith heldBack
+values-kept h value e = rw e refl
+
+sample-kept : (h : Holding) (x : Float) → h .detector .start ≡ Old → withSample h x .values ≡ h .values
+unfolding withSample
+sample-kept h x e =
+    picks (λ (l : List ℕ). l ≡ h .values) (eqb (h .detector .taken) 0) _ _ refl (values-kept h (valueBefore (h .detector) x) e)
+
+piece-kept : (h : Holding) (ws : List ℕ) → h .detector .start ≡ Old → withPiece h ws .values ≡ h .values
+unfolding withPiece
+piece-kept h [] e = refl
+piece-kept h (w ∷ ws) e = piece-kept (withSample h (float w)) ws (same-start h (float w) ∙ e) ∙ sample-kept h (float w) e
+
+last-kept : (h : Holding) → h .detector .start ≡ Old → lastValues h ≡ h .values
+unfolding lastValues
+last-kept h e = picks (λ (l : List ℕ). l ≡ h .values) (eqb (h .detector .taken) 0) _ _ refl (values-kept h nought e)
+
+pub old-holds-nothing : OldHoldsNothing
+old-holds-nothing h piece room e = (
+  piece-by (λ (t : Told Holding). t .held .values ≡ h .values) h room refl refl piece (λ i. refl) (λ values enough. piece-kept h piece e),
+  end-by (λ (t : Told Holding). t .held .values ≡ h .values) h room refl refl (λ values enough. last-kept h e),
+)
 
 pub only-these-refusals : OnlyTheseRefusals
 only-these-refusals h piece room = (

@@ -10,6 +10,7 @@ use Rattle.recording.specs.Answers.{number}
 use Rattle.recording.specs.declared.Reason.{Reason}
 use Rattle.recording.specs.declared.Reason.the-variants.{Workspace}
 use Rattle.recording.specs.declared.Answer.the-variants.{Done, Refused}
+use Rattle.decrackle.specs.declared.Start.the-variants.{Old}
 use Rattle.decrackle.specs.Decrackle.{meanOver}
 use Rattle.crackle.specs.Pieces.{flagsDue, Holding, flagsBefore, Told, pieceTold, endTold}
 
@@ -35,6 +36,12 @@ PieceEnds = (h : Holding) (piece room : List ℕ) → Ends h room (pieceTold h p
 
 abbrev pub EndEnds : Type 0
 EndEnds = (h : Holding) (room : List ℕ) → Ends h room (endTold h room)
+
+-- the old start holds nothing back, and leaves the room for it as it was
+abbrev pub OldHoldsNothing : Type 0
+OldHoldsNothing =
+    (h : Holding) (piece room : List ℕ) → h .detector .start ≡ Old
+    → (pieceTold h piece room .held .values ≡ h .values) × (endTold h room .held .values ≡ h .values)
 
 -- a piece gives no refusal but 13, 6 and 7, and the end none but 13 and 6
 abbrev pub OnlyTheseRefusals : Type 0

@@ -97,7 +97,7 @@ unfoldable pub heldWith : Holding → Float → List Float
 unfolding valuesWith magnitudesIn
 heldWith h value = magnitudesIn (take (h .detector .taken) (valuesWith h value))
 
--- the magnitudes that are judged with it, in order: its own, or where flags are held back all of these, once that is over
+-- the magnitudes that are judged with it, in order: its own, or, where flags are held back, none before that is `over`, and then all of these
 unfoldable pub judgedWith : Holding → Float → Bool → List Float
 unfolding heldBack heldWith
 judgedWith h value over =
