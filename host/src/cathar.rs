@@ -151,6 +151,21 @@ mod exports {
             work_n: usize,
             value: *mut usize,
         ) -> u32;
+        pub fn cathar_decrackle_old_start(
+            samples: *mut u32,
+            n: usize,
+            marks: *mut u8,
+            marks_n: usize,
+            counts: *mut u16,
+            counts_n: usize,
+            journal: *mut u32,
+            journal_n: usize,
+            used: *mut usize,
+            sensitivity: f32,
+            work: *mut u32,
+            work_n: usize,
+            value: *mut usize,
+        ) -> u32;
         pub fn cathar_dequantize(
             samples: *mut u32,
             n: usize,
@@ -185,6 +200,7 @@ mod exports {
             value: *mut usize,
         ) -> u32;
         pub fn cathar_crackle_begin(total: usize, sensitivity: f32, state: *mut u32, state_n: usize) -> u32;
+        pub fn cathar_crackle_begin_old_start(total: usize, sensitivity: f32, state: *mut u32, state_n: usize) -> u32;
         pub fn cathar_crackle_piece(
             state: *mut u32,
             state_n: usize,
@@ -490,8 +506,8 @@ pub fn declip(
     }
 }
 
-/// Rewrites samples that stand out from their neighbours by more than a running floor. Answers as `declip`
-/// does.
+/// Rewrites samples that stand out from their neighbours by more than a running floor, which starts from the mean.
+/// Answers as `declip` does.
 // The arguments are those of the C function.
 #[allow(clippy::too_many_arguments)]
 pub fn decrackle(
@@ -507,6 +523,39 @@ pub fn decrackle(
     // As above.
     unsafe {
         exports::cathar_decrackle(
+            samples.as_mut_ptr(),
+            samples.len(),
+            marks.as_mut_ptr(),
+            marks.len(),
+            counts.as_mut_ptr(),
+            counts.len(),
+            journal.as_mut_ptr(),
+            journal.len(),
+            used,
+            sensitivity,
+            work.as_mut_ptr(),
+            work.len(),
+            value,
+        )
+    }
+}
+
+/// Likewise, with a floor that starts at 1e-6.
+// The arguments are those of the C function.
+#[allow(clippy::too_many_arguments)]
+pub fn decrackle_old_start(
+    samples: &mut [u32],
+    marks: &mut [u8],
+    counts: &mut [u16],
+    journal: &mut [u32],
+    used: &mut usize,
+    sensitivity: f32,
+    work: &mut [u32],
+    value: &mut usize,
+) -> u32 {
+    // As above.
+    unsafe {
+        exports::cathar_decrackle_old_start(
             samples.as_mut_ptr(),
             samples.len(),
             marks.as_mut_ptr(),
@@ -597,10 +646,17 @@ pub fn dequantize_cosparse(
     }
 }
 
-/// Announces a run of the crackle detector over `total` samples. Answers 0, or the number of the refusal.
+/// Announces a run of the crackle detector over `total` samples, with a floor that starts from the mean. Answers 0, or
+/// the number of the refusal.
 pub fn crackle_begin(total: usize, sensitivity: f32, state: &mut [u32]) -> u32 {
     // As above.
     unsafe { exports::cathar_crackle_begin(total, sensitivity, state.as_mut_ptr(), state.len()) }
+}
+
+/// Likewise, with a floor that starts at 1e-6.
+pub fn crackle_begin_old_start(total: usize, sensitivity: f32, state: &mut [u32]) -> u32 {
+    // As above.
+    unsafe { exports::cathar_crackle_begin_old_start(total, sensitivity, state.as_mut_ptr(), state.len()) }
 }
 
 /// Gives the run its next samples. Answers 0, with how many flags it gave in `value`, or the number of the refusal, with

@@ -1,14 +1,16 @@
-//! Crackle detection as the sound arrives, as request P4 of document 02 has it, in the words of a state. Which word
-//! holds what, and what becomes of a NaN there, are the library's own (`crates/crackle/src/kept.rt`); all else is
-//! written from the request's text, and to be seen right rather than to be fast, so that the library can be held to it.
+//! Crackle detection as the sound arrives, as requests P4 and P7 of document 02 have it, in the words of a state. Which
+//! word holds what, and what becomes of a NaN there, are the library's own (`crates/crackle/src/kept.rt`); all else is
+//! written from the requests' text, and to be seen right rather than to be fast, so that the library can be held to it.
 //! What the flags have to be in all is not worked out here: that is document 01's on the whole recording (`whole.rs`),
 //! and what the original Rust rewrites.
 use crate::float::word32;
 use crate::recording::{first_of, in_range, Answer, MOST_SAMPLES};
-use crate::whole::{curve, stretches};
+use crate::whole::{opening_floor, Start, MEAN_OF};
 
-/// How many words a state has.
-pub const STATE_WORDS: usize = 8;
+/// How many words of a state are those of its run, and how many a state has: behind them comes a detector's value for
+/// each place whose flag is held back.
+pub const RUN_WORDS: usize = 8;
+pub const STATE_WORDS: usize = RUN_WORDS + MEAN_OF;
 
 /// "A total under 8 leaves every flag unset."
 pub const FEWEST: u32 = 8;
@@ -16,8 +18,8 @@ pub const FEWEST: u32 = 8;
 /// A call, without the memory that is lent to it.
 #[derive(Clone, Copy, Debug, PartialEq)]
 pub enum Call {
-    /// "Announce the total."
-    Begin { total: usize, sensitivity: f32 },
+    /// "Announce the total"; "the piecewise form must be told which" start.
+    Begin { total: usize, sensitivity: f32, start: Start },
     /// "Consecutive pieces of any length, zero length too."
     Piece,
     /// "The last at the end."
@@ -33,8 +35,8 @@ pub struct Areas {
     pub flags: Vec<u8>,
 }
 
-/// A run as the words of its state have it. "The detector keeps the running floor and the last two samples, carried
-/// from piece to piece."
+/// A run as the first words of its state have it. "The detector keeps the running floor and the last two samples,
+/// carried from piece to piece."
 #[derive(Clone, Copy, Debug)]
 pub struct Run {
     /// How many samples were announced, and how many are in.
@@ -46,6 +48,7 @@ pub struct Run {
     /// The sample before the last, and the last.
     pub before: f32,
     pub last: f32,
+    pub start: Start,
 }
 
 /// The float of a word, one and the same for every NaN.
@@ -57,12 +60,23 @@ fn float(word: u32) -> f32 {
 }
 
 /// The word of a float, 7FC00000 for a NaN.
-fn word(x: f32) -> u32 {
+pub(crate) fn word(x: f32) -> u32 {
     word32(x) as u32
 }
 
+/// How many flags are given when so many samples are in. "Flags come one sample late"; "for the new start it holds back
+/// flags until 1,024 detector values or the end are in, so P4's one-sample delay then starts there": with t samples t-1
+/// values are in.
+pub fn given(start: Start, samples: usize) -> usize {
+    match start {
+        Start::Mean if samples <= MEAN_OF => 0,
+        _ => samples.saturating_sub(1),
+    }
+}
+
 impl Run {
-    /// The run of these words, of which there are eight at least. Any word but 1 says that it does not go on.
+    /// The run of these words, of which there are eight at least. Any word but 1 says that it does not go on, or that
+    /// its start is the old one.
     pub fn read(state: &[u32]) -> Run {
         Run {
             total: state[0],
@@ -72,20 +86,24 @@ impl Run {
             floor: float(state[4]),
             before: float(state[5]),
             last: float(state[6]),
+            start: if state[7] == 1 { Start::Mean } else { Start::Old },
         }
     }
 
-    /// Its words. The last is not needed.
-    pub fn words(self) -> [u32; STATE_WORDS] {
+    /// Its words.
+    pub fn words(self) -> [u32; RUN_WORDS] {
         let floats = [self.factor, self.floor, self.before, self.last].map(word);
         let [factor, floor, before, last] = floats;
-        [self.total, self.taken, self.goes_on.into(), factor, floor, before, last, 0]
+        let start = self.start == Start::Mean;
+        [self.total, self.taken, self.goes_on.into(), factor, floor, before, last, start.into()]
     }
 
-    /// A run of so many samples, none of which is in. "Held to 1..10; factor 12−sensitivity"; "floor starts at 1e-6".
-    fn new(total: u32, sensitivity: f32) -> Run {
+    /// A run of so many samples, none of which is in. "Held to 1..10; factor 12−sensitivity." The floor is that of the
+    /// old start; from the mean it starts when the flags that are held back are given.
+    fn new(total: u32, sensitivity: f32, start: Start) -> Run {
         let factor = 12.0 - sensitivity.clamp(1.0, 10.0);
-        Run { total, taken: 0, goes_on: true, factor, floor: 1e-6, before: 0.0, last: 0.0 }
+        let floor = opening_floor(Start::Old, &[]);
+        Run { total, taken: 0, goes_on: true, factor, floor, before: 0.0, last: 0.0, start }
     }
 
     /// "Fewer" samples "than announced" are in, or, as no call leaves it, more.
@@ -98,13 +116,21 @@ impl Run {
         self.taken as usize + samples > self.total as usize
     }
 
-    /// How many flags so many samples bring: "flags come one sample late", so that there is none with the very first.
+    /// How many flags so many samples bring.
     pub fn brought_by(self, samples: usize) -> usize {
-        if self.taken == 0 {
-            samples.saturating_sub(1)
-        } else {
-            samples
-        }
+        let taken = self.taken as usize;
+        given(self.start, taken + samples) - given(self.start, taken)
+    }
+
+    /// How many flags the end brings, when all samples are in: those that are not given yet.
+    pub fn brought_by_end(self) -> usize {
+        let taken = self.taken as usize;
+        taken - given(self.start, taken)
+    }
+
+    /// Whether the flag of the last sample is held back, whatever comes next.
+    pub fn holds_back(self) -> bool {
+        self.start == Start::Mean && self.taken as usize <= MEAN_OF
     }
 
     /// The flag of a place at which this is the detector's value. "floor=floor*(1−0.001)+a*0.001, then flag if
@@ -115,22 +141,53 @@ impl Run {
         u8::from(self.total >= FEWEST && a > self.factor * self.floor.max(1e-6))
     }
 
-    /// Takes one sample in, and gives the flag of the one before it. "Detector 0 at both ends, elsewhere
+    /// The flags of all places from the first on, at which these words are the detector's values. The floor starts from
+    /// their mean.
+    fn judge_held(&mut self, held: &[u32]) -> Vec<u8> {
+        let values: Vec<f32> = held.iter().map(|word| float(*word)).collect();
+        let magnitudes: Vec<f32> = values.iter().map(|value| value.abs()).collect();
+        self.floor = opening_floor(self.start, &magnitudes);
+        values.into_iter().map(|value| self.judge(value)).collect()
+    }
+
+    /// At the place of the last sample this is the detector's value. Its flag, or where it is held back the value stands
+    /// in its place; with the last that the mean is of come the flags of all.
+    fn know(&mut self, value: f32, held: &mut [u32]) -> Vec<u8> {
+        if !self.holds_back() {
+            return vec![self.judge(value)];
+        }
+        let known = self.taken as usize;
+        held[known - 1] = word(value);
+        if known == MEAN_OF {
+            self.judge_held(held)
+        } else {
+            Vec::new()
+        }
+    }
+
+    /// Takes one sample in, and gives the flags that come with it. "Detector 0 at both ends, elsewhere
     /// s[i]−0.5*(s[i−1]+s[i+1])."
-    fn take(&mut self, x: f32) -> Option<u8> {
-        let flag = match self.taken {
-            0 => None,
-            1 => Some(self.judge(0.0)),
-            _ => Some(self.judge(self.last - 0.5 * (self.before + x))),
+    fn take(&mut self, x: f32, held: &mut [u32]) -> Vec<u8> {
+        let flags = match self.taken {
+            0 => Vec::new(),
+            1 => self.know(0.0, held),
+            _ => self.know(self.last - 0.5 * (self.before + x), held),
         };
         (self.before, self.last) = (self.last, x);
         self.taken += 1;
-        flag
+        flags
     }
 
-    /// The flag of the last place, where there is one. The run stays as it is.
-    fn last_flag(mut self) -> Option<u8> {
-        (self.taken > 0).then(|| self.judge(0.0))
+    /// The flags that come at the end. The run stays as it is.
+    fn last_flags(mut self, held: &mut [u32]) -> Vec<u8> {
+        match self.taken as usize {
+            0 => Vec::new(),
+            known if self.holds_back() => {
+                held[known - 1] = word(0.0);
+                self.judge_held(&held[..known])
+            }
+            _ => vec![self.judge(0.0)],
+        }
     }
 }
 
@@ -141,9 +198,9 @@ impl Areas {
         Answer::Accepted(flags.len())
     }
 
-    /// The run stands in the state's words, of which those behind the eighth stay.
+    /// The run stands in the state's first words. Those behind them stay.
     fn keep(&mut self, run: Run) {
-        self.state[..STATE_WORDS].copy_from_slice(&run.words());
+        self.state[..RUN_WORDS].copy_from_slice(&run.words());
     }
 
     /// The run is over.
@@ -152,11 +209,11 @@ impl Areas {
     }
 
     /// "Refusals: 2 and 4 at the announcement."
-    fn begin(&mut self, total: usize, sensitivity: f32) -> Answer {
+    fn begin(&mut self, total: usize, sensitivity: f32, start: Start) -> Answer {
         if let Some(number) = first_of([(2, total > MOST_SAMPLES), (4, sensitivity.is_nan())]) {
             return Answer::Refused(number);
         }
-        self.keep(Run::new(total as u32, sensitivity));
+        self.keep(Run::new(total as u32, sensitivity, start));
         Answer::Accepted(0)
     }
 
@@ -176,7 +233,8 @@ impl Areas {
             self.close(run);
             return Answer::RefusedAt(7, run.taken as usize + place);
         }
-        let flags: Vec<u8> = self.piece.iter().filter_map(|word| run.take(float(*word))).collect();
+        let held = &mut self.state[RUN_WORDS..STATE_WORDS];
+        let flags: Vec<u8> = self.piece.iter().flat_map(|word| run.take(float(*word), held)).collect();
         self.keep(run);
         self.give(&flags)
     }
@@ -188,10 +246,10 @@ impl Areas {
             self.close(run);
             return Answer::Refused(13);
         }
-        let flags: Vec<u8> = run.last_flag().into_iter().collect();
-        if self.flags.len() < flags.len() {
+        if self.flags.len() < run.brought_by_end() {
             return Answer::Refused(6);
         }
+        let flags = run.last_flags(&mut self.state[RUN_WORDS..STATE_WORDS]);
         self.close(run);
         self.give(&flags)
     }
@@ -200,20 +258,9 @@ impl Areas {
     pub fn make(&mut self, call: Call) -> Answer {
         match call {
             _ if self.state.len() < STATE_WORDS => Answer::Refused(6),
-            Call::Begin { total, sensitivity } => self.begin(total, sensitivity),
+            Call::Begin { total, sensitivity, start } => self.begin(total, sensitivity, start),
             Call::Piece => self.piece(),
             Call::End => self.end(),
         }
     }
-}
-
-/// The samples of a recording of which these are flagged, once they are rewritten: "each flagged run is rewritten as
-/// `repair_hermite` does, left to right on the changing output".
-pub fn rewritten(samples: &[f32], flags: &[bool]) -> Vec<f32> {
-    let mut output = samples.to_vec();
-    for run in stretches(flags) {
-        let new = curve(&output, &run);
-        output[run].copy_from_slice(&new);
-    }
-    output
 }

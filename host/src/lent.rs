@@ -9,7 +9,7 @@ use crate::cathar;
 use crate::inpaint::{Gap, Lists};
 use crate::question::{Span, Told};
 use crate::recording::Recording;
-use crate::whole::Repair;
+use crate::whole::{Repair, Start};
 use crate::wrong;
 use several::Several;
 
@@ -277,8 +277,11 @@ impl Lent {
             Repair::Declip { threshold } => {
                 cathar::declip(samples, marks, counts, journal, used, threshold, work, value)
             }
-            Repair::Decrackle { sensitivity } => {
+            Repair::Decrackle { sensitivity, start: Start::Mean } => {
                 cathar::decrackle(samples, marks, counts, journal, used, sensitivity, work, value)
+            }
+            Repair::Decrackle { sensitivity, start: Start::Old } => {
+                cathar::decrackle_old_start(samples, marks, counts, journal, used, sensitivity, work, value)
             }
             Repair::Dequantize { bits, strength } => {
                 cathar::dequantize(samples, marks, counts, journal, used, bits, strength, work, value)

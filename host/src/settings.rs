@@ -1,7 +1,7 @@
 //! The settings of each repair: those on which something turns, and any.
 use crate::draw::Draw;
 use crate::inpaint::{Gap, MOST_RATE};
-use crate::whole::Repair;
+use crate::whole::{Repair, Start};
 
 /// Thresholds that are not allowed.
 pub const NO_THRESHOLDS: [f32; 8] = [0.0, -0.0, -1.0, -1e-45, f32::MIN, f32::INFINITY, f32::NEG_INFINITY, f32::NAN];
@@ -118,7 +118,11 @@ pub fn sensitivity(draw: &mut Draw) -> f32 {
 }
 
 pub fn decrackle(draw: &mut Draw, _samples: &[u32]) -> Repair {
-    Repair::Decrackle { sensitivity: sensitivity(draw) }
+    Repair::Decrackle { sensitivity: sensitivity(draw), start: Start::Mean }
+}
+
+pub fn decrackle_old_start(draw: &mut Draw, _samples: &[u32]) -> Repair {
+    Repair::Decrackle { sensitivity: sensitivity(draw), start: Start::Old }
 }
 
 fn strength(draw: &mut Draw) -> f32 {

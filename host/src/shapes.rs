@@ -1,7 +1,8 @@
 //! Samples of several kinds. Nothing but sums, products and quotients make them, so that they are the same on
 //! every machine.
 use crate::draw::Draw;
-use crate::settings::SENSITIVITIES;
+use crate::settings::{self, SENSITIVITIES};
+use crate::whole::{flags, floats, Start, MEAN_OF};
 
 /// Words on which something turns: zeros of both signs, 2^-30, -0.75, 65,536; and those that are not in
 /// range: the next one above it, infinity, a NaN.
@@ -145,5 +146,41 @@ pub fn at_limit(put: &mut dyn FnMut(&[u32], f32)) {
                 put(&samples, sensitivity);
             }
         }
+    }
+}
+
+/// How many samples a recording has that is beside the limit, by what the mean is of: fewer, as many and some more.
+fn size_beside_limit(draw: &mut Draw) -> usize {
+    match draw.below(4) {
+        0 => 8 + draw.below(24) as usize,
+        1 => 32 + draw.below(800) as usize,
+        _ => MEAN_OF - 3 + draw.below(8) as usize,
+    }
+}
+
+/// Hands on any sound with a click at one place, as high as it can be without being flagged, and one step higher, where it
+/// is; and the sensitivity. Nothing, where no click is so. Where its place is one of those that the mean is of, the mean
+/// has a say in it.
+pub fn beside_limit(draw: &mut Draw, start: Start, put: &mut dyn FnMut(&mut Draw, &[u32], f32)) {
+    let n = size_beside_limit(draw);
+    let shape = [Shape::Noise, Shape::Tone, Shape::Quiet, Shape::Steps][draw.below(4) as usize];
+    let (mut samples, place) = (shape.samples(draw, n), 1 + draw.below(n as u64 - 2) as usize);
+    let place = if draw.below(2) == 0 { place } else { n - 2 - draw.below(5) as usize };
+    let (sensitivity, sign) = (settings::sensitivity(draw).max(1.0), (draw.below(2) as u32) << 31);
+    let mut is_flagged = |word: u32| {
+        samples[place] = word | sign;
+        flags(&floats(&samples), sensitivity, start)[place]
+    };
+    let (mut low, mut high) = (0, 0x4780_0000);
+    if is_flagged(low) || !is_flagged(high) {
+        return;
+    }
+    while high - low > 1 {
+        let middle = low + (high - low) / 2;
+        *(if is_flagged(middle) { &mut high } else { &mut low }) = middle;
+    }
+    for word in [low, high] {
+        samples[place] = word | sign;
+        put(draw, &samples, sensitivity);
     }
 }

@@ -1,25 +1,44 @@
-//! The four repairs over the whole recording as document 01 has them, over the model of the recording. What they
-//! turn away, which samples they name and what they leave is written from the document's text. The new samples
-//! are those that the original Rust computes, from its own files.
+//! The four repairs over the whole recording as document 01 has them, over the model of the recording, decrackle also
+//! with the start of request P7 of document 02. What they turn away, which samples they name and what they leave is
+//! written from the documents' text. The new samples are those that the original Rust computes, from its own files; of
+//! decrackle with the new start, which the original does not know, they are those of the curve that the original draws.
 use crate::original;
 use crate::recording::{in_range, Answer, Recording};
 use std::ops::Range;
+
+/// Where the floor of decrackle's detector starts.
+#[derive(Clone, Copy, Debug, PartialEq, Eq)]
+pub enum Start {
+    /// By request P7 of document 02, "the default": at the mean of the first magnitudes.
+    Mean,
+    /// By document 01, and as the original has it: at 1e-6. A caller asks for it "by name".
+    Old,
+}
+
+impl Start {
+    pub const BOTH: [Start; 2] = [Start::Mean, Start::Old];
+}
+
+/// Of so many magnitudes the mean is taken: "the first 1,024 detector magnitudes (all of them if fewer)".
+pub const MEAN_OF: usize = 1_024;
 
 /// Which of the four, and its settings.
 #[derive(Clone, Copy, Debug, PartialEq)]
 pub enum Repair {
     Declip { threshold: f32 },
-    Decrackle { sensitivity: f32 },
+    Decrackle { sensitivity: f32, start: Start },
     Dequantize { bits: u32, strength: f32 },
     Cosparse { bits: u32, strength: f32, iterations: u32 },
 }
 
 impl Repair {
-    /// "3 cubic declip, 4 decrackle, 5 dequantize (either form)."
+    /// "3 cubic declip, 4 decrackle, 5 dequantize (either form)"; and of the new start "this sets mark 7", while the old
+    /// one "keeps mark 4".
     pub fn mark(self) -> u8 {
         match self {
             Repair::Declip { .. } => 3,
-            Repair::Decrackle { .. } => 4,
+            Repair::Decrackle { start: Start::Old, .. } => 4,
+            Repair::Decrackle { start: Start::Mean, .. } => 7,
             Repair::Dequantize { .. } | Repair::Cosparse { .. } => 5,
         }
     }
@@ -29,7 +48,7 @@ impl Repair {
     pub fn is_allowed(self) -> bool {
         match self {
             Repair::Declip { threshold } => threshold.is_finite() && threshold > 0.0,
-            Repair::Decrackle { sensitivity } => !sensitivity.is_nan(),
+            Repair::Decrackle { sensitivity, .. } => !sensitivity.is_nan(),
             Repair::Dequantize { strength, .. } | Repair::Cosparse { strength, .. } => !strength.is_nan(),
         }
     }
@@ -39,7 +58,7 @@ impl Repair {
         let n = samples.len();
         match self {
             Repair::Declip { threshold } => union(&fills(samples, threshold)),
-            Repair::Decrackle { sensitivity } => union(&flagged(samples, sensitivity)),
+            Repair::Decrackle { sensitivity, start } => union(&flagged(samples, sensitivity, start)),
             // "Names places 1..n−2 (n at least 3, strength above 0)."
             Repair::Dequantize { strength, .. } if n >= 3 && strength > 0.0 => (1..n - 1).collect(),
             // "Names 2..n−3 (n at least 5, strength above 0, iterations above 0)."
@@ -50,11 +69,18 @@ impl Repair {
         }
     }
 
-    /// All samples as the original leaves them, where all are in range and the settings are allowed.
-    pub fn original(self, samples: &[f32]) -> Vec<f32> {
+    /// Whether the original knows it.
+    pub fn is_of_original(self) -> bool {
+        !matches!(self, Repair::Decrackle { start: Start::Mean, .. })
+    }
+
+    /// All samples as it leaves them, where all are in range and the settings are allowed: as the original leaves them,
+    /// where it knows the repair.
+    pub fn after(self, samples: &[f32]) -> Vec<f32> {
         match self {
             Repair::Declip { threshold } => original::declip(samples, threshold),
-            Repair::Decrackle { sensitivity } => original::decrackle(samples, sensitivity),
+            Repair::Decrackle { sensitivity, start: Start::Old } => original::decrackle(samples, sensitivity),
+            Repair::Decrackle { sensitivity, start } => redrawn(samples, &flags(samples, sensitivity, start)),
             Repair::Dequantize { bits, strength } => original::dequantize(samples, bits, strength),
             Repair::Cosparse { bits, strength, iterations } => {
                 original::dequantize_cosparse(samples, bits, strength, iterations)
@@ -62,12 +88,30 @@ impl Repair {
         }
     }
 
-    /// The named places with the words that the original writes there. It writes nowhere else, so that none of
-    /// the samples that change is missing among those named.
+    /// The same samples got in another way, where there is one: of decrackle from the old start by the curve, and from the
+    /// new one by the original, where the mean is raised to 1e-6, so that the floor starts as the original's does.
+    fn after_otherwise(self, samples: &[f32]) -> Option<Vec<f32>> {
+        match self {
+            Repair::Decrackle { sensitivity, start: Start::Old } => {
+                Some(redrawn(samples, &flags(samples, sensitivity, Start::Old)))
+            }
+            Repair::Decrackle { sensitivity, start } if opening_floor(start, &magnitudes(samples)) == 1e-6 => {
+                Some(original::decrackle(samples, sensitivity))
+            }
+            _ => None,
+        }
+    }
+
+    /// The named places with the words that the original writes there, where it knows the repair. It writes nowhere else,
+    /// so that none of the samples that change is missing among those named.
     fn rewritten(self, words: &[u32]) -> Vec<(usize, u32)> {
         let samples = floats(words);
-        let after = self.original(&samples);
+        let after = self.after(&samples);
         assert_eq!(after.len(), words.len(), "the original hands back as many samples");
+        if let Some(other) = self.after_otherwise(&samples) {
+            let same = after.iter().map(|x| x.to_bits()).eq(other.iter().map(|x| x.to_bits()));
+            assert!(same, "{self:?} of {samples:?}: the original and the curve leave {after:?} and {other:?}");
+        }
         let named: Vec<(usize, u32)> =
             self.named(&samples).into_iter().map(|place| (place, after[place].to_bits())).collect();
         let mut only_named = words.to_vec();
@@ -126,30 +170,60 @@ pub fn fills(samples: &[f32], threshold: f32) -> Vec<Range<usize>> {
     stretches(&clipped).into_iter().filter_map(between).collect()
 }
 
-/// Which samples decrackle flags. "Sensitivity not NaN, held to 1..10; factor 12−sensitivity. Under 8 samples:
-/// nothing named. Detector 0 at both ends, elsewhere s[i]−0.5*(s[i−1]+s[i+1]). Floor starts at 1e-6;
-/// floor=floor*(1−0.001)+a*0.001, then flag if a>factor*max(floor,1e-6)."
-pub fn flags(samples: &[f32], sensitivity: f32) -> Vec<bool> {
+/// The detector's magnitudes at all places. "Detector 0 at both ends, elsewhere s[i]−0.5*(s[i−1]+s[i+1])."
+pub fn magnitudes(samples: &[f32]) -> Vec<f32> {
     let n = samples.len();
-    let mut flags = vec![false; n];
-    if n < 8 {
-        return flags;
+    let value = |i: usize| match i {
+        _ if i == 0 || i == n - 1 => 0.0,
+        _ => samples[i] - 0.5 * (samples[i - 1] + samples[i + 1]),
+    };
+    (0..n).map(|i| f32::abs(value(i))).collect()
+}
+
+/// The floor before the first place, by these magnitudes, of which there are as many as the mean is of, or else all. Old:
+/// "floor starts at 1e-6." New: "start from the f32 mean of the first 1,024 detector magnitudes (all of them if fewer),
+/// summed in order and divided once, raised to 1e-6 if below."
+pub fn opening_floor(start: Start, magnitudes: &[f32]) -> f32 {
+    match start {
+        Start::Old => 1e-6,
+        Start::Mean => {
+            let first = &magnitudes[..magnitudes.len().min(MEAN_OF)];
+            let sum = first.iter().fold(0.0, |sum: f32, a| sum + a);
+            (sum / first.len() as f32).max(1e-6)
+        }
+    }
+}
+
+/// Which samples decrackle flags. "Sensitivity not NaN, held to 1..10; factor 12−sensitivity. Under 8 samples:
+/// nothing named. [..] floor=floor*(1−0.001)+a*0.001, then flag if a>factor*max(floor,1e-6)."
+pub fn flags(samples: &[f32], sensitivity: f32, start: Start) -> Vec<bool> {
+    if samples.len() < 8 {
+        return vec![false; samples.len()];
     }
     let factor = 12.0 - sensitivity.clamp(1.0, 10.0);
-    let mut floor = 1e-6f32;
-    for i in 0..n {
-        let at_end = i == 0 || i == n - 1;
-        let detector: f32 = if at_end { 0.0 } else { samples[i] - 0.5 * (samples[i - 1] + samples[i + 1]) };
-        let a = detector.abs();
+    let magnitudes = magnitudes(samples);
+    let mut floor = opening_floor(start, &magnitudes);
+    let mut flag = |a: f32| {
         floor = floor * (1.0 - 0.001) + a * 0.001;
-        flags[i] = a > factor * floor.max(1e-6);
-    }
-    flags
+        a > factor * floor.max(1e-6)
+    };
+    magnitudes.into_iter().map(&mut flag).collect()
 }
 
 /// The runs of places that decrackle flags, in their order.
-pub fn flagged(samples: &[f32], sensitivity: f32) -> Vec<Range<usize>> {
-    stretches(&flags(samples, sensitivity))
+pub fn flagged(samples: &[f32], sensitivity: f32, start: Start) -> Vec<Range<usize>> {
+    stretches(&flags(samples, sensitivity, start))
+}
+
+/// The samples of a recording of which these are flagged, once they are redrawn: "each flagged run is rewritten as
+/// `repair_hermite` does, left to right on the changing output".
+pub fn redrawn(samples: &[f32], flags: &[bool]) -> Vec<f32> {
+    let mut output = samples.to_vec();
+    for run in stretches(flags) {
+        let new = curve(&output, &run);
+        output[run].copy_from_slice(&new);
+    }
+    output
 }
 
 /// The new samples of a flagged run, as `repair_hermite` has them: the cubic from the sample before it to the one

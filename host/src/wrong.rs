@@ -17,6 +17,7 @@ mod frames;
 mod gaps;
 mod held;
 mod leaves;
+mod opening;
 mod orders;
 mod question;
 mod received;
@@ -36,7 +37,7 @@ use crate::lent::frames::Frames;
 use crate::lent::Lent;
 use crate::question::{self as model_of_question, Span, Told};
 use crate::recording::{not_measured, Answer, Recording, BLOCK};
-use crate::whole as whole_repairs;
+use crate::whole::{self as whole_repairs, Start};
 use std::env;
 
 /// A wrong stand-in.
@@ -68,7 +69,7 @@ enum How {
     /// In the place of both detectors alike.
     Detectors(fn(&mut Areas, model_of_crackle::Call) -> Answer),
     /// In the place of both detectors alike, and of the flags that the host works out over the whole recording.
-    Throughout(fn(&mut Areas, model_of_crackle::Call) -> Answer, fn(&[f32], f32) -> Vec<bool>),
+    Throughout(fn(&mut Areas, model_of_crackle::Call) -> Answer, fn(&[f32], f32, Start) -> Vec<bool>),
     /// In the place of the library's answer to the question: it is asked, at times by the library's own, and gives the
     /// number.
     Asked(fn(&mut Lent, Span) -> u32),
@@ -106,7 +107,7 @@ pub enum Finds {
 }
 
 /// All of them.
-pub const TABLES: [&[Table]; 15] = [
+pub const TABLES: [&[Table]; 16] = [
     leaves::TABLES,
     recording::TABLES,
     received::TABLES,
@@ -121,6 +122,7 @@ pub const TABLES: [&[Table]; 15] = [
     question::TABLES,
     frames::TABLES,
     crackle::TABLES,
+    crackle::HELD_TABLES,
     second::TABLES,
 ];
 
@@ -233,10 +235,10 @@ pub(crate) fn model_detector(areas: &mut Areas, call: model_of_crackle::Call) ->
 }
 
 /// Which samples of a whole recording are flagged, or what stands in for that.
-pub fn flags(samples: &[f32], sensitivity: f32) -> Vec<bool> {
+pub fn flags(samples: &[f32], sensitivity: f32, start: Start) -> Vec<bool> {
     match how() {
-        Some(How::Throughout(_, flags)) => flags(samples, sensitivity),
-        _ => whole_repairs::flags(samples, sensitivity),
+        Some(How::Throughout(_, flags)) => flags(samples, sensitivity, start),
+        _ => whole_repairs::flags(samples, sensitivity, start),
     }
 }
 

@@ -77,6 +77,10 @@ fn undos() {
     limits::small(&mut |recording| {
         undo_all(&mut count, recording);
     });
+    count.begin("each set mark");
+    limits::set_marks(&mut |recording, _| {
+        undo_all(&mut count, recording);
+    });
     count.begin("beside the most samples");
     limits::large(&mut |recording| {
         undo_all(&mut count, recording);
@@ -211,6 +215,19 @@ fn quiet() {
     assert_eq!(model.undo(), Answer::Accepted(2));
     assert_eq!(model, opened);
     assert_eq!(model.undo(), Answer::Refused(10));
+}
+
+/// Refusal 11 by the set mark alone: 1 to 5 are taken back, by request P7 also 7, and no other is.
+#[test]
+fn set_marks() {
+    limits::set_marks(&mut |mut model, set| {
+        let allowed = [1, 2, 3, 4, 5, 7].contains(&set);
+        let (before, mut lent) = (model.clone(), Lent::new(&model));
+        let answer = if allowed { Answer::Accepted(1) } else { Answer::Refused(11) };
+        assert_eq!(model.undo(), answer, "the model's undo of set mark {set}");
+        assert_eq!(model == before, !allowed, "what is left of set mark {set}");
+        assert_eq!((lent.make(Call::Undo), lent.wrong(&model, answer.value())), (answer.number(), vec![]), "{set}");
+    });
 }
 
 /// What the document says of a repair's end, by the model: no room, naming nothing, a word not in range.

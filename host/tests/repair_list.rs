@@ -16,7 +16,7 @@
 //!     g start len passes              one gap, by `inpaint_gap`
 //!     s rate limit 0                  a scan, by `inpaint_auto`; with held words, by `inpaint_gap` at each gap
 //!     d threshold 0 0                 the cubic `declip_with_method`
-//!     c sensitivity 0 0               `decrackle`
+//!     c sensitivity 0 0               `decrackle`, which is that from the old start
 //!     q bits strength 0               `dequantize`
 //!     p bits strength iterations      `dequantize_cosparse`
 //!
@@ -27,7 +27,7 @@ use cathar_host::inpaint::{inpaint_auto, inpaint_gap, scanned_by_original, Gap, 
 use cathar_host::original;
 use cathar_host::recording::{in_range, Answer, Recording};
 use cathar_host::shapes::Shape;
-use cathar_host::whole::{self, floats, needed, Repair};
+use cathar_host::whole::{self, floats, needed, Repair, Start};
 use std::env;
 use std::fs;
 use std::path::Path;
@@ -206,7 +206,7 @@ fn with_held(draw: &mut Draw, shape: Shape, n: usize, runs: &[(usize, usize, boo
 fn called(repair: Repair) -> Called {
     match repair {
         Repair::Declip { threshold } => ('d', [threshold.to_bits(), 0, 0]),
-        Repair::Decrackle { sensitivity } => ('c', [sensitivity.to_bits(), 0, 0]),
+        Repair::Decrackle { sensitivity, .. } => ('c', [sensitivity.to_bits(), 0, 0]),
         Repair::Dequantize { bits, strength } => ('q', [bits, strength.to_bits(), 0]),
         Repair::Cosparse { bits, strength, iterations } => ('p', [bits, strength.to_bits(), iterations]),
     }
@@ -219,7 +219,7 @@ fn whole_line(samples: &[u32], repair: Repair) -> Option<String> {
     if answer.number() != 0 || answer.value() == 0 {
         return None;
     }
-    let left = repair.original(&floats(samples));
+    let left = repair.after(&floats(samples));
     Some(line(called(repair), of_repair(answer), samples, &model, &left))
 }
 
@@ -237,7 +237,7 @@ type Chosen = fn(&mut Draw, &[u32], usize) -> Repair;
 /// Each of the four. The last two go through their settings at different paces.
 const WHOLE: [Chosen; 4] = [
     |draw, samples, _| Repair::Declip { threshold: threshold(draw, samples) },
-    |_, _, line| Repair::Decrackle { sensitivity: SENSITIVITIES[line] },
+    |_, _, line| Repair::Decrackle { sensitivity: SENSITIVITIES[line], start: Start::Old },
     |_, _, line| Repair::Dequantize { bits: BITS[line], strength: STRENGTHS[line] },
     |_, _, line| Repair::Cosparse {
         bits: BITS[line],

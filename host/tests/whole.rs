@@ -15,14 +15,14 @@ use cathar_host::both::Both;
 use cathar_host::count::Count;
 use cathar_host::damage;
 use cathar_host::draw::{self, Draw};
-use cathar_host::recording::{entry_words, Answer, Recording};
-use cathar_host::room::Room;
+use cathar_host::recording::{counted, entry_words, Answer, Recording};
+use cathar_host::room::{self, Room};
 use cathar_host::settings;
-use cathar_host::shapes::{at_limit, Shape};
-use cathar_host::whole::{floats, needed, Repair};
+use cathar_host::shapes::{at_limit, beside_limit, Shape};
+use cathar_host::whole::{floats, needed, Repair, Start};
 use std::ops::Range;
 use std::panic::catch_unwind;
-use whole::calls::{repair, repair_any, repair_with, Calls, COMMON};
+use whole::calls::{names, repair, repair_any, repair_with, Calls, COMMON};
 use whole::limits::{self, Case, Faults};
 use whole::{clipped, crackled, levels, short};
 
@@ -35,6 +35,13 @@ const LONG: u64 = 7;
 
 /// How many recordings are declipped whose last result is rounded above 65,536 or just not.
 const LOUD: usize = 160;
+
+/// How many recordings have clicks that stand out, how many of each shape and number of samples are beside the 1,024
+/// samples that the mean is of, how many have a click beside the limit, and how many are decrackled and taken back.
+const CLICKED: u64 = 30_000;
+const BESIDE: u64 = 40;
+const BESIDE_LIMIT: u64 = 2_000;
+const TAKEN_BACK: u64 = 2_000;
 
 /// Any settings of one repair, for these samples.
 type Settings = fn(&mut Draw, &[u32]) -> Repair;
@@ -139,38 +146,109 @@ fn declips() {
 }
 
 /// Every sensitivity on which something turns, on samples with clicks of every magnitude.
-fn decrackle_clicked(count: &mut Calls, draw: &mut Draw) {
+fn decrackle_clicked(count: &mut Calls, draw: &mut Draw, start: Start) {
     for shape in Shape::ALL {
         for sensitivity in settings::SENSITIVITIES.into_iter().chain([f32::NAN]) {
             for n in [7, 8, 9, 30, 100, 300, 1_000] {
                 let mut samples = shape.samples(draw, n);
                 damage::click(draw, &mut samples);
-                repair_any(count, draw, &samples, Repair::Decrackle { sensitivity });
+                repair_any(count, draw, &samples, Repair::Decrackle { sensitivity, start });
             }
         }
     }
 }
 
-#[test]
-fn decrackles() {
-    let seed = draw::seed();
-    let mut draw = Draw::new(seed);
-    let mut count = Count::new("cathar_decrackle against model and original", &[COMMON, crackled::CLASSES]);
-    repair_refused(&mut count, &mut draw, &limits::decrackle());
-    repair_usual(&mut count, &mut draw, settings::decrackle);
+/// All that is tried of decrackle, from one start as from the other.
+fn decrackle_from(count: &mut Calls, draw: &mut Draw, start: Start, settings: Settings) {
+    repair_refused(count, draw, &limits::decrackle(start));
+    repair_usual(count, draw, settings);
     count.begin("every choice of flagged samples, of 7 to 14");
-    crackled::each(&mut draw, &mut |draw, samples| {
-        let how = settings::decrackle(draw, samples);
-        repair_any(&mut count, draw, samples, how);
+    crackled::each(draw, &mut |draw, samples| {
+        let how = settings(draw, samples);
+        repair_any(count, draw, samples, how);
     });
     count.begin("a click at the limit, in silence");
     at_limit(&mut |samples, sensitivity| {
-        repair_any(&mut count, &mut draw, samples, Repair::Decrackle { sensitivity });
+        repair_any(count, draw, samples, Repair::Decrackle { sensitivity, start });
     });
     count.begin("every sensitivity, on samples with clicks");
-    decrackle_clicked(&mut count, &mut draw);
-    repair_large(&mut count, &mut draw, &limits::decrackle());
+    decrackle_clicked(count, draw, start);
+    count.begin("clicks that stand out");
+    for _ in 0..CLICKED {
+        let samples = crackled::clicked(draw);
+        let how = settings(draw, &samples);
+        repair_any(count, draw, &samples, how);
+    }
+    count.begin("each shape, 1,022 to 1,027 samples");
+    for n in crackled::BESIDE {
+        for shape in Shape::ALL {
+            for _ in 0..BESIDE {
+                let samples = crackled::beside(draw, shape, n);
+                let how = settings(draw, &samples);
+                repair_any(count, draw, &samples, how);
+            }
+        }
+    }
+    count.begin("a click beside the limit");
+    for _ in 0..BESIDE_LIMIT {
+        beside_limit(draw, start, &mut |draw, samples, sensitivity| {
+            repair_any(count, draw, samples, Repair::Decrackle { sensitivity, start });
+        });
+    }
+    repair_large(count, draw, &limits::decrackle(start));
+}
+
+#[test]
+fn decrackles() {
+    let seed = draw::seed();
+    let classes = [COMMON, crackled::CLASSES, crackled::FROM_MEAN];
+    let mut count = Count::new("cathar_decrackle against the model", &classes);
+    decrackle_from(&mut count, &mut Draw::new(seed), Start::Mean, settings::decrackle);
     count.close(seed);
+}
+
+#[test]
+fn decrackles_old_start() {
+    let seed = draw::seed();
+    let classes = [COMMON, crackled::CLASSES];
+    let mut count = Count::new("cathar_decrackle_old_start against model and original", &classes);
+    decrackle_from(&mut count, &mut Draw::new(seed), Start::Old, settings::decrackle_old_start);
+    count.close(seed);
+}
+
+/// What decrackle writes, an undo takes back: samples, marks, which are any, and counts, from either start.
+#[test]
+fn decrackle_is_taken_back() {
+    let mut draw = Draw::new(draw::seed());
+    let (mut taken, mut refused) = ([0; 2], 0);
+    while taken.iter().any(|taken| *taken < TAKEN_BACK) {
+        let samples = crackled::clicked(&mut draw);
+        for (start, taken) in Start::BOTH.into_iter().zip(&mut taken) {
+            let how = Repair::Decrackle { sensitivity: settings::sensitivity(&mut draw), start };
+            let m = names(how, &samples);
+            let mut before = room::recording(&mut draw, samples.clone(), entry_words(m));
+            before.counts = counted(&before.marks);
+            before.journal[before.used..].fill(0);
+            let mut both = Both::new(before.clone());
+            match both.repair(how, vec![u32::MAX; needed(samples.len())]) {
+                (Answer::Accepted(value), wrong) if m > 0 => {
+                    assert_eq!((value, wrong), (m, vec![]), "{how:?}");
+                    let set = both.model.journal[both.model.used - 1];
+                    assert_eq!(set, if start == Start::Mean { 7 } else { 4 }, "the mark that {how:?} sets");
+                    let marked = both.model.marks.iter().zip(&before.marks).filter(|(mark, old)| mark != old);
+                    assert!(marked.into_iter().all(|(mark, _)| u32::from(*mark) == set));
+                    assert_eq!(both.undo(), (Answer::Accepted(m), vec![]), "the undo of {how:?}");
+                    assert!(both.model == before, "the undo of {how:?}");
+                    *taken += 1;
+                }
+                (_, wrong) => {
+                    assert!(wrong.is_empty(), "{how:?}: {wrong:?}");
+                    refused += 1;
+                }
+            }
+        }
+    }
+    println!("taken back: {} from the mean, {} from the old start; {refused} named nothing", taken[0], taken[1]);
 }
 
 #[test]
@@ -234,8 +312,27 @@ fn sums() {
     assert_eq!(samples, [0.0, 1.0, 0.0, 0.0]);
     let mut one = [0.0; 9];
     one[4] = 1.0;
-    let (samples, named) = repaired(&one, Repair::Decrackle { sensitivity: 10.0 }, 3);
-    assert_eq!((samples, named), (vec![0.0; 9], vec![3, 4, 5]));
+    for start in Start::BOTH {
+        let (samples, named) = repaired(&one, Repair::Decrackle { sensitivity: 10.0, start }, 3);
+        assert_eq!((samples, named), (vec![0.0; 9], vec![3, 4, 5]));
+    }
+}
+
+/// Request P7 by hand. Of the 9 samples above the detector is 1 at place 4 and 1/2 beside it, so that the mean is 2/9. At
+/// sensitivity 9 the limit from there is about 2/3: place 4 alone stands out. Of a steady tone of 8 samples the old start
+/// flags places 1, 3 and 5, and the new one, whose mean is 5/8 and which flags from above 7 times as much, none.
+#[test]
+fn sums_from_the_mean() {
+    let mut one = [0.0; 9];
+    one[4] = 1.0;
+    let at_9 = |start| Repair::Decrackle { sensitivity: 9.0, start };
+    let (samples, named) = repaired(&one, at_9(Start::Mean), 1);
+    assert_eq!((samples, named), (vec![0.0; 9], vec![4]));
+    assert_eq!(repaired(&one, at_9(Start::Old), 3).1, [3, 4, 5]);
+    let tone = [0.0, 1.0, 0.0, -1.0, 0.0, 1.0, 0.0, -1.0];
+    let at_5 = |start| Repair::Decrackle { sensitivity: 5.0, start };
+    assert_eq!(repaired(&tone, at_5(Start::Mean), 0), (tone.to_vec(), vec![]));
+    assert_eq!(repaired(&tone, at_5(Start::Old), 3).1, [1, 3, 5]);
 }
 
 /// Both sides repair these samples, with just enough room. The answer is the model's.
@@ -251,7 +348,7 @@ fn where_the_original_goes_on() {
     let mut count: Calls = Count::new("where the original goes on", &[]);
     count.begin("refused by the rules");
     let (samples, how) = ([1.0, 0.0, 0.0, 0.0, 0.0, 0.0], Repair::Declip { threshold: 0.0 });
-    assert!((0..6).all(|n| how.original(&samples[..n]) == samples[..n]) && how.original(&samples) != samples);
+    assert!((0..6).all(|n| how.after(&samples[..n]) == samples[..n]) && how.after(&samples) != samples);
     assert_eq!(answered(&mut count, &samples, how), Answer::Refused(4));
     let forms = |strength| {
         let cosparse = Repair::Cosparse { bits: 4, strength, iterations: 1 };
@@ -259,14 +356,14 @@ fn where_the_original_goes_on() {
     };
     for (n, how) in forms(f32::NAN) {
         let samples = vec![0.0; n];
-        assert!(how.original(&samples)[n / 2].is_nan());
+        assert!(how.after(&samples)[n / 2].is_nan());
         assert_eq!(answered(&mut count, &samples, how), Answer::Refused(4));
     }
     for (n, how) in forms(1.0) {
         let mut samples = vec![0.0; n];
         samples[n / 2] = f32::NAN;
         println!("the original panics at {how:?} of {samples:?}, as this test expects:");
-        assert!(catch_unwind(|| how.original(&samples)).is_err());
+        assert!(catch_unwind(|| how.after(&samples)).is_err());
         assert_eq!(answered(&mut count, &samples, how), Answer::RefusedAt(7, n / 2));
     }
     count.close(1);

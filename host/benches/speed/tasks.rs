@@ -164,7 +164,7 @@ fn scan(samples: &[f32]) -> Times {
 /// One of the four repairs over the whole recording.
 fn whole(samples: &[f32], repair: Repair) -> Times {
     let work = vec![0; whole::needed(samples.len())];
-    both(samples, samples.len(), || repair.original(samples), |lent| lent.lend_words(&work), Call::Whole(repair))
+    both(samples, samples.len(), || repair.after(samples), |lent| lent.lend_words(&work), Call::Whole(repair))
 }
 
 /// The flags in pieces, with room for one piece, and the flags on the whole. Both have to be the same, and some set.

@@ -2,6 +2,7 @@
 use super::{not_right, number, patterns, Part, VALUE_BEFORE};
 use crate::cathar;
 use crate::crackle::{Areas, Call};
+use crate::whole::Start;
 use crate::wrong;
 
 /// The three areas, and the number that is handed back.
@@ -49,7 +50,10 @@ impl Crackle {
     pub(crate) fn call(&mut self, call: Call) -> u32 {
         let (state, flags, value) = (self.state.lend(), self.flags.lend(), &mut self.value.lend()[0]);
         match call {
-            Call::Begin { total, sensitivity } => cathar::crackle_begin(total, sensitivity, state),
+            Call::Begin { total, sensitivity, start: Start::Mean } => cathar::crackle_begin(total, sensitivity, state),
+            Call::Begin { total, sensitivity, start: Start::Old } => {
+                cathar::crackle_begin_old_start(total, sensitivity, state)
+            }
             Call::Piece => cathar::crackle_piece(state, self.piece.lent(), flags, value),
             Call::End => cathar::crackle_end(state, flags, value),
         }

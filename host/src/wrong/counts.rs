@@ -50,11 +50,14 @@ macro_rules! of_recounts {
                 "the counts move as the marks do, and no block is counted",
                 |lent, call| recounting(lent, call, Made::moved_by_marks),
             ),
-            library!(concat!($call, "_counts_made_only"), "only the marks 1 to 5 are counted", |lent, call| {
+            library!(concat!($call, "_counts_made_only"), "only the marks 1 to 5 and 7 are counted", |lent, call| {
                 recounting(lent, call, |made| made.by_marks(is_made))
             }),
             library!(concat!($call, "_counts_without_6"), "mark 6 is not counted", |lent, call| {
                 recounting(lent, call, |made| made.by_marks(|mark| mark != 0 && mark != NOT_RECEIVED))
+            }),
+            library!(concat!($call, "_counts_without_7"), "mark 7 is not counted", |lent, call| {
+                recounting(lent, call, |made| made.by_marks(|mark| mark != 0 && mark != 7))
             }),
             library!(concat!($call, "_counts_nan"), "the samples that are NaN are counted", |lent, call| {
                 recounting(lent, call, Made::by_nan)
@@ -279,6 +282,11 @@ pub(super) const TABLES: &[Table] = &[
     table("whole", "decrackles", of_values!("decrackle")),
     table("whole", "decrackles", of_work!("decrackle")),
     table("whole", "decrackles", of_naming_none!("decrackle")),
+    table("whole", "decrackles_old_start", of_recounts!("decrackle_old")),
+    table("whole", "decrackles_old_start", of_refusals!("decrackle_old")),
+    table("whole", "decrackles_old_start", of_values!("decrackle_old")),
+    table("whole", "decrackles_old_start", of_work!("decrackle_old")),
+    table("whole", "decrackles_old_start", of_naming_none!("decrackle_old")),
     table("whole", "dequantizes", of_recounts!("dequantize")),
     table("whole", "dequantizes", of_refusals!("dequantize")),
     table("whole", "dequantizes", of_values!("dequantize")),

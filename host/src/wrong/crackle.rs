@@ -1,41 +1,6 @@
 //! Stand-ins for the crackle detector: for the library's, for both sides' alike, and for these and the host's flags of
 //! the whole recording. Some alter what the library's own leaves; most are a detector written by hand, by rules of
-//! which one is wrong.
-use super::How::{Detector, Detectors, Throughout};
-use super::{Finds, Standin, Table};
-use crate::cathar;
-use crate::crackle::{Areas, Call, Run, STATE_WORDS};
-use crate::lent::crackle::Crackle;
-use crate::lent::{GUARDS, VALUE_BEFORE};
-use crate::recording::{in_range, Answer, MOST_SAMPLES};
-use std::cell::Cell;
-use std::ops::Range;
-
-/// The tests that are to find them.
-const CUT: &str = "however_it_is_cut";
-const LONGEST: &str = "of_the_most_samples";
-const STOPPED: &str = "stopped_and_refused";
-const ANNOUNCED: &str = "announced";
-const ANY: &str = "on_any_words";
-
-pub(super) const TABLES: &[Table] = &[
-    Table { file: "crackle", test: CUT, finds: Finds::Always, standins: CARRIED },
-    Table { file: "crackle", test: CUT, finds: Finds::Always, standins: FLAGS },
-    Table { file: "crackle", test: CUT, finds: Finds::Always, standins: LATE },
-    Table { file: "crackle", test: CUT, finds: Finds::Always, standins: ROOM },
-    Table { file: "crackle", test: CUT, finds: Finds::Always, standins: ALIKE_CUT },
-    Table { file: "crackle", test: CUT, finds: Finds::Always, standins: THROUGHOUT },
-    Table { file: "crackle", test: CUT, finds: Finds::Never, standins: RIGHT_CUT },
-    Table { file: "crackle", test: LONGEST, finds: Finds::Always, standins: LONG },
-    Table { file: "crackle", test: STOPPED, finds: Finds::Always, standins: ORDER },
-    Table { file: "crackle", test: STOPPED, finds: Finds::Always, standins: STOPS },
-    Table { file: "crackle", test: STOPPED, finds: Finds::Always, standins: LEFT },
-    Table { file: "crackle", test: STOPPED, finds: Finds::Always, standins: ALIKE_STOPPED },
-    Table { file: "crackle", test: ANNOUNCED, finds: Finds::Always, standins: BEGINS },
-    Table { file: "crackle", test: ANNOUNCED, finds: Finds::Always, standins: ALIKE_ANNOUNCED },
-    Table { file: "crackle", test: ANY, finds: Finds::Always, standins: WORDS },
-    Table { file: "crackle", test: ANY, finds: Finds::Never, standins: RIGHT_ANY },
-];
+//! which one is wrong. What is wrong in where the floor starts, and in what is held back for that, stands apart.
 
 /// A stand-in for the library's detector, by these rules: its name, and what is wrong with it.
 macro_rules! hand {
@@ -59,7 +24,7 @@ macro_rules! throughout {
             says: $says,
             how: Throughout(
                 |areas, call| make_by(areas, call, &$rules),
-                |samples, sensitivity| flags_by(samples, sensitivity, &$rules),
+                |samples, sensitivity, start| flags_by(samples, sensitivity, start, &$rules),
             ),
         }
     };
@@ -72,6 +37,50 @@ macro_rules! after {
         Standin { name: $name, says: $says, how: Detector(|lent, call| altered(lent, call, $alters)) }
     };
 }
+
+mod by_hand;
+mod held;
+
+use super::How::{Detector, Detectors, Throughout};
+use super::{Finds, Standin, Table};
+use crate::cathar;
+use crate::crackle::{Areas, Call, Run, RUN_WORDS, STATE_WORDS};
+use crate::lent::crackle::Crackle;
+use crate::lent::{GUARDS, VALUE_BEFORE};
+use crate::recording::{in_range, MOST_SAMPLES};
+use crate::whole::{Start, MEAN_OF};
+use by_hand::{call_by, first, flags_by, floor_after, make_by, more, Rules, RULES};
+use std::cell::Cell;
+use std::ops::Range;
+
+/// The tests that are to find them.
+const CUT: &str = "however_it_is_cut";
+const RELEASED: &str = "beside_1024_samples";
+const LONGEST: &str = "of_the_most_samples";
+const STOPPED: &str = "stopped_and_refused";
+const ANNOUNCED: &str = "announced";
+const ANY: &str = "on_any_words";
+
+pub(super) const HELD_TABLES: &[Table] = held::TABLES;
+
+pub(super) const TABLES: &[Table] = &[
+    Table { file: "crackle", test: CUT, finds: Finds::Always, standins: CARRIED },
+    Table { file: "crackle", test: CUT, finds: Finds::Always, standins: FLAGS },
+    Table { file: "crackle", test: CUT, finds: Finds::Always, standins: LATE },
+    Table { file: "crackle", test: CUT, finds: Finds::Always, standins: ROOM },
+    Table { file: "crackle", test: CUT, finds: Finds::Always, standins: ALIKE_CUT },
+    Table { file: "crackle", test: CUT, finds: Finds::Always, standins: THROUGHOUT },
+    Table { file: "crackle", test: CUT, finds: Finds::Never, standins: RIGHT_CUT },
+    Table { file: "crackle", test: LONGEST, finds: Finds::Always, standins: LONG },
+    Table { file: "crackle", test: STOPPED, finds: Finds::Always, standins: ORDER },
+    Table { file: "crackle", test: STOPPED, finds: Finds::Always, standins: STOPS },
+    Table { file: "crackle", test: STOPPED, finds: Finds::Always, standins: LEFT },
+    Table { file: "crackle", test: STOPPED, finds: Finds::Always, standins: ALIKE_STOPPED },
+    Table { file: "crackle", test: ANNOUNCED, finds: Finds::Always, standins: BEGINS },
+    Table { file: "crackle", test: ANNOUNCED, finds: Finds::Always, standins: ALIKE_ANNOUNCED },
+    Table { file: "crackle", test: ANY, finds: Finds::Always, standins: WORDS },
+    Table { file: "crackle", test: ANY, finds: Finds::Never, standins: RIGHT_ANY },
+];
 
 /// What is carried from piece to piece.
 const CARRIED: &[Standin] = &[
@@ -206,17 +215,21 @@ const FLAGS: &[Standin] = &[
 /// When a flag comes.
 const LATE: &[Standin] = &[
     hand!("crackle_flag_at_once", "the flag of a piece's last sample is given at once, by the value 0", AT_ONCE),
-    hand!("crackle_last_flag_missing", "the end gives no flag", LAST_MISSING),
-    hand!("crackle_two_last_flags", "the end gives two flags", TWO_LAST),
+    hand!("crackle_last_flag_missing", "the end does not give the last flag", LAST_MISSING),
+    hand!("crackle_two_last_flags", "the end gives the last flag twice", TWO_LAST),
     hand!(
         "crackle_end_of_none_gives",
         "the end of no samples gives a flag",
-        Rules { end_needs: |_| 1, end_gives: |_| 1, ..RULES },
+        Rules { end_gives: |run, flags| if run.taken > 0 { flags } else { vec![0] }, ..END_OF_NONE_NEEDS_ROOM },
     ),
     hand!(
         "crackle_end_of_one_gives_none",
         "the end of one sample gives no flag",
-        Rules { end_needs: |run| usize::from(run.taken > 1), end_gives: |run| usize::from(run.taken > 1), ..RULES },
+        Rules {
+            end_needs: |run| if run.taken > 1 { run.brought_by_end() } else { 0 },
+            end_gives: |run, flags| if run.taken > 1 { flags } else { Vec::new() },
+            ..RULES
+        },
     ),
     after!("crackle_empty_gives_again", "an empty piece tells of one flag", |lent, before, call, answer| {
         if (call, answer) == (Call::Piece, 0) && before.piece.is_empty() {
@@ -271,11 +284,7 @@ const ROOM: &[Standin] = &[
         Rules { needs: |run, n| run.brought_by(n).max(1), ..RULES },
     ),
     hand!("crackle_end_needs_no_room", "the end needs no room", Rules { end_needs: |_| 0, ..RULES }),
-    hand!(
-        "crackle_end_of_none_needs_room",
-        "the end of no samples needs room for a flag",
-        Rules { end_needs: |_| 1, ..RULES },
-    ),
+    hand!("crackle_end_of_none_needs_room", "the end of no samples needs room for a flag", END_OF_NONE_NEEDS_ROOM,),
     after!("crackle_byte_behind_written", "the byte behind the flags becomes 0", |lent, _, call, answer| {
         if call == Call::Piece && answer == 0 {
             let given = given(lent, answer);
@@ -308,7 +317,7 @@ const ROOM: &[Standin] = &[
             answer
         }
     ),
-    after!("crackle_ninth_word_written", "the word behind the eighth becomes 0", |lent, _, _, answer| {
+    after!("crackle_word_behind_written", "the word behind the 1,032nd becomes 0", |lent, _, _, answer| {
         if answer == 0 {
             lent.state.whole[GUARDS + STATE_WORDS] = 0;
         }
@@ -335,8 +344,8 @@ const ALIKE_CUT: &[Standin] = &[
     both!("crackle_both_under_8_by_piece", "a piece of under 8 samples has none, and a total may", UNDER_8_BY_PIECE),
     both!("crackle_both_not_held_to_10", "a sensitivity above 10 is not held to 10", NOT_HELD_TO_10),
     both!("crackle_both_flag_at_once", "the flag of a piece's last sample is given at once, by the value 0", AT_ONCE),
-    both!("crackle_both_last_flag_missing", "the end gives no flag", LAST_MISSING),
-    both!("crackle_both_two_last_flags", "the end gives two flags", TWO_LAST),
+    both!("crackle_both_last_flag_missing", "the end does not give the last flag", LAST_MISSING),
+    both!("crackle_both_two_last_flags", "the end gives the last flag twice", TWO_LAST),
     both!("crackle_both_room_for_each", "the first piece needs room for as many flags as samples", ROOM_FOR_EACH),
     Standin {
         name: "crackle_both_behind_cleared",
@@ -524,9 +533,9 @@ const STOPS: &[Standin] = &[
         }
         answer
     }),
-    after!("crackle_stop_clears", "a stop clears the state", |lent, _, _, answer| {
+    after!("crackle_stop_clears", "a stop clears the run", |lent, _, _, answer| {
         if matches!(answer, 13 | 7) {
-            lent.state.lend()[..STATE_WORDS].fill(0);
+            lent.state.lend()[..RUN_WORDS].fill(0);
         }
         answer
     }),
@@ -684,8 +693,8 @@ const BEGINS: &[Standin] = &[
         "the sensitivity is held to 0..10",
         Rules { held: |sensitivity| sensitivity.clamp(0.0, 10.0), ..RULES },
     ),
-    hand!("crackle_state_of_7", "a state of 7 words is enough", Rules { words: 7, ..RULES }),
-    hand!("crackle_state_of_9", "a state has to have 9 words", Rules { words: 9, ..RULES }),
+    hand!("crackle_state_of_1031", "a state of 1,031 words is enough", Rules { words: |_| 1_031, ..RULES }),
+    hand!("crackle_state_of_1033", "a state has to have 1,033 words", Rules { words: |_| 1_033, ..RULES }),
     hand!("crackle_state_after_2", "of an announcement 2 and 4 are tested before the state's length", STATE_AFTER_2),
     after!("crackle_short_state_4", "a state that is too short is refused by 4", |lent, _, _, answer| {
         match answer {
@@ -905,111 +914,10 @@ const RIGHT_ANY: &[Standin] = &[
     hand!("crackle_by_hand", "the detector written by hand, by rules that are right", RULES),
     hand!(
         "crackle_sum_reversed",
-        "the neighbours are summed in the other order, and the detector's value has the other sign",
-        Rules { value: |run, x| 0.5 * (x + run.before) - run.last, ..RULES },
+        "the neighbours are summed in the other order",
+        Rules { value: |run, x| run.last - 0.5 * (x + run.before), ..RULES },
     ),
 ];
-
-/// What is not allowed of a call: the run does not go on, there are too many samples or, at the end, too few, the room
-/// is short, a sample is not in range; and whether the piece is empty.
-struct Not {
-    closed: bool,
-    more: bool,
-    lacks: bool,
-    short: bool,
-    bad: bool,
-    empty: bool,
-}
-
-/// What a detector goes by.
-#[derive(Clone, Copy)]
-struct Rules {
-    /// The fewest words of a state, and whether they are tested before what is announced.
-    words: usize,
-    words_first: bool,
-    /// The most samples; how a total is read; which sensitivities are not allowed, and what the others are held to.
-    most: usize,
-    total: fn(usize) -> usize,
-    no_setting: fn(f32) -> bool,
-    held: fn(f32) -> f32,
-    /// The number of an announcement's refusal, by whether there are too many samples and the setting is not allowed.
-    announced: fn(bool, bool) -> u32,
-    /// Of the third word, whether the run goes on.
-    goes_on: fn(u32) -> bool,
-    /// Whether so many samples more are too many, and whether too few are in at the end.
-    over: fn(&Run, usize) -> bool,
-    lacks: fn(&Run) -> bool,
-    in_range: fn(u32, &Run) -> bool,
-    /// How much room so many samples need, and the end; and how many flags the end gives.
-    needs: fn(&Run, usize) -> usize,
-    end_needs: fn(&Run) -> usize,
-    end_gives: fn(&Run) -> usize,
-    /// The numbers of the refusals, or 0; and the place that 7 tells.
-    refused: fn(&Not) -> u32,
-    end_refused: fn(&Not) -> u32,
-    place: fn(&Run, &[usize]) -> usize,
-    /// Whether a refusal stops the run, or the end ends it; and whether 6 does.
-    closes: fn(Call, u32) -> bool,
-    six_closes: fn(Call) -> bool,
-    /// What becomes of the run before so many samples are taken in.
-    at_piece: fn(&mut Run, usize),
-    /// Whether the next sample is the very first.
-    is_first: fn(&Run) -> bool,
-    /// The detector's value at place 0, elsewhere, at the last sample of a piece where that is another, and at the end.
-    first: fn(&Run, f32) -> f32,
-    value: fn(&Run, f32) -> f32,
-    at_cut: Option<fn(&Run, f32) -> f32>,
-    at_end: fn(&Run) -> f32,
-    magnitude: fn(f32) -> f32,
-    /// The floor once it has taken in a magnitude, and whether it does so at place 0.
-    floor: fn(f32, f32) -> f32,
-    floor_at_0: bool,
-    /// What the factor is multiplied by, by the floor before and after; and whether a magnitude exceeds the product.
-    limit: fn(f32, f32) -> f32,
-    stands_out: fn(f32, f32) -> bool,
-    /// Whether a flag may be set at all, with a piece of so many samples; and whether at the ends.
-    may_flag: fn(&Run, usize) -> bool,
-    ends_flagged: bool,
-    /// Whether the flag of a piece's last sample is given with the piece.
-    at_once: bool,
-}
-
-/// What it is to go by.
-const RULES: Rules = Rules {
-    words: STATE_WORDS,
-    words_first: true,
-    most: MOST_SAMPLES,
-    total: |total| total,
-    no_setting: f32::is_nan,
-    held: |sensitivity| sensitivity.clamp(1.0, 10.0),
-    announced: |over, setting| first(&[(2, over), (4, setting)]),
-    goes_on: |word| word == 1,
-    over: more,
-    lacks: |run| run.taken != run.total,
-    in_range: |word, _| in_range(word),
-    needs: |run, n| run.brought_by(n),
-    end_needs: |run| usize::from(run.taken > 0),
-    end_gives: |run| usize::from(run.taken > 0),
-    refused: |not| first(&[(13, not.closed || not.more), (6, not.short), (7, not.bad)]),
-    end_refused: |not| first(&[(13, not.closed || not.lacks), (6, not.short)]),
-    place: |run, bad| run.taken as usize + bad[0],
-    closes: |_, _| true,
-    six_closes: |_| false,
-    at_piece: |_, _| (),
-    is_first: |run| run.taken == 0,
-    first: |_, _| 0.0,
-    value: |run, x| run.last - 0.5 * (run.before + x),
-    at_cut: None,
-    at_end: |_| 0.0,
-    magnitude: f32::abs,
-    floor: floor_after,
-    floor_at_0: true,
-    limit: |_, floor| floor.max(1e-6),
-    stands_out: |a, limit| a > limit,
-    may_flag: |run, _| run.total >= 8,
-    ends_flagged: true,
-    at_once: false,
-};
 
 const FLOOR_ANEW: Rules = Rules { at_piece: |run, _| run.floor = 1e-6, ..RULES };
 const NOT_CARRIED: Rules = Rules { at_piece: forgotten, ..RULES };
@@ -1023,10 +931,18 @@ const UNDER_8_FLAGGED: Rules = Rules { may_flag: |_, _| true, ..RULES };
 const UNDER_9: Rules = Rules { may_flag: |run, _| run.total >= 9, ..RULES };
 const UNDER_8_BY_PIECE: Rules = Rules { may_flag: |_, n| n >= 8, ..RULES };
 const NOT_HELD_TO_10: Rules = Rules { held: |sensitivity| sensitivity.max(1.0), ..RULES };
-const AT_ONCE: Rules = Rules { at_once: true, needs: |_, n| n, end_needs: |_| 0, end_gives: |_| 0, ..RULES };
-const LAST_MISSING: Rules = Rules { end_gives: |_| 0, ..RULES };
-const TWO_LAST: Rules = Rules { end_gives: |run| 2 * usize::from(run.taken > 0), ..RULES };
-const ROOM_FOR_EACH: Rules = Rules { needs: |_, n| n, ..RULES };
+const AT_ONCE: Rules = Rules {
+    at_once: true,
+    needs: |run, n| if run.start == Start::Old { n } else { run.brought_by(n) },
+    end_needs: |run| if run.start == Start::Old { 0 } else { run.brought_by_end() },
+    end_gives: |run, flags| if run.start == Start::Old { Vec::new() } else { flags },
+    ..RULES
+};
+const LAST_MISSING: Rules =
+    Rules { end_gives: |_, flags| flags.split_last().map_or(&[][..], |(_, all)| all).to_vec(), ..RULES };
+const TWO_LAST: Rules = Rules { end_gives: |_, flags| flags.iter().chain(flags.last()).copied().collect(), ..RULES };
+const END_OF_NONE_NEEDS_ROOM: Rules = Rules { end_needs: |run| run.brought_by_end().max(1), ..RULES };
+const ROOM_FOR_EACH: Rules = Rules { needs: |run, n| run.brought_by(n).max(n), ..RULES };
 const SEVEN_BEFORE_6: Rules =
     Rules { refused: |not| first(&[(13, not.closed || not.more), (7, not.bad), (6, not.short)]), ..RULES };
 const SIX_BEFORE_13: Rules =
@@ -1058,209 +974,6 @@ fn forgotten(run: &mut Run, n: usize) {
     if n > 0 {
         (run.before, run.last) = (0.0, 0.0);
     }
-}
-
-/// Whether so many samples more are too many.
-fn more(run: &Run, n: usize) -> bool {
-    run.taken as usize + n > run.total as usize
-}
-
-/// The floor once it has taken in this magnitude.
-fn floor_after(floor: f32, a: f32) -> f32 {
-    floor * (1.0 - 0.001) + a * 0.001
-}
-
-/// The first of these numbers that applies, or 0.
-fn first(numbers: &[(u32, bool)]) -> u32 {
-    numbers.iter().find(|(_, applies)| *applies).map_or(0, |(number, _)| *number)
-}
-
-/// What came of a call: its answer, the run that is written in the state, if one is, and the flags.
-struct Done {
-    answer: Answer,
-    run: Option<Run>,
-    flags: Vec<u8>,
-}
-
-impl Done {
-    /// Refused by this number, with nothing written.
-    fn refused(number: u32) -> Done {
-        Done { answer: Answer::Refused(number), run: None, flags: Vec::new() }
-    }
-
-    /// Answered so, with the run kept.
-    fn kept(answer: Answer, run: Run) -> Done {
-        Done { answer, run: Some(run), flags: Vec::new() }
-    }
-
-    /// The words and the flags are written, as far as there is room.
-    fn write(&self, state: &mut [u32], flags: &mut [u8]) {
-        let words = self.run.map(Run::words).into_iter().flatten();
-        state.iter_mut().zip(words).for_each(|(word, of)| *word = of);
-        flags.iter_mut().zip(&self.flags).for_each(|(flag, of)| *flag = *of);
-    }
-}
-
-/// The run after a call that was answered by this number.
-fn closed_by(run: Run, call: Call, number: u32, rules: &Rules) -> Run {
-    Run { goes_on: run.goes_on && !(rules.closes)(call, number), ..run }
-}
-
-/// What a refusal of a piece or an end leaves.
-fn refused_by(run: Run, call: Call, answer: Answer, rules: &Rules) -> Done {
-    match answer.number() {
-        6 if (rules.six_closes)(call) => Done::kept(answer, Run { goes_on: false, ..run }),
-        6 => Done::refused(6),
-        number => Done::kept(answer, closed_by(run, call, number, rules)),
-    }
-}
-
-/// The flag of a place at which this is the detector's value.
-fn judge_by(run: &mut Run, value: f32, n: usize, rules: &Rules) -> u8 {
-    let a = (rules.magnitude)(value);
-    let floor = (rules.floor)(run.floor, a);
-    let limit = run.factor * (rules.limit)(run.floor, floor);
-    run.floor = floor;
-    u8::from((rules.may_flag)(run, n) && (rules.stands_out)(a, limit))
-}
-
-/// The flag of place 0, once the second sample is in.
-fn judge_first(run: &mut Run, x: f32, n: usize, rules: &Rules) -> u8 {
-    let (floor, value) = (run.floor, (rules.first)(run, x));
-    let flag = judge_by(run, value, n, rules);
-    if !rules.floor_at_0 {
-        run.floor = floor;
-    }
-    flag * u8::from(rules.ends_flagged)
-}
-
-/// Takes in a sample, the how manieth of a piece of so many, and gives the flag of the one before it.
-fn take_by(run: &mut Run, x: f32, (at, n): (usize, usize), rules: &Rules) -> Option<u8> {
-    let value = rules.at_cut.filter(|_| at == 0).unwrap_or(rules.value);
-    let flag = match run.taken {
-        _ if (rules.is_first)(run) => None,
-        1 => Some(judge_first(run, x, n, rules)),
-        _ => {
-            let value = value(run, x);
-            Some(judge_by(run, value, n, rules))
-        }
-    };
-    (run.before, run.last) = (run.last, x);
-    run.taken += 1;
-    flag
-}
-
-/// An announcement, in the state of which this run stood.
-fn begin_by(total: usize, sensitivity: f32, rules: &Rules) -> Done {
-    let total = (rules.total)(total);
-    match (rules.announced)(total > rules.most, (rules.no_setting)(sensitivity)) {
-        0 => {
-            let factor = 12.0 - (rules.held)(sensitivity);
-            let (taken, floor, before, last) = (0, 1e-6, 0.0, 0.0);
-            let run = Run { total: total as u32, taken, goes_on: true, factor, floor, before, last };
-            Done::kept(Answer::Accepted(0), run)
-        }
-        number => Done::refused(number),
-    }
-}
-
-/// A piece.
-fn piece_by(areas: &Areas, mut run: Run, rules: &Rules) -> Done {
-    let (n, flagged) = (areas.piece.len(), areas.flags.len());
-    let bad: Vec<usize> = (0..n).filter(|place| !(rules.in_range)(areas.piece[*place], &run)).collect();
-    let not = Not {
-        closed: !run.goes_on,
-        more: (rules.over)(&run, n),
-        lacks: false,
-        short: flagged < (rules.needs)(&run, n),
-        bad: !bad.is_empty(),
-        empty: n == 0,
-    };
-    match (rules.refused)(&not) {
-        0 => {}
-        7 => return refused_by(run, Call::Piece, Answer::RefusedAt(7, (rules.place)(&run, &bad)), rules),
-        number => return refused_by(run, Call::Piece, Answer::Refused(number), rules),
-    }
-    (rules.at_piece)(&mut run, n);
-    let mut flags = Vec::new();
-    for (at, word) in areas.piece.iter().enumerate() {
-        let flag = take_by(&mut run, f32::from_bits(*word), (at, n), rules);
-        flags.extend(flag.filter(|_| !rules.at_once || at > 0));
-    }
-    if rules.at_once && n > 0 {
-        let mut ended = run;
-        flags.push(judge_by(&mut ended, 0.0, n, rules));
-    }
-    Done { answer: Answer::Accepted(flags.len()), run: Some(run), flags }
-}
-
-/// The end.
-fn end_by(areas: &Areas, run: Run, rules: &Rules) -> Done {
-    let not = Not {
-        closed: !run.goes_on,
-        more: false,
-        lacks: (rules.lacks)(&run),
-        short: areas.flags.len() < (rules.end_needs)(&run),
-        bad: false,
-        empty: false,
-    };
-    match (rules.end_refused)(&not) {
-        0 => {}
-        number => return refused_by(run, Call::End, Answer::Refused(number), rules),
-    }
-    let mut ended = run;
-    let flag = judge_by(&mut ended, (rules.at_end)(&run), 0, rules) * u8::from(rules.ends_flagged);
-    let flags = vec![flag; (rules.end_gives)(&run)];
-    Done { answer: Answer::Accepted(flags.len()), run: Some(closed_by(run, Call::End, 0, rules)), flags }
-}
-
-/// A call by a detector written by hand. A word of the state that is not there is taken as 1.
-fn done_by(areas: &Areas, call: Call, rules: &Rules) -> Done {
-    let short = areas.state.len() < rules.words;
-    let words: Vec<u32> = areas.state.iter().copied().chain([1; STATE_WORDS]).collect();
-    let run = Run { goes_on: (rules.goes_on)(words[2]), ..Run::read(&words) };
-    match call {
-        Call::Begin { total, sensitivity } if !short || !rules.words_first => {
-            let done = begin_by(total, sensitivity, rules);
-            if short && done.answer.number() == 0 {
-                Done::refused(6)
-            } else {
-                done
-            }
-        }
-        _ if short => Done::refused(6),
-        Call::Piece => piece_by(areas, run, rules),
-        _ => end_by(areas, run, rules),
-    }
-}
-
-/// The call by these rules. Where they allow too much, it writes what stands around the lent areas.
-fn call_by(lent: &mut Crackle, call: Call, rules: &Rules) -> u32 {
-    let done = done_by(&lent.areas(), call, rules);
-    done.write(&mut lent.state.whole[GUARDS..], &mut lent.flags.whole[GUARDS..]);
-    if !matches!(call, Call::Begin { .. }) {
-        lent.set_value(done.answer.value());
-    }
-    done.answer.number()
-}
-
-/// Likewise on these areas.
-fn make_by(areas: &mut Areas, call: Call, rules: &Rules) -> Answer {
-    let done = done_by(areas, call, rules);
-    done.write(&mut areas.state, &mut areas.flags);
-    done.answer
-}
-
-/// The flags of a whole recording that is given in one piece.
-fn flags_by(samples: &[f32], sensitivity: f32, rules: &Rules) -> Vec<bool> {
-    let (n, mut flags) = (samples.len(), Vec::new());
-    let piece = samples.iter().map(|x| x.to_bits()).collect();
-    let mut areas = Areas { state: vec![0; STATE_WORDS], piece, flags: vec![0; n + 1] };
-    for call in [Call::Begin { total: n, sensitivity }, Call::Piece, Call::End] {
-        let given = make_by(&mut areas, call, rules).value();
-        flags.extend(areas.flags[..given].iter().map(|flag| *flag != 0));
-    }
-    flags
 }
 
 /// The library makes the call; then its work is altered, with the areas before it and the answer told.
@@ -1307,7 +1020,7 @@ fn restore_nan(lent: &mut Crackle, before: &Areas, words: Range<usize>) {
 fn good_part(before: &Areas) -> Areas {
     let mut areas = before.clone();
     areas.piece = before.piece.iter().copied().take_while(|word| in_range(*word)).collect();
-    areas.flags = vec![0; areas.piece.len()];
+    areas.flags = vec![0; areas.piece.len() + MEAN_OF];
     let given = areas.make(Call::Piece).value();
     areas.flags.truncate(given);
     areas
@@ -1335,7 +1048,7 @@ fn sample_by_sample(lent: &mut Crackle, call: Call) -> u32 {
     }
     let (mut state, mut flags) = (before.state, Vec::new());
     for sample in before.piece {
-        let (mut room, mut value) = ([0], 0);
+        let (mut room, mut value) = ([0; MEAN_OF], 0);
         cathar::crackle_piece(&mut state, &[sample], &mut room, &mut value);
         flags.extend(room.into_iter().take(value));
     }

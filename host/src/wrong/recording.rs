@@ -4,7 +4,7 @@ use super::{Finds, Standin, Table};
 use crate::call::Call;
 use crate::cathar;
 use crate::lent::{Lent, GUARDS, VALUE_BEFORE};
-use crate::recording::{blocks, entry_words, in_range, not_measured, Recording, BLOCK, MOST_SAMPLES};
+use crate::recording::{blocks, entry_words, in_range, is_made, not_measured, Recording, BLOCK, MOST_SAMPLES};
 
 pub(super) const TABLES: &[Table] = &[
     Table { file: "recording", test: "opens", finds: Finds::Always, standins: OPENINGS },
@@ -441,6 +441,11 @@ const UNDO_REFUSALS: &[Standin] = &[
         how: Library(|lent, _| undo_by(lent, Rules { old_mark: |mark| mark <= 5, ..RULES })),
     },
     Standin {
+        name: "undo_refuses_old_mark_7",
+        says: "an old mark has to be 0 to 6",
+        how: Library(|lent, _| undo_by(lent, Rules { old_mark: |mark| mark <= 6, ..RULES })),
+    },
+    Standin {
         name: "undo_reads_old_mark_as_byte",
         says: "an old mark of any size is read as a byte",
         how: Library(|lent, _| undo_by(lent, Rules { old_mark: |_| true, ..RULES })),
@@ -453,27 +458,57 @@ const UNDO_REFUSALS: &[Standin] = &[
     Standin {
         name: "undo_allows_set_mark_0",
         says: "the set mark may be 0",
-        how: Library(|lent, _| undo_by(lent, Rules { set_mark: |mark| mark <= 5, ..RULES })),
+        how: Library(|lent, _| undo_by(lent, Rules { set_mark: |mark| matches!(mark, 0..=5 | 7), ..RULES })),
     },
     Standin {
         name: "undo_allows_set_mark_6",
         says: "the set mark may be 6",
-        how: Library(|lent, _| undo_by(lent, Rules { set_mark: |mark| (1..=6).contains(&mark), ..RULES })),
+        how: Library(|lent, _| undo_by(lent, Rules { set_mark: |mark| matches!(mark, 1..=7), ..RULES })),
+    },
+    Standin {
+        name: "undo_allows_set_mark_8",
+        says: "the set mark may be 8",
+        how: Library(|lent, _| undo_by(lent, Rules { set_mark: |mark| matches!(mark, 1..=5 | 7..=8), ..RULES })),
+    },
+    Standin {
+        name: "undo_allows_set_mark_from_7",
+        says: "the set mark may be 7 and any above it",
+        how: Library(|lent, _| undo_by(lent, Rules { set_mark: |mark| matches!(mark, 1..=5 | 7..), ..RULES })),
+    },
+    Standin {
+        name: "undo_refuses_set_mark_7",
+        says: "the set mark 7 is malformed",
+        how: Library(|lent, _| undo_by(lent, Rules { set_mark: |mark| matches!(mark, 1..=5), ..RULES })),
+    },
+    Standin {
+        name: "undo_takes_set_mark_6_for_7",
+        says: "the set mark may be 6, and 7 is malformed",
+        how: Library(|lent, _| undo_by(lent, Rules { set_mark: |mark| matches!(mark, 1..=6), ..RULES })),
     },
     Standin {
         name: "undo_refuses_set_mark_5",
         says: "the set mark 5 is malformed",
-        how: Library(|lent, _| undo_by(lent, Rules { set_mark: |mark| (1..5).contains(&mark), ..RULES })),
+        how: Library(|lent, _| undo_by(lent, Rules { set_mark: |mark| matches!(mark, 1..=4 | 7), ..RULES })),
+    },
+    Standin {
+        name: "undo_refuses_set_mark_4",
+        says: "the set mark 4 is malformed",
+        how: Library(|lent, _| undo_by(lent, Rules { set_mark: |mark| matches!(mark, 1..=3 | 5 | 7), ..RULES })),
     },
     Standin {
         name: "undo_refuses_set_mark_1",
         says: "the set mark 1 is malformed",
-        how: Library(|lent, _| undo_by(lent, Rules { set_mark: |mark| (2..=5).contains(&mark), ..RULES })),
+        how: Library(|lent, _| undo_by(lent, Rules { set_mark: |mark| matches!(mark, 2..=5 | 7), ..RULES })),
     },
     Standin {
         name: "undo_reads_set_mark_as_byte",
         says: "a set mark of any size is read as a byte",
-        how: Library(|lent, _| undo_by(lent, Rules { set_mark: |mark| (1..=5).contains(&(mark as u8)), ..RULES })),
+        how: Library(|lent, _| undo_by(lent, Rules { set_mark: |mark| is_made(mark as u8), ..RULES })),
+    },
+    Standin {
+        name: "undo_reads_set_mark_as_digits",
+        says: "of a set mark the last three binary digits are read",
+        how: Library(|lent, _| undo_by(lent, Rules { set_mark: |mark| is_made(mark as u8 & 7), ..RULES })),
     },
     Standin {
         name: "undo_from_journal_end",
@@ -680,7 +715,7 @@ const RULES: Rules = Rules {
     place: |place, n| place < n,
     rise: |one, next| one < next,
     old_mark: |mark| mark <= 255,
-    set_mark: |mark| (1..=5).contains(&mark),
+    set_mark: |mark| matches!(mark, 1..=5 | 7),
 };
 
 /// An undo written by hand, by these rules. Where they allow too much, it reads and writes what stands around the

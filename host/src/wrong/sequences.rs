@@ -161,6 +161,21 @@ const OF_LIBRARY: &[Standin] = &[
         how: Library(undo_refuses_old_mark_6),
     },
     Standin {
+        name: "seq_undo_refuses_set_mark_7",
+        says: "an undo is refused with 11 where the entry's mark is 7",
+        how: Library(undo_refuses_set_mark_7),
+    },
+    Standin {
+        name: "seq_undo_gives_4_for_7",
+        says: "undo gives back 4 for an old mark 7",
+        how: Library(|lent, call| altered(lent, call, undo_gives_4_for_7)),
+    },
+    Standin {
+        name: "seq_made_by_mean_enters_mark_4",
+        says: "an entry has 4 for an old mark 7",
+        how: Library(|lent, call| altered(lent, call, made_by_mean_enters_mark_4)),
+    },
+    Standin {
         name: "seq_whole_refuses_mark_6",
         says: "a repair over the whole recording gives 7 for a sample that is marked 6 and in range",
         how: Library(whole_refuses_mark_6),
@@ -270,6 +285,26 @@ const OF_BOTH_AT_ONCE: &[Standin] = &[
         how: Alike(scan_enters_runs_reversed),
     },
     Standin { name: "seq_both_repair_sets_6", says: "a repair sets mark 6", how: Alike(repair_sets_6) },
+    Standin {
+        name: "seq_both_decrackle_sets_4",
+        says: "decrackle sets mark 4, from the new start too",
+        how: Alike(|_, before, after| sets_for(before, after, [4, 7])),
+    },
+    Standin {
+        name: "seq_both_old_start_sets_7",
+        says: "decrackle sets mark 7, from the old start too",
+        how: Alike(|_, before, after| sets_for(before, after, [7, 4])),
+    },
+    Standin {
+        name: "seq_both_decrackle_marks_4",
+        says: "decrackle from the new start marks its samples 4, and enters 7",
+        how: Alike(|_, before, after| marks_for(before, after, [4, 7])),
+    },
+    Standin {
+        name: "seq_both_decrackle_enters_4",
+        says: "decrackle from the new start marks its samples 7, and enters 4",
+        how: Alike(|_, before, after| enters_for(before, after, [4, 7])),
+    },
     Standin {
         name: "seq_both_missing_keeps_6",
         says: "a repair leaves mark 6 on a sample that it names",
@@ -453,6 +488,16 @@ const OF_ACCOUNT: &[Standin] = &[
     Standin {
         name: "seq_account_strength_halved",
         says: "in the account the strength of dequantize is half of what it was",
+        how: Account,
+    },
+    Standin {
+        name: "seq_account_start_old",
+        says: "in the account decrackle from the mean is that from the old start",
+        how: Account,
+    },
+    Standin {
+        name: "seq_account_start_new",
+        says: "in the account decrackle from the old start is that from the mean",
         how: Account,
     },
     Standin { name: "seq_account_raw_marks_0", says: "in the account all raw marks are 0", how: Account },
@@ -810,6 +855,28 @@ fn repair_sets_6(_: Call, before: &Recording, after: &mut Recording) {
     }
 }
 
+/// Where an entry that a call has made sets the one mark, its samples are marked with the other.
+fn marks_for(before: &Recording, after: &mut Recording, [given, set]: [u8; 2]) {
+    for at in named(before, after) {
+        let mark = &mut after.marks[after.journal[at] as usize];
+        *mark = if *mark == set { given } else { *mark };
+    }
+}
+
+/// Where an entry that a call has made sets the one mark, it has the other.
+fn enters_for(before: &Recording, after: &mut Recording, [given, set]: [u8; 2]) {
+    for (start, m) in entries(after, before.used) {
+        let mark = &mut after.journal[start + entry_words(m) - 1];
+        *mark = if *mark == set.into() { given.into() } else { *mark };
+    }
+}
+
+/// Both.
+fn sets_for(before: &Recording, after: &mut Recording, marks: [u8; 2]) {
+    marks_for(before, after, marks);
+    enters_for(before, after, marks);
+}
+
 /// Where the journal has those of the named samples that were not received.
 fn named_missing(before: &Recording, after: &Recording) -> Vec<usize> {
     let missing = |at: &usize| before.marks[after.journal[*at] as usize] == NOT_RECEIVED;
@@ -863,6 +930,17 @@ fn undo_gives_6_for_0(call: Call, before: &Recording, after: &mut Recording) {
     undo_gives(call, before, after, [NOT_RECEIVED, 0]);
 }
 
+fn undo_gives_4_for_7(call: Call, before: &Recording, after: &mut Recording) {
+    undo_gives(call, before, after, [4, 7]);
+}
+
+fn made_by_mean_enters_mark_4(_: Call, before: &Recording, after: &mut Recording) {
+    for at in named(before, after) {
+        let old = &mut after.journal[at + 2];
+        *old = if *old == 7 { 4 } else { *old };
+    }
+}
+
 fn undo_gives_missing_word(call: Call, before: &Recording, after: &mut Recording) {
     for place in taken_back(call, before, after) {
         if after.marks[place] == NOT_RECEIVED {
@@ -871,16 +949,27 @@ fn undo_gives_missing_word(call: Call, before: &Recording, after: &mut Recording
     }
 }
 
-fn undo_refuses_old_mark_6(lent: &mut Lent, call: Call) -> u32 {
+/// The library makes the call, and an accepted undo that is so is refused by 11. The recordings before and after it are
+/// told.
+fn undo_refuses(lent: &mut Lent, call: Call, so: fn(&Recording, &Recording) -> bool) -> u32 {
     let before = lent.recording();
     let number = lent.call(call);
-    let after = lent.recording();
-    if taken_back(call, &before, &after).into_iter().any(|place| after.marks[place] == NOT_RECEIVED) {
+    if call == Call::Undo && number == 0 && so(&before, &lent.recording()) {
         lent.put(&before);
         lent.numbers[0].lend()[0] = 0;
         return 11;
     }
     number
+}
+
+fn undo_refuses_old_mark_6(lent: &mut Lent, call: Call) -> u32 {
+    undo_refuses(lent, call, |before, after| {
+        taken_back(Call::Undo, before, after).into_iter().any(|place| after.marks[place] == NOT_RECEIVED)
+    })
+}
+
+fn undo_refuses_set_mark_7(lent: &mut Lent, call: Call) -> u32 {
+    undo_refuses(lent, call, |before, _| before.journal[before.used - 1] == 7)
 }
 
 fn whole_refuses_mark_6(lent: &mut Lent, call: Call) -> u32 {

@@ -1,11 +1,12 @@
 //! An account of a run, kept from what was given to it and not from its state: what each call has to answer by the
 //! request's words, and what it has to leave.
 use cathar_host::both::Wrong;
-use cathar_host::crackle::{Areas, Call, STATE_WORDS};
+use cathar_host::crackle::{Areas, Call, Run, RUN_WORDS, STATE_WORDS};
 use cathar_host::lent::crackle::Crackle;
 use cathar_host::recording::{in_range, Answer, MOST_SAMPLES};
-use cathar_host::whole::floats;
+use cathar_host::whole::{floats, Start, MEAN_OF};
 use cathar_host::wrong::flags;
+use std::ops::Range;
 
 /// How a run stands.
 #[derive(Clone, Copy, Debug, PartialEq, Eq)]
@@ -27,6 +28,7 @@ pub struct Account {
     pub standing: Standing,
     total: usize,
     sensitivity: f32,
+    start: Start,
     /// The samples that were taken in, and the flags that were given for them.
     pub samples: Vec<u32>,
     pub flags: Vec<u8>,
@@ -35,19 +37,27 @@ pub struct Account {
 impl Account {
     /// No run was announced, or the words are wild.
     pub fn new(standing: Standing) -> Account {
-        Account { standing, total: 0, sensitivity: 1.0, samples: Vec::new(), flags: Vec::new() }
+        let (samples, flags) = (Vec::new(), Vec::new());
+        Account { standing, total: 0, sensitivity: 1.0, start: Start::Old, samples, flags }
     }
 
-    /// How many flags have to be given once so many samples are in: "flags come one sample late".
-    fn due(samples: usize) -> usize {
-        samples.saturating_sub(1)
+    /// How many flags have to be given once so many samples are in: "flags come one sample late", since at the last one
+    /// the detector's value is not known yet; and the new start "holds back flags until 1,024 detector values [..] are in".
+    fn due(&self, samples: usize) -> usize {
+        let values = samples.saturating_sub(1);
+        if self.start == Start::Mean && values < MEAN_OF {
+            0
+        } else {
+            values
+        }
     }
 
-    /// How many flags a call has to give that is not refused: those of the samples but the last, or the last.
+    /// How many flags a call has to give that is not refused: those that are due and were not given, or at the end all that
+    /// were not given.
     pub fn gives(&self, call: Call, piece: usize) -> usize {
         match call {
             Call::Begin { .. } => 0,
-            Call::Piece => Account::due(self.samples.len() + piece).saturating_sub(self.flags.len()),
+            Call::Piece => self.due(self.samples.len() + piece).saturating_sub(self.flags.len()),
             Call::End => self.samples.len().saturating_sub(self.flags.len()),
         }
     }
@@ -82,8 +92,8 @@ impl Account {
     /// Takes down a call that was answered so, with the piece that it had and the flags that it gave.
     pub fn take(&mut self, call: Call, answer: Answer, piece: &[u32], given: &[u8]) {
         match (call, answer) {
-            (Call::Begin { total, sensitivity }, Answer::Accepted(_)) => {
-                *self = Account { total, sensitivity, ..Account::new(Standing::Open) };
+            (Call::Begin { total, sensitivity, start }, Answer::Accepted(_)) => {
+                *self = Account { total, sensitivity, start, ..Account::new(Standing::Open) };
             }
             (_, Answer::Accepted(_)) => {
                 self.flags.extend(given);
@@ -101,13 +111,29 @@ impl Account {
         }
     }
 
-    /// Whether the flags that were given are those of document 01 on the whole, whatever comes behind the samples that
-    /// are in: "flags already given stand".
+    /// Whether the flags that were given are those on the whole, whatever comes behind the samples that are in: "flags
+    /// already given stand".
     pub fn flags_stand(&self) -> bool {
         let mut whole = floats(&self.samples);
         whole.resize(self.total.min(self.samples.len().max(8)), 0.0);
-        let flags = flags(&whole, self.sensitivity);
+        let flags = flags(&whole, self.sensitivity, self.start);
         flags.len() >= self.flags.len() && self.flags.iter().zip(flags).all(|(given, flag)| *given == flag.into())
+    }
+}
+
+/// The values that a call may write, by their places: from the mean, and as far as their flags are held back, that of the
+/// last sample that is in and those of the samples of the piece but the last; at the end that of the last. No other call
+/// writes any, and no refusal.
+fn values(before: &Areas, call: Call, answer: Answer) -> Range<usize> {
+    let run = match before.state.get(..RUN_WORDS) {
+        Some(words) if answer.number() == 0 => Run::read(words),
+        _ => return 0..0,
+    };
+    let (known, samples) = ((run.taken as usize).saturating_sub(1), run.taken as usize + before.piece.len());
+    match call {
+        Call::Piece if run.start == Start::Mean => known.min(MEAN_OF)..samples.saturating_sub(1).min(MEAN_OF),
+        Call::End if run.start == Start::Mean => known.min(MEAN_OF)..samples.min(MEAN_OF),
+        _ => 0..0,
     }
 }
 
@@ -115,6 +141,9 @@ impl Account {
 pub fn broken(lent: &Crackle, before: &Areas, call: Call, answer: Answer) -> Wrong {
     let (state, flags) = (lent.state(), lent.flags());
     let behind = |words: usize| state.get(words..) == before.state.get(words..);
+    let Range { start, end } = values(before, call, answer);
+    let held = |places: Range<usize>| RUN_WORDS + places.start..RUN_WORDS + places.end.max(places.start);
+    let stand = |places: Range<usize>| state.get(held(places.clone())) == before.state.get(held(places));
     let given = match answer {
         Answer::Accepted(given) if !matches!(call, Call::Begin { .. }) => given,
         _ => 0,
@@ -123,7 +152,9 @@ pub fn broken(lent: &Crackle, before: &Areas, call: Call, answer: Answer) -> Wro
     let over = |words: &[u32]| words.get(2) != Some(&1);
     let closes = call == Call::End && answer.number() == 0 || matches!(answer.number(), 13 | 7);
     let holds = [
-        ("words behind the eighth", behind(STATE_WORDS)),
+        ("words behind the state", behind(STATE_WORDS)),
+        ("values of earlier places", stand(0..start)),
+        ("values of later places", stand(end.max(start)..MEAN_OF)),
         ("words that a refusal leaves", !stays || behind(0)),
         ("a run that is over", !closes || over(state)),
         ("flags that are 0 or 1", flags.iter().take(given).all(|flag| *flag <= 1)),

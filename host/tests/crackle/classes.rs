@@ -1,9 +1,10 @@
 //! What the calls have to be.
 use super::account::Standing;
 use cathar_host::count::{Class, Count};
-use cathar_host::crackle::{Areas, Call, Run, STATE_WORDS};
+use cathar_host::crackle::{Areas, Call, Run, RUN_WORDS, STATE_WORDS};
 use cathar_host::float::F32;
 use cathar_host::recording::{in_range, Answer, MOST_SAMPLES};
+use cathar_host::whole::{Start, MEAN_OF};
 use std::fmt;
 
 /// The loudest sample that is in range.
@@ -15,8 +16,10 @@ const SHOWN: usize = 12;
 /// A call, what it was made on, and what the model answers.
 pub struct Made {
     call: Call,
+    /// The first words of the state, those of its run, and how many it has.
     state: Vec<u32>,
-    /// The run of the state, where that has words enough.
+    words: usize,
+    /// The run, where the state has words enough.
     run: Option<Run>,
     piece: Vec<u32>,
     /// The places of the piece whose samples are not in range.
@@ -35,9 +38,9 @@ pub type Calls = Count<Made>;
 impl fmt::Debug for Made {
     /// The first samples stand for all.
     fn fmt(&self, to: &mut fmt::Formatter) -> fmt::Result {
-        let Made { call, state, piece, room, answer, standing, .. } = self;
+        let Made { call, state, words, piece, room, answer, standing, .. } = self;
         let first = &piece[..piece.len().min(SHOWN)];
-        write!(to, "{call:?} {standing:?}, state {state:x?}, piece of {} {first:x?}, ", piece.len())?;
+        write!(to, "{call:?} {standing:?}, state of {words} {state:x?}, piece of {} {first:x?}, ", piece.len())?;
         write!(to, "room {room}: {answer:?}")
     }
 }
@@ -59,7 +62,8 @@ impl Made {
         };
         Made {
             call,
-            state: before.state.clone(),
+            state: before.state.iter().copied().take(RUN_WORDS).collect(),
+            words: before.state.len(),
             run: (before.state.len() >= STATE_WORDS).then(|| Run::read(&before.state)),
             bad: (0..piece.len()).filter(|place| !in_range(piece[*place])).collect(),
             piece,
@@ -85,7 +89,12 @@ impl Made {
 
     /// Of an announcement, the total and the sensitivity.
     fn announces(&self, so: impl Fn(usize, f32) -> bool) -> bool {
-        matches!(self.call, Call::Begin { total, sensitivity } if so(total, sensitivity))
+        matches!(self.call, Call::Begin { total, sensitivity, .. } if so(total, sensitivity))
+    }
+
+    /// Whether it is an announcement of this start, which was answered so.
+    fn announces_start(&self, of: Start, number: u32) -> bool {
+        self.begin(number) && matches!(self.call, Call::Begin { start, .. } if start == of)
     }
 
     fn n(&self) -> usize {
@@ -94,7 +103,7 @@ impl Made {
 
     /// The run of the state; where there is none, one of nothing.
     fn run(&self) -> Run {
-        self.run.unwrap_or_else(|| Run::read(&[0; STATE_WORDS]))
+        self.run.unwrap_or_else(|| Run::read(&[0; RUN_WORDS]))
     }
 
     fn taken(&self) -> usize {
@@ -108,9 +117,29 @@ impl Made {
     /// How many flags the call gives where it is accepted, whatever the room.
     fn needs(&self) -> usize {
         match self.call {
-            Call::End => self.taken().min(1),
+            Call::End => self.run().brought_by_end(),
             _ => self.run().brought_by(self.n()),
         }
+    }
+
+    /// Whether the run starts from the mean.
+    fn is_mean(&self) -> bool {
+        self.has_words() && self.run().start == Start::Mean
+    }
+
+    /// Whether it is a piece, with samples, whose flags are held back.
+    fn is_held(&self) -> bool {
+        self.call == Call::Piece && self.is_mean() && self.n() > 0 && self.taken() + self.n() <= MEAN_OF
+    }
+
+    /// Whether it is a piece with which the flags that were held back come.
+    fn is_release(&self) -> bool {
+        self.call == Call::Piece && self.is_mean() && self.taken() <= MEAN_OF && self.taken() + self.n() > MEAN_OF
+    }
+
+    /// Whether it is an end at which flags that were held back come.
+    fn is_late(&self) -> bool {
+        self.call == Call::End && self.is_mean() && self.run().holds_back()
     }
 
     /// By how much the samples pass the total, where the run goes on.
@@ -208,12 +237,68 @@ pub const CUT: &[Class<Made>] = &[
     Class { name: "no room, none needed", least: 10_000, holds: |m| m.piece(0) && m.needs() == 0 && m.room == 0 },
     Class { name: "room one short: 6", least: 20_000, holds: |m| m.piece(6) && m.room + 1 == m.needs() },
     Class { name: "the same again with room", least: 20_000, holds: |m| m.piece(0) && m.last == Some(6) },
-    Class { name: "no room at the end: 6", least: 5_000, holds: |m| m.end(6) && m.room == 0 },
+    Class { name: "no room at the end: 6", least: 3_000, holds: |m| m.end(6) && m.room == 0 },
     Class { name: "the end again with room", least: 5_000, holds: |m| m.end(0) && m.last == Some(6) },
     Class { name: "the end of no samples", least: 500, holds: |m| m.end(0) && m.total() == 0 && m.given.is_empty() },
     Class { name: "the end of no samples, no room", least: 100, holds: |m| m.end(0) && m.total() == 0 && m.room == 0 },
-    Class { name: "a state of more than 8 words", least: 50_000, holds: |m| m.piece(0) && m.state.len() > STATE_WORDS },
+    Class { name: "a state of more than 1,032 words", least: 50_000, holds: |m| m.piece(0) && m.words > STATE_WORDS },
     Class { name: "giving a flag that is set", least: 50_000, holds: Made::flags },
+    Class { name: "from the mean, flags held back", least: 500_000, holds: |m| m.piece(0) && m.is_held() },
+    Class { name: "held back, and no room", least: 20_000, holds: |m| m.piece(0) && m.is_held() && m.room == 0 },
+    Class { name: "held back, an empty piece", least: 50_000, holds: |m| m.gives(0, m.taken()) && m.is_mean() },
+    Class { name: "given with a piece", least: 2_000, holds: |m| m.piece(0) && m.is_release() },
+    Class { name: "given with a piece, one set", least: 500, holds: |m| m.piece(0) && m.is_release() && m.flags() },
+    Class { name: "given with a piece of 1", least: 200, holds: |m| m.piece(0) && m.is_release() && m.n() == 1 },
+    Class {
+        name: "given with the first piece, all in one",
+        least: 100,
+        holds: |m| m.piece(0) && m.is_release() && m.taken() == 0 && m.n() == m.total(),
+    },
+    Class { name: "room one short there: 6", least: 500, holds: |m| m.piece(6) && m.is_release() },
+    Class {
+        name: "the same again with room there",
+        least: 500,
+        holds: |m| m.piece(0) && m.is_release() && m.last == Some(6),
+    },
+    Class {
+        name: "after them, one sample late",
+        least: 2_000,
+        holds: |m| m.piece(0) && m.is_mean() && m.taken() > MEAN_OF,
+    },
+    Class { name: "given at the end", least: 100_000, holds: |m| m.end(0) && m.is_late() && m.given.len() > 1 },
+    Class { name: "given at the end, one set", least: 10_000, holds: |m| m.end(0) && m.is_late() && m.flags() },
+    Class { name: "1,024 at the end", least: 20, holds: |m| m.end(0) && m.is_late() && m.given.len() == MEAN_OF },
+    Class {
+        name: "the end's room one short: 6",
+        least: 5_000,
+        holds: |m| m.end(6) && m.is_late() && m.room + 1 == m.needs() && m.room > 0,
+    },
+    Class { name: "one at the end, from the mean", least: 2_000, holds: |m| m.end(0) && m.is_mean() && !m.is_late() },
+    Class { name: "from the old start", least: 500_000, holds: |m| m.piece(0) && m.n() > 0 && !m.is_mean() },
+];
+
+/// What the calls on recordings of about as many samples as the mean is of have to be.
+pub const BESIDE: &[Class<Made>] = &[
+    Class { name: "pieces", least: 16_000, holds: |m| m.piece(0) },
+    Class { name: "flags held back", least: 4_000, holds: |m| m.piece(0) && m.is_held() },
+    Class { name: "given with a piece", least: 2_000, holds: |m| m.piece(0) && m.is_release() },
+    Class { name: "one of them set", least: 500, holds: |m| m.piece(0) && m.is_release() && m.flags() },
+    Class { name: "given with the sample behind 1,024", least: 10, holds: |m| m.gives(1, MEAN_OF) && m.is_release() },
+    Class { name: "room one short there: 6", least: 500, holds: |m| m.piece(6) && m.is_release() },
+    Class {
+        name: "the same again with room",
+        least: 500,
+        holds: |m| m.piece(0) && m.is_release() && m.last == Some(6),
+    },
+    Class { name: "1,023 at the end", least: 500, holds: |m| m.end(0) && m.is_late() && m.given.len() == MEAN_OF - 1 },
+    Class { name: "1,024 at the end", least: 500, holds: |m| m.end(0) && m.is_late() && m.given.len() == MEAN_OF },
+    Class { name: "one at the end", least: 1_000, holds: |m| m.end(0) && m.is_mean() && m.given.len() == 1 },
+    Class {
+        name: "the end's room one short: 6",
+        least: 50,
+        holds: |m| m.end(6) && m.is_late() && m.room + 1 == m.needs(),
+    },
+    Class { name: "the end again with room", least: 50, holds: |m| m.end(0) && m.is_late() && m.last == Some(6) },
 ];
 
 /// What the calls that stop runs and follow on stops have to be.
@@ -329,6 +414,30 @@ pub const STOPPED: &[Class<Made>] = &[
     },
     Class { name: "announced anew after the end", least: 500, holds: |m| m.standing == Standing::Ended && m.begin(0) },
     Class { name: "accepted, after all of that", least: 5_000, holds: |m| m.piece(0) && m.n() > 0 },
+    Class { name: "held back: 13 and 6", least: 500, holds: |m| m.piece(13) && m.is_release() && m.lacks_room() },
+    Class { name: "flags would come: 13", least: 500, holds: |m| m.piece(13) && m.is_release() && m.run().goes_on },
+    Class { name: "flags would come: 6", least: 500, holds: |m| m.piece(6) && m.is_release() && !m.is_bad() },
+    Class { name: "flags would come: 6, and 7 too", least: 500, holds: |m| m.piece(6) && m.is_release() && m.is_bad() },
+    Class { name: "flags would come: 7", least: 500, holds: |m| m.piece(7) && m.is_release() },
+    Class {
+        name: "flags would come: 7 before they do",
+        least: 100,
+        holds: |m| m.piece(7) && m.is_release() && m.answer.value() < MEAN_OF,
+    },
+    Class {
+        name: "flags would come: 7 behind that",
+        least: 100,
+        holds: |m| m.piece(7) && m.is_release() && m.answer.value() > MEAN_OF,
+    },
+    Class { name: "held back: 7", least: 500, holds: |m| m.piece(7) && m.is_held() },
+    Class { name: "held back: an end, 13", least: 500, holds: |m| m.end(13) && m.is_late() && m.taken() > 0 },
+    Class { name: "held back: an end, 6", least: 100, holds: |m| m.end(6) && m.is_late() },
+    Class { name: "flags come after 6", least: 100, holds: |m| m.piece(0) && m.is_release() && m.last == Some(6) },
+    Class {
+        name: "announced anew, flags held back before",
+        least: 200,
+        holds: |m| m.begin(0) && m.is_mean() && m.run().holds_back() && m.taken() > 0,
+    },
 ];
 
 /// Whether the sensitivity is so, and the announcement is accepted.
@@ -379,14 +488,28 @@ pub const ANNOUNCED: &[Class<Made>] = &[
     Class { name: "sensitivity +infinity", least: 50, holds: |m| held(m, |s| s == f32::INFINITY) },
     Class { name: "sensitivity -infinity", least: 50, holds: |m| held(m, |s| s == f32::NEG_INFINITY) },
     Class { name: "sensitivity between", least: 5_000, holds: |m| held(m, |s| s > 1.0 && s < 10.0) },
-    Class { name: "a state of no words: 6", least: 50, holds: |m| m.begin(6) && m.state.is_empty() },
-    Class { name: "a state of 7 words: 6", least: 50, holds: |m| m.begin(6) && m.state.len() == 7 },
-    Class { name: "a state of 8 words", least: 50, holds: |m| m.begin(0) && m.state.len() == 8 },
-    Class { name: "a state of 9 words", least: 50, holds: |m| m.begin(0) && m.state.len() == 9 },
-    Class { name: "a piece, 7 words: 6", least: 50, holds: |m| m.piece(6) && m.state.len() == 7 },
-    Class { name: "a piece, fewer words: 6", least: 50, holds: |m| m.piece(6) && m.state.len() < 7 },
-    Class { name: "an end, 7 words: 6", least: 50, holds: |m| m.end(6) && m.state.len() == 7 },
-    Class { name: "an end, fewer words: 6", least: 50, holds: |m| m.end(6) && m.state.len() < 7 },
+    Class { name: "the new start", least: 5_000, holds: |m| m.announces_start(Start::Mean, 0) },
+    Class { name: "the old start", least: 5_000, holds: |m| m.announces_start(Start::Old, 0) },
+    Class { name: "a state of no words: 6", least: 50, holds: |m| m.begin(6) && m.words == 0 },
+    Class {
+        name: "a state of 8 words, the old start: 6",
+        least: 50,
+        holds: |m| m.words == 8 && m.announces_start(Start::Old, 6),
+    },
+    Class { name: "a state of 1,031 words: 6", least: 50, holds: |m| m.begin(6) && m.words == 1_031 },
+    Class {
+        name: "1,031 words, the old start: 6",
+        least: 50,
+        holds: |m| m.words == 1_031 && m.announces_start(Start::Old, 6),
+    },
+    Class { name: "a state of 1,032 words", least: 50, holds: |m| m.begin(0) && m.words == 1_032 },
+    Class { name: "a state of 1,033 words", least: 50, holds: |m| m.begin(0) && m.words == 1_033 },
+    Class { name: "a piece, 1,031 words: 6", least: 50, holds: |m| m.piece(6) && m.words == 1_031 },
+    Class { name: "a piece, 8 words: 6", least: 50, holds: |m| m.piece(6) && m.words == 8 },
+    Class { name: "a piece, fewer words: 6", least: 50, holds: |m| m.piece(6) && m.words < 8 },
+    Class { name: "an end, 1,031 words: 6", least: 50, holds: |m| m.end(6) && m.words == 1_031 },
+    Class { name: "an end, 8 words: 6", least: 50, holds: |m| m.end(6) && m.words == 8 },
+    Class { name: "an end, fewer words: 6", least: 50, holds: |m| m.end(6) && m.words < 8 },
     Class {
         name: "too few words, and a sample not in range: 6",
         least: 20,
@@ -479,10 +602,29 @@ pub const WILD: &[Class<Made>] = &[
         least: 200,
         holds: |m| m.piece(0) && m.n() > 0 && m.run().factor < 0.0 && m.total() < 8,
     },
-    Class { name: "the eighth word not 0, accepted", least: 5_000, holds: |m| m.piece(0) && m.state[7] != 0 },
-    Class { name: "the eighth word not 0, 6", least: 500, holds: |m| m.piece(6) && m.state[7] != 0 },
-    Class { name: "the eighth word not 0, 7", least: 500, holds: |m| m.piece(7) && m.state[7] != 0 },
-    Class { name: "the eighth word not 0, an end", least: 500, holds: |m| m.end(0) && m.state[7] != 0 },
+    Class { name: "the eighth word neither 0 nor 1, accepted", least: 5_000, holds: |m| m.piece(0) && m.state[7] > 1 },
+    Class { name: "neither, 6", least: 500, holds: |m| m.piece(6) && m.state[7] > 1 },
+    Class { name: "neither, 7", least: 500, holds: |m| m.piece(7) && m.state[7] > 1 },
+    Class { name: "neither, 13", least: 500, holds: |m| m.piece(13) && m.state[7] > 1 },
+    Class { name: "neither, an end", least: 500, holds: |m| m.end(0) && m.state[7] > 1 },
+    Class { name: "flags held back", least: 5_000, holds: |m| m.piece(0) && m.is_held() },
+    Class { name: "given with a piece", least: 2_000, holds: |m| m.piece(0) && m.is_release() },
+    Class { name: "given with a piece, one set", least: 500, holds: |m| m.piece(0) && m.is_release() && m.flags() },
+    Class { name: "given at the end", least: 1_000, holds: |m| m.end(0) && m.is_late() && m.given.len() > 1 },
+    Class { name: "given at the end, one set", least: 500, holds: |m| m.end(0) && m.is_late() && m.flags() },
+    Class { name: "would be given: 6", least: 200, holds: |m| m.piece(6) && m.is_release() },
+    Class { name: "would be given: 7", least: 200, holds: |m| m.piece(7) && m.is_release() },
+    Class { name: "would be given: 13", least: 500, holds: |m| m.piece(13) && m.is_release() },
+    Class {
+        name: "from the mean, more than 1,024 in",
+        least: 5_000,
+        holds: |m| m.piece(0) && m.is_mean() && m.n() > 0 && m.taken() > MEAN_OF,
+    },
+    Class {
+        name: "a value that is a NaN, held back",
+        least: 500,
+        holds: |m| m.piece(0) && m.is_held() && m.run().last.is_nan(),
+    },
     Class {
         name: "none in, and words that no announcement leaves",
         least: 500,

@@ -3,6 +3,7 @@ use cathar_host::damage;
 use cathar_host::draw::Draw;
 use cathar_host::settings;
 use cathar_host::shapes::{bent, Shape};
+use cathar_host::whole::{Start, MEAN_OF};
 
 /// Of so few samples every cut is tried.
 pub const EVERY: usize = 10;
@@ -20,11 +21,17 @@ pub fn sensitivity(draw: &mut Draw) -> f32 {
     }
 }
 
-/// How many samples: mostly few, and often about 8; at times some thousand.
+/// Either start.
+pub fn start(draw: &mut Draw) -> Start {
+    Start::BOTH[draw.below(2) as usize]
+}
+
+/// How many samples: mostly few, and often about 8; at times some hundred or thousand, or about as many as the mean is of.
 pub fn length(draw: &mut Draw) -> usize {
     let (from, to) = match draw.below(64) {
         0 => (1_000, 4_001),
-        1..=3 => (100, 1_000),
+        1 => (MEAN_OF as u64 - 8, MEAN_OF as u64 + 12),
+        2..=3 => (100, 1_000),
         4..=23 => (8, 100),
         24..=43 => (6, 11),
         _ => (0, 24),
@@ -64,6 +71,17 @@ pub fn each_of(n: usize, length: usize) -> Vec<usize> {
         lengths.push(n % length);
     }
     lengths
+}
+
+/// Hands on every cut of n samples in two, and every one in three of which both cuts are among the last places, from this
+/// one on.
+pub fn each_in_two(n: usize, last: usize, put: &mut dyn FnMut(Vec<usize>)) {
+    for first in 0..=n {
+        put(vec![first, n - first]);
+    }
+    for (first, second) in (last..=n).flat_map(|first| (first..=n).map(move |second| (first, second))) {
+        put(vec![first, second - first, n - second]);
+    }
 }
 
 /// Any cut of n samples: all in one piece, in two, in pieces of 1, of one length, or of any; half of the time with

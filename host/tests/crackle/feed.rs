@@ -2,13 +2,21 @@
 use super::classes::Calls;
 use super::joined::{Joined, Recordings};
 use super::run::{silent, Run};
+use cathar_host::crackle::STATE_WORDS;
 use cathar_host::draw::Draw;
+use cathar_host::whole::Start;
+
+/// A recording that is to be given: its samples, the sensitivity, the start, and how long its pieces are.
+pub struct Given {
+    pub samples: Vec<u32>,
+    pub sensitivity: f32,
+    pub start: Start,
+    pub lengths: Vec<usize>,
+}
 
 pub struct Feed {
     run: Run,
-    samples: Vec<u32>,
-    sensitivity: f32,
-    lengths: Vec<usize>,
+    given: Given,
     /// How many samples and how many pieces were given.
     at: usize,
     pieces: usize,
@@ -16,12 +24,12 @@ pub struct Feed {
 }
 
 impl Feed {
-    /// The run of these samples, in pieces of these lengths, is announced. Its state has eight words, or a few more.
-    pub fn new(calls: &mut Calls, draw: &mut Draw, samples: Vec<u32>, sensitivity: f32, lengths: Vec<usize>) -> Feed {
-        let words = 8 + [0, 0, 1, 3][draw.below(4) as usize];
+    /// The run of a recording is announced. Its state has as many words as it needs, or a few more.
+    pub fn new(calls: &mut Calls, draw: &mut Draw, given: Given) -> Feed {
+        let words = STATE_WORDS + [0, 0, 1, 3][draw.below(4) as usize];
         let mut run = Run::new(silent(draw, words));
-        run.begin(calls, samples.len(), sensitivity);
-        Feed { run, samples, sensitivity, lengths, at: 0, pieces: 0, copied: false }
+        run.begin(calls, given.samples.len(), given.sensitivity, given.start);
+        Feed { run, given, at: 0, pieces: 0, copied: false }
     }
 
     /// Gives the next piece, or ends the run; at times from a copy of its state. Whether there is more to do.
@@ -30,9 +38,9 @@ impl Feed {
             self.run.go_on_from_copy();
             self.copied = true;
         }
-        match self.lengths.get(self.pieces) {
+        match self.given.lengths.get(self.pieces) {
             Some(length) => {
-                let piece = &self.samples[self.at..self.at + length];
+                let piece = &self.given.samples[self.at..self.at + length];
                 self.run.piece_again(calls, draw, piece);
                 self.at += length;
                 self.pieces += 1;
@@ -47,22 +55,15 @@ impl Feed {
 
     /// All flags that were given are held to those of the whole.
     pub fn close(self, recordings: &mut Recordings, in_turn: bool) {
-        let flags = &self.run.account.flags;
-        let (mut joined, wrong) = Joined::new(&self.samples, self.sensitivity, self.lengths, flags);
+        let (mut joined, wrong) = Joined::new(self.given, &self.run.account.flags);
         (joined.copied, joined.in_turn) = (self.copied, in_turn);
         recordings.take(&joined, &wrong);
     }
 }
 
 /// Gives all of one recording.
-pub fn give(
-    (calls, recordings): (&mut Calls, &mut Recordings),
-    draw: &mut Draw,
-    samples: Vec<u32>,
-    sensitivity: f32,
-    lengths: Vec<usize>,
-) {
-    let mut feed = Feed::new(calls, draw, samples, sensitivity, lengths);
+pub fn give((calls, recordings): (&mut Calls, &mut Recordings), draw: &mut Draw, given: Given) {
+    let mut feed = Feed::new(calls, draw, given);
     while feed.step(calls, draw) {}
     feed.close(recordings, false);
 }

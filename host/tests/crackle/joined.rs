@@ -1,15 +1,16 @@
-//! All flags of a recording joined, against those of the whole, by what the model of the calls has no part in: document
-//! 01's flags worked out over the whole recording, what the original rewrites in it, and what the library's own
-//! decrackle names in it.
+//! All flags of a recording joined, against those of the whole, by what the model of the calls has no part in: the flags
+//! worked out over the whole recording, what the original rewrites in it, where it starts as the original does, and what
+//! the library's own decrackle names in it.
+use super::feed::Given;
 use cathar_host::both::Wrong;
 use cathar_host::cathar;
 use cathar_host::count::{Class, Count};
-use cathar_host::crackle::rewritten;
 use cathar_host::original;
 use cathar_host::recording::{blocks, entry_words};
-use cathar_host::whole::{floats, needed};
+use cathar_host::whole::{floats, magnitudes, needed, opening_floor, redrawn, Start, MEAN_OF};
 use cathar_host::wrong::flags;
 use std::fmt;
+use std::ops::Range;
 
 /// How many pieces are told.
 const SHOWN: usize = 16;
@@ -18,12 +19,16 @@ const SHOWN: usize = 16;
 pub struct Joined {
     pub n: usize,
     pub sensitivity: f32,
+    pub start: Start,
     /// How long the pieces are.
     pub lengths: Vec<usize>,
     flags: Vec<bool>,
-    /// How many samples the original changed, and what the library's decrackle answers.
+    /// How many samples decrackle changes, and what the library's answers.
     changed: usize,
     decrackled: u32,
+    /// Whether the floor starts at 1e-6, as the original's does, and whether the old start would flag others.
+    as_original: bool,
+    other_by_old: bool,
     /// Whether a sample would be flagged if a total under 8 could have one.
     stands_out: bool,
     /// Whether it went on from a copy of its state, and whether another run was given pieces in turn with it.
@@ -36,31 +41,38 @@ pub type Recordings = Count<Joined>;
 impl fmt::Debug for Joined {
     /// The first pieces stand for all.
     fn fmt(&self, to: &mut fmt::Formatter) -> fmt::Result {
-        let Joined { n, sensitivity, lengths, .. } = self;
+        let Joined { n, sensitivity, start, lengths, .. } = self;
         let first = &lengths[..lengths.len().min(SHOWN)];
         let places: Vec<usize> = (0..*n).filter(|place| self.is_flagged(*place)).take(SHOWN).collect();
-        write!(to, "{n} samples at {sensitivity}, in {} pieces {first:?}, flagged {places:?}..", lengths.len())
+        let of = format!("{n} samples at {sensitivity} from {start:?}");
+        write!(to, "{of}, in {} pieces {first:?}, flagged {places:?}..", lengths.len())
     }
 }
 
-/// The places that the library's decrackle names in these samples, and its answer.
-fn named(samples: &[u32], sensitivity: f32) -> (u32, Vec<bool>) {
+/// What the library's decrackle makes of a recording: its answer, the places that it names, and the samples that it
+/// leaves.
+struct Named {
+    answer: u32,
+    places: Vec<bool>,
+    after: Vec<u32>,
+}
+
+fn named(samples: &[u32], sensitivity: f32, start: Start) -> Named {
     let n = samples.len();
     let (mut words, mut marks, mut counts) = (samples.to_vec(), vec![0; n], vec![0; blocks(n)]);
     let (mut journal, mut work) = (vec![0; entry_words(n)], vec![0; needed(n)]);
     let (mut used, mut value) = (0, 0);
-    let answer = cathar::decrackle(
-        &mut words,
-        &mut marks,
-        &mut counts,
-        &mut journal,
-        &mut used,
-        sensitivity,
-        &mut work,
-        &mut value,
-    );
-    (answer, marks.iter().map(|mark| *mark == 4).collect())
+    let (decrackle, mark): (Decrackle, u8) = match start {
+        Start::Mean => (cathar::decrackle, 7),
+        Start::Old => (cathar::decrackle_old_start, 4),
+    };
+    let answer =
+        decrackle(&mut words, &mut marks, &mut counts, &mut journal, &mut used, sensitivity, &mut work, &mut value);
+    Named { answer, places: marks.iter().map(|of| *of == mark).collect(), after: words }
 }
+
+/// The library's decrackle, from either start.
+type Decrackle = fn(&mut [u32], &mut [u8], &mut [u16], &mut [u32], &mut usize, f32, &mut [u32], &mut usize) -> u32;
 
 /// The patterns of these samples.
 fn patterns(samples: &[f32]) -> Vec<u32> {
@@ -74,51 +86,59 @@ fn spares_ends(flags: &[bool]) -> bool {
 
 /// Whether one of these samples but the last is flagged, where there are at least 8 of them; fewer are made 8 by the
 /// last one.
-fn stands_out(samples: &[f32], sensitivity: f32) -> bool {
+fn stands_out(samples: &[f32], sensitivity: f32, start: Start) -> bool {
     let mut longer = samples.to_vec();
     longer.resize(samples.len().max(8), samples.last().copied().unwrap_or(0.0));
-    flags(&longer, sensitivity)[..samples.len().saturating_sub(1)].contains(&true)
+    flags(&longer, sensitivity, start)[..samples.len().saturating_sub(1)].contains(&true)
 }
 
-/// What is known of a whole recording: its flags by document 01, what the original leaves of it, and what the library's
-/// decrackle answers and names.
+/// What is known of a whole recording: its flags, what the original leaves of it, where the floor starts as the original's
+/// does, and what the library's decrackle makes of it.
 struct Whole {
     samples: Vec<f32>,
     flags: Vec<bool>,
-    after: Vec<f32>,
-    decrackled: u32,
-    named: Vec<bool>,
+    original: Option<Vec<f32>>,
+    named: Named,
 }
 
 impl Whole {
-    fn new(words: &[u32], sensitivity: f32) -> Whole {
-        let (samples, (decrackled, named)) = (floats(words), named(words, sensitivity));
-        let (flags, after) = (flags(&samples, sensitivity), original::decrackle(&samples, sensitivity));
-        Whole { samples, flags, after, decrackled, named }
+    fn new(words: &[u32], sensitivity: f32, start: Start) -> Whole {
+        let (samples, named) = (floats(words), named(words, sensitivity, start));
+        let as_original = opening_floor(start, &magnitudes(&samples)) == 1e-6;
+        let original = as_original.then(|| original::decrackle(&samples, sensitivity));
+        Whole { flags: flags(&samples, sensitivity, start), samples, original, named }
     }
 
-    /// The places at which the original leaves another word.
-    fn changed(&self) -> impl Iterator<Item = usize> + '_ {
-        let changes = |place: &usize| self.after[*place].to_bits() != self.samples[*place].to_bits();
+    /// The places at which other words stand.
+    fn changed<'a>(&'a self, after: &'a [f32]) -> impl Iterator<Item = usize> + 'a {
+        let changes = |place: &usize| after[*place].to_bits() != self.samples[*place].to_bits();
         (0..self.samples.len()).filter(changes)
     }
 
-    /// Whether rewriting the flagged runs leaves what the original leaves. So a sample that is flagged and that the
-    /// original does not change is one whose new word is the old one.
-    fn is_rewritten_by(&self, given: &[bool]) -> bool {
-        spares_ends(given) && patterns(&rewritten(&self.samples, given)) == patterns(&self.after)
+    /// Whether all that the original changes is flagged, and rewriting the flagged runs leaves what the original leaves. So
+    /// a sample that is flagged and that the original does not change is one whose new word is the old one.
+    fn is_rewritten_by(&self, given: &[bool]) -> [bool; 2] {
+        let ours = || patterns(&redrawn(&self.samples, given));
+        match &self.original {
+            Some(after) => {
+                [self.changed(after).all(|place| given[place]), spares_ends(given) && ours() == patterns(after)]
+            }
+            None => [true, self.named.answer == 8 || spares_ends(given) && ours() == self.named.after],
+        }
     }
 
     /// What does not hold of the flags that were given for it. Where decrackle is refused by 8, for a result out of
     /// range, it names nothing.
     fn broken(&self, given: &[bool]) -> Wrong {
         let as_many = given.len() == self.samples.len();
+        let [is_flagged, is_rewritten] = if as_many { self.is_rewritten_by(given) } else { [false; 2] };
+        let Named { answer, places, .. } = &self.named;
         let holds = [
             ("as many flags as samples", as_many),
             ("flags of the whole", given == self.flags),
-            ("what the original rewrites is flagged", as_many && self.changed().all(|place| given[place])),
-            ("rewritten by these flags as the original does", as_many && self.is_rewritten_by(given)),
-            ("what cathar_decrackle names", self.decrackled == 8 || self.decrackled == 0 && given == self.named),
+            ("what the original rewrites is flagged", is_flagged),
+            ("rewritten by these flags as decrackle does", is_rewritten),
+            ("what decrackle names", *answer == 8 || *answer == 0 && given == places),
         ];
         holds.into_iter().filter(|(_, holds)| !holds).map(|(name, _)| name).collect()
     }
@@ -126,16 +146,21 @@ impl Whole {
 
 impl Joined {
     /// A recording of these samples, all in range, for which these flags were given; and what is wrong with them.
-    pub fn new(words: &[u32], sensitivity: f32, lengths: Vec<usize>, given: &[u8]) -> (Joined, Wrong) {
-        let whole = Whole::new(words, sensitivity);
+    pub fn new(of: Given, given: &[u8]) -> (Joined, Wrong) {
+        let Given { samples: words, sensitivity, start, lengths } = of;
+        let whole = Whole::new(&words, sensitivity, start);
         let wrong = whole.broken(&given.iter().map(|flag| *flag != 0).collect::<Vec<bool>>());
+        let after = redrawn(&whole.samples, &whole.flags);
         let joined = Joined {
             n: words.len(),
             sensitivity,
+            start,
             lengths,
-            changed: whole.changed().count(),
-            decrackled: whole.decrackled,
-            stands_out: stands_out(&whole.samples, sensitivity),
+            changed: whole.changed(&after).count(),
+            decrackled: whole.named.answer,
+            as_original: whole.original.is_some(),
+            other_by_old: start == Start::Mean && flags(&whole.samples, sensitivity, Start::Old) != whole.flags,
+            stands_out: stands_out(&whole.samples, sensitivity, start),
             flags: whole.flags,
             copied: false,
             in_turn: false,
@@ -158,6 +183,11 @@ impl Joined {
             at += length;
             at > 0 && at < self.n && so(at)
         })
+    }
+
+    /// Whether it is from the mean, and has so many samples.
+    fn is_mean_of(&self, samples: Range<usize>) -> bool {
+        self.start == Start::Mean && samples.contains(&self.n)
     }
 
     fn has_empty(&self) -> bool {
@@ -215,7 +245,7 @@ pub const CLASSES: &[Class<Joined>] = &[
     },
     Class { name: "place 1 flagged", least: 5_000, holds: |j| j.is_flagged(1) },
     Class { name: "place n-2 flagged", least: 5_000, holds: |j| j.n > 2 && j.is_flagged(j.n - 2) },
-    Class { name: "a flagged sample that the original leaves", least: 500, holds: |j| j.changed < j.flagged() },
+    Class { name: "a flagged sample that keeps its word", least: 500, holds: |j| j.changed < j.flagged() },
     Class { name: "a result of decrackle out of range", least: 5, holds: |j| j.decrackled == 8 },
     Class { name: "sensitivity 1 or less", least: 1_000, holds: |j| j.flagged() > 0 && j.sensitivity <= 1.0 },
     Class { name: "sensitivity 10 or more", least: 1_000, holds: |j| j.flagged() > 0 && j.sensitivity >= 10.0 },
@@ -226,11 +256,42 @@ pub const CLASSES: &[Class<Joined>] = &[
     },
     Class { name: "gone on from a copy of the state", least: 10_000, holds: |j| j.copied },
     Class { name: "two runs in turn", least: 50_000, holds: |j| j.in_turn },
+    Class { name: "from the old start", least: 100_000, holds: |j| j.start == Start::Old },
+    Class { name: "from the mean", least: 100_000, holds: |j| j.start == Start::Mean },
+    Class { name: "from the mean, flagged", least: 20_000, holds: |j| j.start == Start::Mean && j.flagged() > 0 },
+    Class {
+        name: "from the mean, and it is above 1e-6",
+        least: 20_000,
+        holds: |j| j.start == Start::Mean && !j.as_original && j.flagged() > 0,
+    },
+    Class {
+        name: "from the mean, raised to 1e-6, flagged",
+        least: 500,
+        holds: |j| j.start == Start::Mean && j.as_original && j.flagged() > 0,
+    },
+    Class { name: "the old start would flag others", least: 10_000, holds: |j| j.other_by_old },
+    Class { name: "from the mean, of 1,024 or fewer", least: 500, holds: |j| j.is_mean_of(900..MEAN_OF + 1) },
+    Class { name: "from the mean, of more", least: 500, holds: |j| j.is_mean_of(MEAN_OF + 1..5_000) },
+];
+
+/// What the recordings of about as many samples as the mean is of have to be.
+pub const BESIDE: &[Class<Joined>] = &[
+    Class { name: "recordings", least: 8_000, holds: |_| true },
+    Class { name: "of 1,023", least: 1_000, holds: |j| j.is_mean_of(MEAN_OF - 1..MEAN_OF) },
+    Class { name: "of 1,024", least: 1_000, holds: |j| j.is_mean_of(MEAN_OF..MEAN_OF + 1) },
+    Class { name: "of 1,025", least: 1_000, holds: |j| j.is_mean_of(MEAN_OF + 1..MEAN_OF + 2) },
+    Class { name: "of 1,026", least: 1_000, holds: |j| j.is_mean_of(MEAN_OF + 2..MEAN_OF + 3) },
+    Class { name: "from the mean, flagged", least: 1_000, holds: |j| j.start == Start::Mean && j.flagged() > 0 },
+    Class { name: "place 1,023 flagged, of more", least: 20, holds: |j| j.n > MEAN_OF && j.is_flagged(MEAN_OF - 1) },
+    Class { name: "place 1,024 flagged", least: 20, holds: |j| j.is_flagged(MEAN_OF) },
+    Class { name: "from the old start", least: 4_000, holds: |j| j.start == Start::Old },
 ];
 
 /// What the recordings of the most samples have to be.
 pub const LONG: &[Class<Joined>] = &[
-    Class { name: "of 1,048,576 samples", least: 4, holds: |j| j.n == 1_048_576 },
+    Class { name: "of 1,048,576 samples", least: 8, holds: |j| j.n == 1_048_576 },
     Class { name: "flagged, and cut at 480", least: 1, holds: |j| j.flagged() > 0 && j.lengths.contains(&480) },
     Class { name: "flagged, and in one piece", least: 1, holds: |j| j.flagged() > 0 && j.is_in(1) },
+    Class { name: "flagged, from the mean", least: 4, holds: |j| j.flagged() > 0 && j.start == Start::Mean },
+    Class { name: "flagged, from the old start", least: 4, holds: |j| j.flagged() > 0 && j.start == Start::Old },
 ];

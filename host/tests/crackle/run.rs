@@ -6,6 +6,7 @@ use cathar_host::crackle::{Areas, Call};
 use cathar_host::draw::Draw;
 use cathar_host::recording::Answer;
 use cathar_host::room::{self, Room};
+use cathar_host::whole::Start;
 
 pub struct Run {
     both: Detector,
@@ -47,8 +48,8 @@ impl Run {
         self.both = Detector::new(self.both.lent.state().to_vec());
     }
 
-    pub fn begin(&mut self, calls: &mut Calls, total: usize, sensitivity: f32) -> Answer {
-        self.make(calls, Call::Begin { total, sensitivity })
+    pub fn begin(&mut self, calls: &mut Calls, total: usize, sensitivity: f32, start: Start) -> Answer {
+        self.make(calls, Call::Begin { total, sensitivity, start })
     }
 
     /// A piece, with room of these bytes.
@@ -68,10 +69,12 @@ impl Run {
         self.account.gives(call, piece)
     }
 
-    /// A piece with any room, mostly enough. Where that is refused by 6, it is given again with enough.
+    /// A piece with any room, mostly enough, but half of the time one short where flags come that were held back. Where
+    /// that is refused by 6, it is given again with enough.
     pub fn piece_again(&mut self, calls: &mut Calls, draw: &mut Draw, piece: &[u32]) -> Answer {
         let needed = self.gives(Call::Piece, piece.len());
-        let length = Room::any(draw).of(draw, needed);
+        let short = needed > piece.len() && draw.below(2) == 0;
+        let length = if short { Room::OneShort } else { Room::any(draw) }.of(draw, needed);
         let answer = self.piece(calls, piece, room(draw, length));
         if answer.number() != 6 {
             return answer;

@@ -3,9 +3,11 @@ use super::classes::Calls;
 use super::cuts;
 use super::run::Run;
 use super::stops::{any_room, piece};
-use cathar_host::crackle::{self, STATE_WORDS};
+use cathar_host::crackle::{self, RUN_WORDS};
 use cathar_host::draw::Draw;
 use cathar_host::recording::MOST_SAMPLES;
+use cathar_host::room;
+use cathar_host::whole::MEAN_OF;
 
 /// Floats on which something turns: zeros, subnormals, infinities and NaN of every kind.
 const TURNS: [u32; 16] = [
@@ -63,20 +65,45 @@ fn goes_on(draw: &mut Draw) -> u32 {
     }
 }
 
+/// The eighth word: mostly 1 or 0.
+fn start(draw: &mut Draw) -> u32 {
+    match draw.below(8) {
+        0..=1 => 0,
+        2 => [2, 3, 0x100, 0x101, 0x0100_0001, 0x8000_0001, u32::MAX][draw.below(7) as usize],
+        3 => draw.word() as u32,
+        _ => 1,
+    }
+}
+
+/// The words of the values: any; of a quiet sound; or those of one, of which one or some are others.
+fn values(draw: &mut Draw) -> Vec<u32> {
+    if draw.below(8) == 0 {
+        return room::words(draw, MEAN_OF);
+    }
+    let (loud, spread) = (part(draw) * 1e-3, [u64::MAX, u64::MAX, 1_024, 64][draw.below(4) as usize]);
+    let mut value = |_| match draw.below(spread) {
+        0 => TURNS[draw.below(TURNS.len() as u64) as usize],
+        _ => (loud * part(draw)).to_bits(),
+    };
+    (0..MEAN_OF).map(&mut value).collect()
+}
+
 /// Any words of a state.
 fn state(draw: &mut Draw) -> Vec<u32> {
-    let near = [8, 30, MOST_SAMPLES as u32, u32::MAX][draw.below(4) as usize];
+    let of_mean = MEAN_OF as u32 + 2;
+    let near = [8, 30, of_mean, of_mean + 6, MOST_SAMPLES as u32, u32::MAX][draw.below(6) as usize];
     let total = count(draw, near);
-    let taken = count(draw, total);
+    let last = if near == of_mean + 6 { of_mean } else { total };
+    let taken = count(draw, last);
     let sign = if draw.below(4) == 0 { -1.0 } else { 1.0 };
     let factor = sign * (12.0 - cuts::sensitivity(draw).clamp(1.0, 10.0));
     let floor = part(draw).abs() * 1e-3;
     let [before, last] = [part(draw), part(draw)];
     let floats = [factor, floor, before, last].map(|usual| float(draw, usual));
-    let eighth = if draw.below(2) == 0 { 0 } else { draw.word() as u32 };
     let mut words = vec![total, taken, goes_on(draw)];
     words.extend(floats);
-    words.push(eighth);
+    words.push(start(draw));
+    words.extend(values(draw));
     words.extend((0..draw.below(3)).map(|_| draw.word() as u32));
     words
 }
@@ -94,17 +121,17 @@ fn length(draw: &mut Draw, run: &crackle::Run) -> usize {
 pub fn tried(calls: &mut Calls, draw: &mut Draw) {
     let mut run = Run::wild(state(draw));
     for turn in 0..5 {
-        let before = crackle::Run::read(&run.state()[..STATE_WORDS]);
+        let before = crackle::Run::read(&run.state()[..RUN_WORDS]);
         if turn > 0 && !before.goes_on && draw.below(4) != 0 {
             return;
         }
         match draw.below(16) {
             0 => {
-                let sensitivity = cuts::sensitivity(draw);
-                run.begin(calls, before.total as usize, sensitivity);
+                let (sensitivity, start) = (cuts::sensitivity(draw), cuts::start(draw));
+                run.begin(calls, before.total as usize, sensitivity, start);
             }
             1..=3 => {
-                let bytes = any_room(draw, 1);
+                let bytes = any_room(draw, before.brought_by_end());
                 run.end(calls, bytes);
             }
             _ => {

@@ -11,7 +11,7 @@ use cathar_host::recording::{entry_words, Answer, Recording, BLOCK, NOT_RECEIVED
 use cathar_host::room;
 use cathar_host::settings;
 use cathar_host::shapes::Shape;
-use cathar_host::whole::needed;
+use cathar_host::whole::{needed, Repair, Start};
 
 /// Numbers of samples at the edges of blocks and beside them, and others.
 const SIZES: [usize; 20] =
@@ -53,6 +53,11 @@ impl Reached {
         }
     }
 
+    /// Whether it is decrackle from this start, and named a sample.
+    fn is_decrackle(&self, from: Start) -> bool {
+        matches!(self.call, Call::Whole(Repair::Decrackle { start, .. }) if start == from) && self.named > 0
+    }
+
     /// Whether it is a list of gaps of which one was repaired.
     fn is_by_list(&self) -> bool {
         matches!(self.call, Call::Gaps { .. }) && self.named > 0
@@ -67,6 +72,8 @@ pub const CLASSES: &[Class<Reached>] = &[
     Class { name: "naming a sample", least: 2_000, holds: |r| r.after() == After::Repair },
     Class { name: "naming 256 or more", least: 100, holds: |r| r.after() == After::Repair && r.named >= BLOCK },
     Class { name: "naming a sample by a list of gaps", least: 200, holds: Reached::is_by_list },
+    Class { name: "naming a sample by decrackle", least: 20, holds: |r| r.is_decrackle(Start::Mean) },
+    Class { name: "and from the old start", least: 50, holds: |r| r.is_decrackle(Start::Old) },
     Class { name: "undone", least: 800, holds: |r| r.after() == After::Undo },
     Class { name: "refused", least: 100, holds: |r| r.number != 0 },
     Class { name: "accepted, naming none", least: 50, holds: |r| r.number == 0 && r.after() == After::Nothing },
@@ -115,7 +122,8 @@ pub fn call(draw: &mut Draw, on: &Recording) -> Call {
         12 => opening(draw),
         13..=16 => Call::Scan { rate: settings::USUAL.0, max_gap_ms: settings::USUAL.1 },
         17..=20 => Call::Whole(settings::declip(draw, samples)),
-        21..=24 => Call::Whole(settings::decrackle(draw, samples)),
+        21..=22 => Call::Whole(settings::decrackle(draw, samples)),
+        23..=24 => Call::Whole(settings::decrackle_old_start(draw, samples)),
         25 => Call::Whole(settings::dequantize(draw, samples)),
         26 => Call::Whole(settings::cosparse(draw, samples)),
         27..=30 => Call::Gaps { passes: 1 },

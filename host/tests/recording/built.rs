@@ -40,7 +40,7 @@ pub fn words(draw: &mut Draw, count: usize) -> Vec<u32> {
 pub fn marks(draw: &mut Draw, count: usize) -> Vec<u8> {
     let near = draw.below(2) == 0;
     let mut mark = || match draw.word() {
-        word if near && word >> 63 == 0 => [NOT_RECEIVED, NOT_RECEIVED, 5, 7][(word >> 8) as usize % 4],
+        word if near && word >> 63 == 0 => [NOT_RECEIVED, NOT_RECEIVED, 5, 7, 8][(word >> 8) as usize % 5],
         word => word as u8,
     };
     (0..count).map(|_| mark()).collect()
@@ -81,7 +81,7 @@ fn journal_length(draw: &mut Draw, repairs: &[Repair]) -> usize {
 
 /// Any mark, and samples that lie close or far apart. A few times a new word is not in range.
 fn repair(draw: &mut Draw, n: usize) -> Repair {
-    let mark = 1 + draw.below(5) as u8;
+    let mark = [1, 2, 3, 4, 5, 7][draw.below(6) as usize];
     let spread = [1, 2, 4, 100][draw.below(4) as usize];
     let places: Vec<usize> = (0..n).filter(|_| draw.below(spread) == 0).collect();
     let any_word = draw.below(16) == 0;

@@ -17,6 +17,19 @@ pub fn small(put: &mut dyn FnMut(Recording)) {
     }
 }
 
+/// Set marks: 0 to 9, and some whose last binary digits are those of a mark that is allowed.
+const SET_MARKS: [u32; 20] =
+    [0, 1, 2, 3, 4, 5, 6, 7, 8, 9, 15, 16, 23, 255, 256, 257, 263, 0x0700_0000, 0x8000_0007, u32::MAX];
+
+/// Hands on recordings with one entry, which is well-formed but for the mark that it set; and that mark.
+pub fn set_marks(put: &mut dyn FnMut(Recording, u32)) {
+    for set in SET_MARKS {
+        for (n, old_mark) in [(1, 0), (2, 7), (300, 6), (1_200, 255)] {
+            put(recording(n, [n, blocks(n)], &[0, 0x3f80_0000, old_mark, 1, set], 5), set);
+        }
+    }
+}
+
 /// Hands on recordings of the most samples and of one more, with a last entry that names the last sample,
 /// or one past it.
 pub fn large(put: &mut dyn FnMut(Recording)) {

@@ -253,9 +253,10 @@ fn work_for(draw: &mut Draw, needs: Vec<usize>) -> usize {
     Room::any(draw).of(draw, needed)
 }
 
-/// Any of the four repairs over the whole recording.
+/// Any of the four repairs over the whole recording, decrackle from either start.
 fn whole(draw: &mut Draw, samples: &[u32]) -> Call {
-    let all = [settings::declip, settings::decrackle, settings::dequantize, settings::cosparse];
-    let repair = all[draw.below(4) as usize](draw, samples);
+    let decrackles = [settings::decrackle, settings::decrackle_old_start];
+    let all = [settings::declip, decrackles[0], decrackles[1], settings::dequantize, settings::cosparse];
+    let repair = all[draw.below(5) as usize](draw, samples);
     Call::Whole { repair, work: Room::any(draw).of(draw, needed(samples.len())) }
 }

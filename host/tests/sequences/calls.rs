@@ -5,7 +5,7 @@ use cathar_host::inpaint::{Gap, GapAnswer, Scan, MOST_GAPS, SCAN_PASSES};
 use cathar_host::recording::Answer;
 use cathar_host::room;
 use cathar_host::settings::OfScan;
-use cathar_host::whole::{needed, Repair};
+use cathar_host::whole::{needed, Repair, Start};
 use std::fmt;
 
 /// The gaps of a list, in their order: one more than may be is the most.
@@ -78,6 +78,20 @@ impl Call {
     /// Whether it is one of the two openings.
     pub fn opens(self) -> bool {
         matches!(self, Call::Open | Call::OpenReceived)
+    }
+
+    /// The mark that a single repair sets, by the documents' table: "1 gap by model, 2 gap by straight line, 3 cubic
+    /// declip, 4 decrackle, 5 dequantize (either form)", and 7 decrackle from the mean.
+    pub fn mark(self) -> u8 {
+        match self {
+            Call::Gap { gap, .. } if gap.is_line() => 2,
+            Call::Gap { .. } => 1,
+            Call::Whole { repair: Repair::Declip { .. }, .. } => 3,
+            Call::Whole { repair: Repair::Decrackle { start: Start::Old, .. }, .. } => 4,
+            Call::Whole { repair: Repair::Dequantize { .. } | Repair::Cosparse { .. }, .. } => 5,
+            Call::Whole { repair: Repair::Decrackle { start: Start::Mean, .. }, .. } => 7,
+            _ => panic!("no single repair: {self:?}"),
+        }
     }
 
     /// Both sides make the call, in a workspace of any words and with any words in the lists that it writes. The

@@ -3,7 +3,7 @@ use super::calls::Call;
 use super::history::{History, Several, Step, Survivor};
 use cathar_host::count::Class;
 use cathar_host::recording::{entry_words, NOT_RECEIVED};
-use cathar_host::whole::Repair;
+use cathar_host::whole::{Repair, Start};
 
 /// The kinds of calls.
 #[derive(Clone, Copy, PartialEq, Eq, PartialOrd, Ord)]
@@ -17,6 +17,7 @@ enum Kind {
     Scan,
     Declip,
     Decrackle,
+    DecrackleOldStart,
     Dequantize,
     Cosparse,
 }
@@ -32,7 +33,8 @@ fn kind(call: Call) -> Kind {
         Call::Gaps { .. } => Kind::List,
         Call::Scan { .. } => Kind::Scan,
         Call::Whole { repair: Repair::Declip { .. }, .. } => Kind::Declip,
-        Call::Whole { repair: Repair::Decrackle { .. }, .. } => Kind::Decrackle,
+        Call::Whole { repair: Repair::Decrackle { start: Start::Mean, .. }, .. } => Kind::Decrackle,
+        Call::Whole { repair: Repair::Decrackle { start: Start::Old, .. }, .. } => Kind::DecrackleOldStart,
         Call::Whole { repair: Repair::Dequantize { .. }, .. } => Kind::Dequantize,
         Call::Whole { repair: Repair::Cosparse { .. }, .. } => Kind::Cosparse,
     }
@@ -123,7 +125,8 @@ pub const CALLS: &[Class<Step>] = &[
     Class { name: "a list of no gap", least: 200, holds: |s| s.is_list(|gaps| gaps == 0) && s.number() == 0 },
     Class { name: "a list of 64 gaps", least: 50, holds: |s| s.is_list(|gaps| gaps == 64) && s.number() == 0 },
     Class { name: "declip", least: 3_000, holds: |s| s.names_by(Kind::Declip) },
-    Class { name: "decrackle", least: 3_000, holds: |s| s.names_by(Kind::Decrackle) },
+    Class { name: "decrackle", least: 1_000, holds: |s| s.names_by(Kind::Decrackle) },
+    Class { name: "decrackle from the old start", least: 3_000, holds: |s| s.names_by(Kind::DecrackleOldStart) },
     Class { name: "dequantize", least: 4_000, holds: |s| s.names_by(Kind::Dequantize) },
     Class { name: "dequantize_cosparse", least: 3_000, holds: |s| s.names_by(Kind::Cosparse) },
     Class { name: "accepted, naming none", least: 8_000, holds: |s| s.is_whole() && s.number() == 0 && !s.names() },
@@ -174,7 +177,8 @@ pub const REPLAYED: &[Class<Step>] = &[
     Class { name: "gaps by model", least: 10_000, holds: |s| s.names_by(Kind::Gap) },
     Class { name: "gaps by line", least: 15, holds: |s| s.names_by(Kind::Line) },
     Class { name: "declip", least: 1_800, holds: |s| s.names_by(Kind::Declip) },
-    Class { name: "decrackle", least: 1_800, holds: |s| s.names_by(Kind::Decrackle) },
+    Class { name: "decrackle", least: 500, holds: |s| s.names_by(Kind::Decrackle) },
+    Class { name: "decrackle from the old start", least: 1_800, holds: |s| s.names_by(Kind::DecrackleOldStart) },
     Class { name: "dequantize", least: 2_000, holds: |s| s.names_by(Kind::Dequantize) },
     Class { name: "dequantize_cosparse", least: 1_800, holds: |s| s.names_by(Kind::Cosparse) },
 ];

@@ -94,6 +94,7 @@ impl History {
             self.begin_anew(&before, call);
         }
         let [over, over_missing] = self.survive(&before, call, &outcome);
+        wrong.extend(self.wrongly_marked(&before, &outcome));
         slips::slip(self, call, &outcome, undone);
         wrong.extend(self.broken(&before, call, &outcome));
         let (samples, free) = (before.samples.len(), before.journal.len().saturating_sub(before.used));
@@ -142,6 +143,22 @@ impl History {
         self.several.extend(of.map(|(several, _)| (several, outcome.named.len())));
         let joined = &self.survivors[self.survivors.len() - outcome.named.len()..];
         [joined.iter().any(|survivor| survivor.over), joined.iter().any(|survivor| survivor.over_missing)]
+    }
+
+    /// The repairs that a call has made have to set the mark that the documents' table gives them: in their entries, and, as
+    /// far as a later one has not named them again, in their samples.
+    fn wrongly_marked(&self, before: &Recording, outcome: &Outcome) -> Wrong {
+        let (mut start, mut entered, mut marked) = (before.used, true, true);
+        let Recording { marks, journal, .. } = &self.both.model;
+        for (call, m) in outcome.named.iter().copied() {
+            let mark = call.mark();
+            entered &= journal[start + entry_words(m) - 1] == mark.into();
+            let last = outcome.named.last() == Some(&(call, m));
+            marked &= !last || journal[start..start + 3 * m].chunks(3).all(|named| marks[named[0] as usize] == mark);
+            start += entry_words(m);
+        }
+        let wrong = [("the mark that an entry has", !entered), ("the marks of the named samples", !marked)];
+        wrong.into_iter().filter(|(_, wrong)| *wrong).map(|(name, _)| name).collect()
     }
 
     /// Whether all samples of this mark, 0 or 6, have their raw word, and had this mark when the recording was opened.

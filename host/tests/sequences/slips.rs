@@ -2,7 +2,7 @@
 use super::calls::{Call, Outcome};
 use super::history::{History, Several, Survivor};
 use cathar_host::recording::NOT_RECEIVED;
-use cathar_host::whole::{floats, Repair};
+use cathar_host::whole::{floats, Repair, Start};
 use cathar_host::wrong;
 use std::cell::RefCell;
 
@@ -45,6 +45,8 @@ fn named(name: &str) -> Alters {
         "seq_account_gap_one_longer" => |history, _, outcome, _| each_joined(history, outcome, gap_one_longer),
         "seq_account_gap_one_later" => |history, _, outcome, _| each_joined(history, outcome, gap_one_later),
         "seq_account_strength_halved" => |history, _, outcome, _| each_joined(history, outcome, strength_halved),
+        "seq_account_start_old" => |history, _, outcome, _| each_joined(history, outcome, start_old),
+        "seq_account_start_new" => |history, _, outcome, _| each_joined(history, outcome, start_new),
         "seq_account_raw_marks_0" => |history, _, _, _| history.raw_marks.fill(0),
         "seq_account_raw_marks_of_nan" => raw_marks_of_nan,
         "seq_account_replay_opens_as_measured" => |history, _, _, _| history.opening = Call::Open,
@@ -148,6 +150,21 @@ fn strength_halved(survivor: &mut Survivor, _: usize) {
     if let Call::Whole { repair: Repair::Dequantize { strength, .. }, .. } = &mut survivor.call {
         *strength /= 2.0;
     }
+}
+
+/// A survivor that is decrackle has this start.
+fn starts(survivor: &mut Survivor, of: Start) {
+    if let Call::Whole { repair: Repair::Decrackle { start, .. }, .. } = &mut survivor.call {
+        *start = of;
+    }
+}
+
+fn start_old(survivor: &mut Survivor, _: usize) {
+    starts(survivor, Start::Old);
+}
+
+fn start_new(survivor: &mut Survivor, _: usize) {
+    starts(survivor, Start::Mean);
 }
 
 fn raw_marks_of_nan(history: &mut History, call: Call, _: &Outcome, _: Option<Survivor>) {

@@ -123,7 +123,7 @@ pub const COMMON: &[Class<Call>] = &[
 fn stretches(repair: Repair, samples: &[f32]) -> Vec<Range<usize>> {
     match repair {
         Repair::Declip { threshold } => fills(samples, threshold),
-        Repair::Decrackle { sensitivity } => flagged(samples, sensitivity),
+        Repair::Decrackle { sensitivity, start } => flagged(samples, sensitivity, start),
         Repair::Dequantize { .. } | Repair::Cosparse { .. } => Vec::new(),
     }
 }

@@ -110,8 +110,8 @@ fn changes_in(call: &Call, number: u32) -> bool {
 fn would_go_on(call: &Call) -> bool {
     let once = Repair::Cosparse { bits: bits(call), strength: strength(call), iterations: 1 };
     call.changes() && iterations(call) > 16 && {
-        let after = call.repair.original(&floats(&call.before.0));
-        once.original(&after) != after
+        let after = call.repair.after(&floats(&call.before.0));
+        once.after(&after) != after
     }
 }
 

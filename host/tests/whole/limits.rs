@@ -4,7 +4,7 @@ use super::clipped;
 use cathar_host::draw::Draw;
 use cathar_host::recording::{blocks, entry_words, Recording, MOST_SAMPLES};
 use cathar_host::room;
-use cathar_host::whole::{needed, Repair};
+use cathar_host::whole::{needed, Repair, Start};
 
 /// A call that is accepted and names a sample, and what is wrong in others like it.
 pub struct Case {
@@ -30,16 +30,18 @@ pub fn declip(draw: &mut Draw) -> Case {
     Case { repair, samples, wrong, loud: Some(loud) }
 }
 
-/// A slope that the curve goes on with for a while, since all samples from place 3 on are flagged but the last.
-pub fn decrackle() -> Case {
-    let mut loud = vec![0.0, 20_000.0, 40_000.0];
+/// A slope that the curve goes on with for a while, since all samples behind it are flagged but the last. From the mean
+/// they are so where a silence before them keeps it low.
+pub fn decrackle(start: Start) -> Case {
+    let mut loud = vec![0.0; if start == Start::Mean { 200 } else { 0 }];
+    loud.extend([0.0, 20_000.0, 40_000.0]);
     loud.extend([60_000.0, -60_000.0].repeat(5));
     loud.extend([60_000.0; 3]);
     let samples: Vec<f32> = loud.iter().map(|x| x / 16.0).collect();
     Case {
-        repair: Repair::Decrackle { sensitivity: 7.5 },
+        repair: Repair::Decrackle { sensitivity: 7.5, start },
         samples: words_of(&samples),
-        wrong: Repair::Decrackle { sensitivity: f32::NAN },
+        wrong: Repair::Decrackle { sensitivity: f32::NAN, start },
         loud: Some(words_of(&loud)),
     }
 }

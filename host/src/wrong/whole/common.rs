@@ -45,48 +45,50 @@ pub(super) const IN_DECLIPS: Table = Table {
     ],
 };
 
-pub(super) const IN_DECRACKLES: Table = Table {
-    file: "whole",
-    test: "decrackles",
-    finds: Finds::Always,
-    standins: &[
-        Standin {
-            name: "whole_7_only_if_named",
-            says: "refusal 7 is not given where nothing would be named",
-            how: Library(seven_only_if_named),
-        },
-        Standin {
-            name: "whole_8_at_first_only",
-            says: "only the result at the first named sample has to be in range",
-            how: Library(eight_at_first_only),
-        },
-        Standin {
-            name: "whole_8_at_last",
-            says: "refusal 8 carries the highest place whose result is not in range instead of the lowest",
-            how: Library(eight_at_last),
-        },
-        Standin {
-            name: "whole_work_one_less",
-            says: "a workspace of 2n-1 words is enough",
-            how: Library(work_one_less),
-        },
-        Standin {
-            name: "whole_work_kept_after_9",
-            says: "the workspace keeps its contents after refusal 9",
-            how: Library(|lent, call| keeps_work_after(lent, call, 9)),
-        },
-        Standin {
-            name: "whole_entry_for_nothing",
-            says: "an entry is appended where nothing is named and two journal words are free",
-            how: Library(entry_for_nothing),
-        },
-        Standin {
-            name: "whole_old_marks_0",
-            says: "each old mark in the entry is 0, as if every sample had been measured",
-            how: Library(old_marks_0),
-        },
-    ],
-};
+/// What is tried in decrackle, from either start.
+macro_rules! in_decrackles {
+    ($call:literal) => {
+        &[
+            library!(
+                concat!($call, "_7_only_if_named"),
+                "refusal 7 is not given where nothing would be named",
+                seven_only_if_named,
+            ),
+            library!(
+                concat!($call, "_8_at_first_only"),
+                "only the result at the first named sample has to be in range",
+                eight_at_first_only,
+            ),
+            library!(
+                concat!($call, "_8_at_last"),
+                "refusal 8 carries the highest place whose result is not in range instead of the lowest",
+                eight_at_last,
+            ),
+            library!(concat!($call, "_work_one_less"), "a workspace of 2n-1 words is enough", work_one_less),
+            library!(
+                concat!($call, "_work_kept_after_9"),
+                "the workspace keeps its contents after refusal 9",
+                |lent, call| keeps_work_after(lent, call, 9),
+            ),
+            library!(
+                concat!($call, "_entry_for_nothing"),
+                "an entry is appended where nothing is named and two journal words are free",
+                entry_for_nothing,
+            ),
+            library!(
+                concat!($call, "_old_marks_0"),
+                "each old mark in the entry is 0, as if every sample had been measured",
+                old_marks_0,
+            ),
+        ]
+    };
+}
+
+pub(super) const IN_DECRACKLES: Table =
+    Table { file: "whole", test: "decrackles", finds: Finds::Always, standins: in_decrackles!("whole") };
+
+pub(super) const IN_DECRACKLES_OLD_START: Table =
+    Table { file: "whole", test: "decrackles_old_start", finds: Finds::Always, standins: in_decrackles!("whole_old") };
 
 pub(super) const IN_DEQUANTIZES: Table = Table {
     file: "whole",
@@ -197,7 +199,7 @@ fn rewritten(recording: &Recording, call: Call) -> Vec<(usize, u32)> {
     match call {
         Call::Whole(repair) if repair.is_allowed() && is_readable => {
             let samples = floats(&recording.samples);
-            let named = at(repair.named(&samples), &repair.original(&samples));
+            let named = at(repair.named(&samples), &repair.after(&samples));
             named.into_iter().map(|(place, x)| (place, x.to_bits())).collect()
         }
         _ => Vec::new(),

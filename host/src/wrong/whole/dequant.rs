@@ -193,7 +193,7 @@ fn halves_to_even(x: f32) -> f32 {
 fn names_fewer(lent: &mut Lent, call: Call) -> u32 {
     names(lent, call, |repair, began| {
         let named = repair.named(began).into_iter().filter(|place| (2..began.len() - 2).contains(place));
-        at(named, &repair.original(began))
+        at(named, &repair.after(began))
     })
 }
 
@@ -207,7 +207,7 @@ fn nan_allowed(lent: &mut Lent, call: Call) -> u32 {
 /// The samples after so many iterations with the other settings of the repair.
 fn iterated(repair: Repair, samples: &[f32], iterations: u32) -> Vec<f32> {
     match repair {
-        Repair::Cosparse { bits, strength, .. } => Repair::Cosparse { bits, strength, iterations }.original(samples),
+        Repair::Cosparse { bits, strength, .. } => Repair::Cosparse { bits, strength, iterations }.after(samples),
         _ => samples.to_vec(),
     }
 }
@@ -223,7 +223,7 @@ fn iterations(repair: Repair) -> u32 {
 fn seventeen_iterations(lent: &mut Lent, call: Call) -> u32 {
     names(lent, call, |repair, began| {
         let once_more = u32::from(iterations(repair) > 16);
-        let after = iterated(repair, &repair.original(began), once_more);
+        let after = iterated(repair, &repair.after(began), once_more);
         at(repair.named(began), &after)
     })
 }
@@ -238,7 +238,7 @@ fn zero_as_one(lent: &mut Lent, call: Call) -> u32 {
 fn names_more(lent: &mut Lent, call: Call) -> u32 {
     names(lent, call, |repair, began| match repair.named(began).is_empty() {
         true => Vec::new(),
-        false => at(1..began.len() - 1, &repair.original(began)),
+        false => at(1..began.len() - 1, &repair.after(began)),
     })
 }
 
@@ -260,6 +260,6 @@ fn zero_names(lent: &mut Lent, call: Call) -> u32 {
         Repair::Cosparse { strength, iterations, .. } if strength <= 0.0 && iterations > 0 && began.len() >= 5 => {
             at(2..began.len() - 2, began)
         }
-        _ => at(repair.named(began), &repair.original(began)),
+        _ => at(repair.named(began), &repair.after(began)),
     })
 }
