@@ -73,12 +73,13 @@ float cathar_round(float x);
 #define CATHAR_FRAME_WORDS 16
 #define CATHAR_MOST_MISSING 1000        /* the most frames that may be missing before one that is read */
 #define CATHAR_MISSING_WORD 0x7FC00000  /* a NaN, the word of each sample of a missing frame */
-#define CATHAR_CRACKLE_STATE 8          /* the words that a run of the crackle detector needs between its calls */
+#define CATHAR_MEAN_OVER 1024           /* decrackle's floor starts at the mean over so many samples, or over all */
+#define CATHAR_CRACKLE_STATE 1032       /* the words that a run of the crackle detector needs between its calls */
 
 /* The marks. A repair names the samples that it writes, and no others. Each gets its result, which may be the word
- * that it had, and the repair's mark, which is 1 to 5. So, where nothing but these calls writes a recording, a mark of
- * these tells which repair was the last to name the sample; and a sample that is marked as measured or as not received
- * was so marked when the recording was opened, and has the word that it was opened with.
+ * that it had, and the repair's mark, which is 1 to 5 or 7. So, where nothing but these calls writes a recording, a
+ * mark of these tells which repair was the last to name the sample; and a sample that is marked as measured or as not
+ * received was so marked when the recording was opened, and has the word that it was opened with.
  *
  * What a repair reads it takes as it stands: a sample that an earlier repair made counts like a measured one, in
  * gaps, in scans and in the repairs over the whole recording, and so does one that was not received, whose word
@@ -88,9 +89,10 @@ float cathar_round(float x);
 #define CATHAR_MARK_GAP_BY_MODEL 1
 #define CATHAR_MARK_GAP_BY_LINE 2       /* a straight line */
 #define CATHAR_MARK_CUBIC_DECLIP 3
-#define CATHAR_MARK_DECRACKLE 4
+#define CATHAR_MARK_DECRACKLE 4         /* from the old start */
 #define CATHAR_MARK_DEQUANTIZE 5        /* in either form */
 #define CATHAR_MARK_NOT_RECEIVED 6      /* the frame that it was in did not arrive; no repair sets this mark */
+#define CATHAR_MARK_DECRACKLE_FROM_MEAN 7
 
 /* The counts are for cathar_measured alone, and are the library's between calls: who writes marks or counts gets
  * answers from it that say nothing. Both openings set all of them. An accepted repair that names a sample, and an
@@ -102,7 +104,7 @@ static inline size_t cathar_counts(size_t n)
     return n / CATHAR_BLOCK + (n % CATHAR_BLOCK != 0);
 }
 
-/* The answers. Each call on a recording, the question cathar_measured, the reading of frames and the three calls of the
+/* The answers. Each call on a recording, the question cathar_measured, the reading of frames and the calls of the
  * crackle detector answer CATHAR_ACCEPTED, and else the number of the refusal. Where several apply, it is the first in
  * the list of the call's refusals: they are tested in the order of their numbers, but 14 directly after 1, and 4 of
  * cathar_inpaint_gaps before all others. The crackle detector tests 13 before 6 and 7, and 6 for a state that is too
@@ -203,7 +205,7 @@ uint32_t cathar_open_received(const uint32_t *samples, size_t n, uint8_t *marks,
  *   a place is not below n,
  *   places do not strictly rise,
  *   an old mark exceeds 255, or
- *   the set mark is not 1 to 5. */
+ *   the set mark is not 1 to 5 or 7. */
 uint32_t cathar_undo(uint32_t *samples, size_t n, uint8_t *marks, size_t marks_n,
                      uint16_t *counts, size_t counts_n, uint32_t *journal, size_t journal_n, size_t *used,
                      size_t *value);
@@ -330,7 +332,7 @@ uint32_t cathar_inpaint_auto(uint32_t *samples, size_t n, uint8_t *marks, size_t
                              double *work, size_t work_n, uint32_t *orders, size_t orders_n,
                              size_t *qualified, size_t *repaired);
 
-/* The four repairs that follow are over the whole recording. Each reads every sample, whatever its settings,
+/* The repairs that follow are over the whole recording. Each reads every sample, whatever its settings,
  * and works its results out in a workspace of words before it writes any. To name no sample is no refusal, and
  * makes no entry in the journal. A setting that is held to a..b counts as a where it is lower, and as b where it
  * is higher, infinities among them.
@@ -358,12 +360,23 @@ uint32_t cathar_declip(uint32_t *samples, size_t n, uint8_t *marks, size_t marks
                        float threshold, uint32_t *work, size_t work_n, size_t *value);
 
 /* Rewrites samples that stand out from the middle of their two neighbours by more than (12 - sensitivity) times
- * a running floor, each run of them by a cubic between its neighbours: mark 4. The sensitivity is held to 1..10.
+ * a running floor, each run of them by a cubic between its neighbours: mark 7. The sensitivity is held to 1..10.
+ * The floor starts at the mean of how far the first CATHAR_MEAN_OVER samples stand out, or all where there are fewer,
+ * but at 1e-6 at least; for this the ends count as 0.
  * Named are those that stand out; no end ever is, and in a recording of fewer than 8 samples none is.
  * Refusal 4 is given where sensitivity is a NaN. */
 uint32_t cathar_decrackle(uint32_t *samples, size_t n, uint8_t *marks, size_t marks_n,
                           uint16_t *counts, size_t counts_n, uint32_t *journal, size_t journal_n, size_t *used,
                           float sensitivity, uint32_t *work, size_t work_n, size_t *value);
+
+/* The same with the old start: mark 4. The floor starts at 1e-6, so that of a steady tone a hundred-odd samples at its
+ * beginning are rewritten. This is what cathar_decrackle did before it started at the mean, and what the original Rust
+ * does: who replays old cases, or compares with the Rust, asks for it by this name.
+ * Refusal 4 is given where sensitivity is a NaN. */
+uint32_t cathar_decrackle_old_start(uint32_t *samples, size_t n, uint8_t *marks, size_t marks_n,
+                                    uint16_t *counts, size_t counts_n,
+                                    uint32_t *journal, size_t journal_n, size_t *used,
+                                    float sensitivity, uint32_t *work, size_t work_n, size_t *value);
 
 /* Moves samples that were recorded with so many bits, in steps of 2/2^bits, toward what their neighbours predict:
  * mark 5. Each prediction is kept within half a step of the level nearest to the sample. bits is held to
@@ -385,20 +398,24 @@ uint32_t cathar_dequantize_cosparse(uint32_t *samples, size_t n, uint8_t *marks,
                                     uint32_t *work, size_t work_n, size_t *value);
 
 /* The crackle detector flags samples as the sound arrives, when there is no whole recording yet for cathar_decrackle.
- * A run of it is announced by cathar_crackle_begin, with the number of all its samples. These are then given to
- * cathar_crackle_piece in consecutive pieces of any length, 0 among them, and cathar_crackle_end ends the run. Each
- * sample gets a flag, in the samples' order: a byte that is 1 where the sample is flagged, and else 0. Whether a sample
- * stands out shows when the one behind it is in: its flag comes with that one, so one sample late, and the flag of the
- * last comes at the end. Where all samples are in range, the flags of all calls joined are those of the whole
- * recording, however it is cut: flagged are exactly the samples that cathar_decrackle would name in it at the same
- * sensitivity. The first and the last never are, and where fewer than 8 samples are announced none is.
+ * A run of it is announced by cathar_crackle_begin, or for the old start by cathar_crackle_begin_old_start, with the
+ * number of all its samples. These are then given to cathar_crackle_piece in consecutive pieces of any length, 0 among
+ * them, and cathar_crackle_end ends the run. Each sample gets a flag, in the samples' order: a byte that is 1 where the
+ * sample is flagged, and else 0. Whether a sample stands out shows when the one behind it is in: its flag comes with
+ * that one, so one sample late, and the flag of the last comes at the end. But where the floor starts at the mean, all
+ * flags are held back as long as no more than CATHAR_MEAN_OVER samples are in: those of the first CATHAR_MEAN_OVER come
+ * together, with the sample behind them, and where no more are announced, all come at the end.
+ * Where all samples are in range, the flags of all calls joined are those of the whole recording, however it is cut:
+ * flagged are exactly the samples that cathar_decrackle would name in it at the same sensitivity, and with the old
+ * start those that cathar_decrackle_old_start would. The first and the last never are, and where fewer than 8 samples
+ * are announced none is.
  *
  * Flags only tell. These calls know of no recording, rewrite no sample and set no mark.
  *
- * state is state_n words, of which the first CATHAR_CRACKLE_STATE are the library's from the announcement on: the
- * running floor, the last two samples, and what it counts by. Nothing else of a run is kept anywhere, so that runs side
- * by side have a state each, and a run may go on from a copy of these bytes, elsewhere or later. Who writes them gets
- * flags that say nothing. Words behind them stay.
+ * state is state_n words, of which the first CATHAR_CRACKLE_STATE are the library's from the announcement on, with
+ * either start: the running floor, the last two samples, what it counts by, and what it holds flags back for. Nothing
+ * else of a run is kept anywhere, so that runs side by side have a state each, and a run may go on from a copy of these
+ * bytes, elsewhere or later. Who writes them gets flags that say nothing. Words behind them stay.
  *
  * flags is the room for the flags of one call, flags_n bytes of any contents. The call writes them from the first byte
  * on, and nothing behind them; where it is refused, nothing at all.
@@ -407,22 +424,29 @@ uint32_t cathar_dequantize_cosparse(uint32_t *samples, size_t n, uint8_t *marks,
  *
  * A run is over when it was ended, and it is stopped, and so over too, by refusals 13 and 7. From then on each piece,
  * an empty one too, and each end is refused by 13, until a run is announced anew. The flags that were given before
- * stand; the piece that stops a run gives none. Refusal 6 takes nothing in, leaves the state as it was, and stops
- * nothing: the same call may be made again with more room.
+ * stand; the piece that stops a run gives none, and those that are held back never come. Refusal 6 takes nothing in,
+ * leaves the state as it was, and stops nothing: the same call may be made again with more room.
  *
  * No two areas overlap, value among them, and no pointer is null, not even that of an area of length 0. */
 
-/* Announces a run of total samples. What the state held has no say, so that one that is not over is given up. The
- * sensitivity is held to 1..10, as in cathar_decrackle. Where it was refused, the state stays as it was.
+/* Announces a run of total samples, with a floor that starts at the mean. What the state held has no say, so that one
+ * that is not over is given up. The sensitivity is held to 1..10, as in cathar_decrackle. Where it was refused, the
+ * state stays as it was.
  * Refusals: 6, 2, 4, tested in this order. They are given where
  *   6    state_n is less than CATHAR_CRACKLE_STATE,
  *   2    total exceeds CATHAR_MOST_SAMPLES, and
  *   4    sensitivity is a NaN. */
 uint32_t cathar_crackle_begin(size_t total, float sensitivity, uint32_t *state, size_t state_n);
 
+/* The same with the old start, as cathar_decrackle_old_start has it: no flag is held back.
+ * Refusals: 6, 2, 4, as above. */
+uint32_t cathar_crackle_begin_old_start(size_t total, float sensitivity, uint32_t *state, size_t state_n);
+
 /* Gives the run its next piece_n samples, each a word as those of a recording are. It gives a flag for each of them,
- * that of the sample before it; the very first of the run gives none. So piece_n flags come, and one less as long as no
- * sample was in; room for piece_n is always enough.
+ * that of the sample before it; the very first of the run gives none. So with the old start piece_n flags come, and one
+ * less as long as no sample was in; room for piece_n is always enough. From the mean none comes as long as no more than
+ * CATHAR_MEAN_OVER samples are in, and with the piece that passes this number come those of all samples of the run but
+ * the last: room for piece_n + CATHAR_MEAN_OVER - 1 is always enough.
  * Refusals: 13, 6, 7, tested in this order, but 6 before all else where the state is too short. They are given where
  *   13   the run is over, or with this piece there are more samples than were announced: the run is stopped,
  *   6    flags_n is less than the number of these flags, or state_n than CATHAR_CRACKLE_STATE, and
@@ -430,10 +454,12 @@ uint32_t cathar_crackle_begin(size_t total, float sensitivity, uint32_t *state, 
 uint32_t cathar_crackle_piece(uint32_t *state, size_t state_n, const uint32_t *piece, size_t piece_n,
                               uint8_t *flags, size_t flags_n, size_t *value);
 
-/* Ends the run, and gives the flag of its last sample; none, where 0 samples were announced.
+/* Ends the run, and gives the flags that are still to come: that of its last sample, and none where 0 samples were
+ * announced; but from the mean those of all samples where no more than CATHAR_MEAN_OVER were announced. Room for so
+ * many is always enough.
  * Refusals: 13, 6, tested in this order, but 6 before all else where the state is too short. They are given where
  *   13   the run is over, or fewer samples are in than were announced: the run is stopped, and
- *   6    there is no room for that flag, or state_n is less than CATHAR_CRACKLE_STATE. */
+ *   6    flags_n is less than the number of these flags, or state_n than CATHAR_CRACKLE_STATE. */
 uint32_t cathar_crackle_end(uint32_t *state, size_t state_n, uint8_t *flags, size_t flags_n, size_t *value);
 
 #ifdef __cplusplus

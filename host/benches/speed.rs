@@ -12,7 +12,7 @@ mod speed {
 use cathar_host::inpaint::MOST_GAPS;
 use cathar_host::recording::MOST_SAMPLES;
 use cathar_host::root::by_digits;
-use cathar_host::whole::Repair;
+use cathar_host::whole::{Repair, Start};
 use speed::inputs::{BITS, CLIP, DROPOUT, DROPOUT_STRETCH};
 use speed::tasks::{in_turn, on_their_own, How, Numbers, Task, Times, QUESTIONS, ROOTS};
 use std::env;
@@ -40,10 +40,12 @@ const PASSES: u32 = 3;
 /// machine is slow does not fall on one line alone.
 const ROUNDS: usize = 3;
 
-/// The four repairs over the whole recording, with settings for the worn samples that they are given.
-const WHOLE: [(&str, Repair); 4] = [
+/// The four repairs over the whole recording, with settings for the worn samples that they are given, decrackle from
+/// either start.
+const WHOLE: [(&str, Repair); 5] = [
     ("declip", Repair::Declip { threshold: CLIP }),
-    ("decrackle", Repair::Decrackle { sensitivity: 5.0 }),
+    ("decrackle", Repair::Decrackle { sensitivity: 5.0, start: Start::Old }),
+    ("decrackle from the mean", Repair::Decrackle { sensitivity: 5.0, start: Start::Mean }),
     ("dequantize", Repair::Dequantize { bits: BITS, strength: 1.0 }),
     ("dequantize_cosparse, 6 iterations", Repair::Cosparse { bits: BITS, strength: 1.0, iterations: 6 }),
 ];
@@ -106,12 +108,14 @@ fn each_repair() {
     table(&format!("in {SAMPLES} samples"), false, lines);
 }
 
-/// Crackle in pieces, of a hundredth of a second and of one sample, as the samples double.
+/// Crackle in pieces, of a hundredth of a second and of one sample, from either start, as the samples double.
 fn pieces() {
-    for len in [PIECE, 1] {
-        let line = |n| (format!("{n:>12} samples"), Task::Pieces { len }, n);
-        let lines = doubled(FEWEST, MOST_SAMPLES).map(line).collect();
-        table_beside("on the whole", &format!("crackle in pieces of {len}"), true, lines);
+    for (start, what) in [(Start::Old, "crackle"), (Start::Mean, "crackle from the mean")] {
+        for len in [PIECE, 1] {
+            let line = |n| (format!("{n:>12} samples"), Task::Pieces { len, start }, n);
+            let lines = doubled(FEWEST, MOST_SAMPLES).map(line).collect();
+            table_beside("on the whole", &format!("{what} in pieces of {len}"), true, lines);
+        }
     }
 }
 

@@ -5,12 +5,12 @@
 //! and what the original Rust rewrites.
 use crate::float::word32;
 use crate::recording::{first_of, in_range, Answer, MOST_SAMPLES};
-use crate::whole::{opening_floor, Start, MEAN_OF};
+use crate::whole::{opening_floor, Start, MEAN_OVER};
 
 /// How many words of a state are those of its run, and how many a state has: behind them comes a detector's value for
 /// each place whose flag is held back.
 pub const RUN_WORDS: usize = 8;
-pub const STATE_WORDS: usize = RUN_WORDS + MEAN_OF;
+pub const STATE_WORDS: usize = RUN_WORDS + MEAN_OVER;
 
 /// "A total under 8 leaves every flag unset."
 pub const FEWEST: u32 = 8;
@@ -69,7 +69,7 @@ pub(crate) fn word(x: f32) -> u32 {
 /// values are in.
 pub fn given(start: Start, samples: usize) -> usize {
     match start {
-        Start::Mean if samples <= MEAN_OF => 0,
+        Start::Mean if samples <= MEAN_OVER => 0,
         _ => samples.saturating_sub(1),
     }
 }
@@ -130,7 +130,7 @@ impl Run {
 
     /// Whether the flag of the last sample is held back, whatever comes next.
     pub fn holds_back(self) -> bool {
-        self.start == Start::Mean && self.taken as usize <= MEAN_OF
+        self.start == Start::Mean && self.taken as usize <= MEAN_OVER
     }
 
     /// The flag of a place at which this is the detector's value. "floor=floor*(1−0.001)+a*0.001, then flag if
@@ -158,7 +158,7 @@ impl Run {
         }
         let known = self.taken as usize;
         held[known - 1] = word(value);
-        if known == MEAN_OF {
+        if known == MEAN_OVER {
             self.judge_held(held)
         } else {
             Vec::new()

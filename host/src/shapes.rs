@@ -2,7 +2,7 @@
 //! every machine.
 use crate::draw::Draw;
 use crate::settings::{self, SENSITIVITIES};
-use crate::whole::{flags, floats, Start, MEAN_OF};
+use crate::whole::{flags, floats, Start, MEAN_OVER};
 
 /// Words on which something turns: zeros of both signs, 2^-30, -0.75, 65,536; and those that are not in
 /// range: the next one above it, infinity, a NaN.
@@ -154,7 +154,7 @@ fn size_beside_limit(draw: &mut Draw) -> usize {
     match draw.below(4) {
         0 => 8 + draw.below(24) as usize,
         1 => 32 + draw.below(800) as usize,
-        _ => MEAN_OF - 3 + draw.below(8) as usize,
+        _ => MEAN_OVER - 3 + draw.below(8) as usize,
     }
 }
 

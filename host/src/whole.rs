@@ -20,7 +20,7 @@ impl Start {
 }
 
 /// Of so many magnitudes the mean is taken: "the first 1,024 detector magnitudes (all of them if fewer)".
-pub const MEAN_OF: usize = 1_024;
+pub const MEAN_OVER: usize = 1_024;
 
 /// Which of the four, and its settings.
 #[derive(Clone, Copy, Debug, PartialEq)]
@@ -187,7 +187,7 @@ pub fn opening_floor(start: Start, magnitudes: &[f32]) -> f32 {
     match start {
         Start::Old => 1e-6,
         Start::Mean => {
-            let first = &magnitudes[..magnitudes.len().min(MEAN_OF)];
+            let first = &magnitudes[..magnitudes.len().min(MEAN_OVER)];
             let sum = first.iter().fold(0.0, |sum: f32, a| sum + a);
             (sum / first.len() as f32).max(1e-6)
         }

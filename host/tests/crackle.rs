@@ -23,7 +23,7 @@ use cathar_host::draw::{self, Draw};
 use cathar_host::recording::{Answer, MOST_SAMPLES};
 use cathar_host::settings;
 use cathar_host::shapes::{at_limit, bent, beside_limit, Shape};
-use cathar_host::whole::{Start, MEAN_OF};
+use cathar_host::whole::{Start, MEAN_OVER};
 use crackle::classes::{Calls, ANNOUNCED, BESIDE, CUT, STOPPED, WILD};
 use crackle::feed::{give, give_in_turn, Feed, Given};
 use crackle::joined::{self, Recordings, CLASSES, LONG};
@@ -137,15 +137,15 @@ fn beside_1024_samples() {
     let mut draw = Draw::new(seed);
     let mut calls = Count::new("calls beside 1,024 samples", &[BESIDE]);
     let mut recordings = Count::new("flags joined, beside 1,024 samples", &[joined::BESIDE]);
-    for n in MEAN_OF - 1..=MEAN_OF + 2 {
-        let source = ["of 1,023 samples", "of 1,024", "of 1,025", "of 1,026"][n + 1 - MEAN_OF];
+    for n in MEAN_OVER - 1..=MEAN_OVER + 2 {
+        let source = ["of 1,023 samples", "of 1,024", "of 1,025", "of 1,026"][n + 1 - MEAN_OVER];
         calls.begin(source);
         recordings.begin(source);
-        cuts::each_in_two(n, MEAN_OF - 4, &mut |lengths| {
+        cuts::each_in_two(n, MEAN_OVER - 4, &mut |lengths| {
             for _ in 0..if lengths.len() > 2 { IN_THREE } else { 1 } {
                 let (mut samples, sensitivity) = (cuts::samples(&mut draw, n), cuts::sensitivity(&mut draw));
                 if draw.below(2) == 0 {
-                    damage::click(&mut draw, &mut samples[MEAN_OF - 4..]);
+                    damage::click(&mut draw, &mut samples[MEAN_OVER - 4..]);
                 }
                 give_both((&mut calls, &mut recordings), &mut draw, &samples, sensitivity, &lengths);
             }
@@ -216,8 +216,8 @@ const TOTALS: [usize; 18] = [
     7,
     8,
     9,
-    MEAN_OF,
-    MEAN_OF + 1,
+    MEAN_OVER,
+    MEAN_OVER + 1,
     4_096,
     MOST_SAMPLES - 1,
     MOST_SAMPLES,
@@ -247,7 +247,7 @@ fn after_announcement(calls: &mut Calls, draw: &mut Draw, run: &mut Run) {
 
 /// Numbers of words that a state has: few, as many as the mean is of, and beside those that it needs.
 const WORDS: [usize; 17] =
-    [0, 1, 2, 3, 6, 7, 8, 9, 10, 64, MEAN_OF, MEAN_OF + 1, 1_030, 1_031, STATE_WORDS, 1_033, 1_100];
+    [0, 1, 2, 3, 6, 7, 8, 9, 10, 64, MEAN_OVER, MEAN_OVER + 1, 1_030, 1_031, STATE_WORDS, 1_033, 1_100];
 
 #[test]
 fn announced() {
@@ -322,7 +322,7 @@ fn by_hand() {
     assert_eq!(run.end(&mut calls, vec![7; 1]), Answer::Accepted(1));
     assert_eq!(run.account.flags, [0, 0, 0, 1, 1, 1, 0, 0, 0]);
     assert_eq!(run.end(&mut calls, vec![7; 1]), Answer::Refused(13));
-    assert_eq!(run.state()[RUN_WORDS..], [0; MEAN_OF]);
+    assert_eq!(run.state()[RUN_WORDS..], [0; MEAN_OVER]);
     calls.close(0);
 }
 
@@ -355,7 +355,7 @@ fn by_hand_from_the_mean() {
     let mut run = Run::new(vec![5; STATE_WORDS]);
     assert_eq!(run.begin(&mut calls, 9, 9.0, Start::Mean), Answer::Accepted(0));
     assert_eq!(run.state()[..RUN_WORDS], [9, 0, 1, 0x4040_0000, 0x3586_37bd, 0, 0, 1]);
-    assert_eq!(run.state()[RUN_WORDS..], [5; MEAN_OF]);
+    assert_eq!(run.state()[RUN_WORDS..], [5; MEAN_OVER]);
     for piece in [&[0.0; 4][..], &[1.0], &[], &[0.0; 4]] {
         assert_eq!(flags_of(&mut run, &mut calls, piece), []);
     }
@@ -378,21 +378,21 @@ fn by_hand_of_1026() {
     let mut calls = Count::new("the crackle detector by hand", &[]);
     calls.begin("1,026 samples, from the mean");
     let mut run = Run::new(vec![5; STATE_WORDS]);
-    let mut samples = vec![0; MEAN_OF];
+    let mut samples = vec![0; MEAN_OVER];
     samples[3] = 0x3f80_0000;
-    assert_eq!(run.begin(&mut calls, MEAN_OF + 2, 10.0, Start::Mean), Answer::Accepted(0));
+    assert_eq!(run.begin(&mut calls, MEAN_OVER + 2, 10.0, Start::Mean), Answer::Accepted(0));
     assert_eq!(run.piece(&mut calls, &samples, vec![]), Answer::Accepted(0));
     assert_eq!((run.state()[1], run.state()[4]), (1_024, 0x3586_37bd));
     assert_eq!(run.state()[STATE_WORDS - 1], 5);
-    assert_eq!(run.piece(&mut calls, &[0], vec![7; MEAN_OF - 1]), Answer::Refused(6));
+    assert_eq!(run.piece(&mut calls, &[0], vec![7; MEAN_OVER - 1]), Answer::Refused(6));
     assert_eq!(run.state()[STATE_WORDS - 1], 5);
-    assert_eq!(run.piece(&mut calls, &[0], vec![7; MEAN_OF]), Answer::Accepted(MEAN_OF));
+    assert_eq!(run.piece(&mut calls, &[0], vec![7; MEAN_OVER]), Answer::Accepted(MEAN_OVER));
     assert_eq!((run.state()[1], run.state()[STATE_WORDS - 1]), (1_025, 0));
-    let mut flags = vec![0; MEAN_OF + 2];
+    let mut flags = vec![0; MEAN_OVER + 2];
     flags[2..5].fill(1);
-    assert_eq!(run.account.flags, flags[..MEAN_OF]);
+    assert_eq!(run.account.flags, flags[..MEAN_OVER]);
     let mut floor = 1.0f32 / 512.0;
-    for a in [0.0, 0.0, 0.5, 1.0, 0.5].into_iter().chain([0.0; MEAN_OF - 5]) {
+    for a in [0.0, 0.0, 0.5, 1.0, 0.5].into_iter().chain([0.0; MEAN_OVER - 5]) {
         floor = floor * (1.0 - 0.001) + a * 0.001;
     }
     assert_eq!(run.state()[4], floor.to_bits());

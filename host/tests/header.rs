@@ -13,7 +13,7 @@ use std::path::Path;
 use std::process::{Command, Stdio};
 
 /// How many functions there are.
-const EXPORTS: usize = 18;
+const EXPORTS: usize = 20;
 
 fn compiles(compiler: &str, standard: &str, language: &str) {
     let header = file("include/cathar.h");
@@ -175,6 +175,7 @@ fn in_sources() -> BTreeMap<String, u64> {
         ("FRAME_WORDS", "FRAME_WORDS", "crates/frames/src/lib.rt"),
         ("MOST_MISSING", "MOST_MISSING", "crates/frames/src/lib.rt"),
         ("MISSING_WORD", "MISSING_WORD", "crates/frames/src/lib.rt"),
+        ("MEAN_OVER", "MEAN_OVER", "crates/decrackle/src/lib.rt"),
         ("CRACKLE_STATE", "STATE_WORDS", "crates/crackle/src/kept.rt"),
     ] {
         found.insert(format!("CATHAR_{name}"), constant(of, source));

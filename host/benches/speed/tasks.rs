@@ -10,7 +10,7 @@ use cathar_host::lent::Lent;
 use cathar_host::original;
 use cathar_host::question::{by_each_mark, Span};
 use cathar_host::recording::{entry_words, Recording};
-use cathar_host::whole::{self, Repair};
+use cathar_host::whole::{self, Repair, Start, MEAN_OVER};
 use std::ptr;
 use std::time::{Duration, Instant};
 
@@ -39,11 +39,11 @@ pub enum Task {
     List { len: usize },
     /// A scan of a recording with dropouts.
     Scan,
-    /// A repair over the whole recording.
+    /// A repair over the whole recording. The original does not know decrackle from the mean.
     Whole(Repair),
-    /// The flags of a recording that comes in pieces of so many samples. In the original's place the host works them out
-    /// on the whole recording.
-    Pieces { len: usize },
+    /// The flags of a recording that comes in pieces of so many samples, from this start. In the original's place the host
+    /// works them out on the whole recording.
+    Pieces { len: usize, start: Start },
     /// The undo of a repair that named all samples but two. The original has none.
     Undo,
     /// The question, so often, of a span of so many samples from the first on, all of which are measured. In the
@@ -101,7 +101,7 @@ impl Task {
             Task::List { len } => list(&inputs::tone(draw, n), len),
             Task::Scan => scan(&inputs::with_dropouts(draw, n)),
             Task::Whole(repair) => whole(&inputs::worn(draw, n), repair),
-            Task::Pieces { len } => pieces(&inputs::worn(draw, n), len),
+            Task::Pieces { len, start } => pieces(&inputs::worn(draw, n), len, start),
             Task::Undo => undo(&inputs::worn(draw, n)),
             Task::Questions { len } => questions(&opened(&vec![0.0; n], 0), len),
             Task::Roots { of, how, beside } => roots(&of.drawn(draw, n), how, beside),
@@ -161,28 +161,34 @@ fn scan(samples: &[f32]) -> Times {
     )
 }
 
-/// One of the four repairs over the whole recording.
+/// One of the four repairs over the whole recording. Where the original does not know it, the model's own time is no
+/// one's.
 fn whole(samples: &[f32], repair: Repair) -> Times {
     let work = vec![0; whole::needed(samples.len())];
-    both(samples, samples.len(), || repair.after(samples), |lent| lent.lend_words(&work), Call::Whole(repair))
+    let after = || repair.after(samples);
+    let times = both(samples, samples.len(), after, |lent| lent.lend_words(&work), Call::Whole(repair));
+    Times { original: times.original.filter(|_| repair.is_of_original()), ..times }
 }
 
 /// The flags in pieces, with room for one piece, and the flags on the whole. Both have to be the same, and some set.
-fn pieces(samples: &[f32], len: usize) -> Times {
+fn pieces(samples: &[f32], len: usize, start: Start) -> Times {
     let words: Vec<u32> = samples.iter().map(|x| x.to_bits()).collect();
     least(|| {
-        let (theirs, whole) = timed(|| whole::flags(samples, SENSITIVITY));
-        let (ours, joined) = timed(|| in_pieces(&words, len));
+        let (theirs, whole) = timed(|| whole::flags(samples, SENSITIVITY, start));
+        let (ours, joined) = timed(|| in_pieces(&words, len, start));
         assert!(joined == whole && whole.contains(&true), "the flags in pieces are not those of the whole");
         Times { original: Some(theirs), library: ours }
     })
 }
 
 /// The flags that the library gives of these samples in pieces of this length, joined.
-fn in_pieces(words: &[u32], len: usize) -> Vec<bool> {
-    let (mut state, mut room, mut value) = ([0; STATE_WORDS], vec![0; len], 0);
+fn in_pieces(words: &[u32], len: usize, start: Start) -> Vec<bool> {
+    let (mut state, mut room, mut value) = ([0; STATE_WORDS], vec![0; len + MEAN_OVER], 0);
     let mut joined = Vec::with_capacity(words.len());
-    let mut answers = cathar::crackle_begin(words.len(), SENSITIVITY, &mut state);
+    let mut answers = match start {
+        Start::Mean => cathar::crackle_begin(words.len(), SENSITIVITY, &mut state),
+        Start::Old => cathar::crackle_begin_old_start(words.len(), SENSITIVITY, &mut state),
+    };
     for piece in words.chunks(len) {
         answers |= cathar::crackle_piece(&mut state, piece, &mut room, &mut value);
         joined.extend(room[..value].iter().map(|flag| *flag == 1));

@@ -48,7 +48,7 @@ use crate::crackle::{Areas, Call, Run, RUN_WORDS, STATE_WORDS};
 use crate::lent::crackle::Crackle;
 use crate::lent::{GUARDS, VALUE_BEFORE};
 use crate::recording::{in_range, MOST_SAMPLES};
-use crate::whole::{Start, MEAN_OF};
+use crate::whole::{Start, MEAN_OVER};
 use by_hand::{call_by, first, flags_by, floor_after, make_by, more, Rules, RULES};
 use std::cell::Cell;
 use std::ops::Range;
@@ -1020,7 +1020,7 @@ fn restore_nan(lent: &mut Crackle, before: &Areas, words: Range<usize>) {
 fn good_part(before: &Areas) -> Areas {
     let mut areas = before.clone();
     areas.piece = before.piece.iter().copied().take_while(|word| in_range(*word)).collect();
-    areas.flags = vec![0; areas.piece.len() + MEAN_OF];
+    areas.flags = vec![0; areas.piece.len() + MEAN_OVER];
     let given = areas.make(Call::Piece).value();
     areas.flags.truncate(given);
     areas
@@ -1048,7 +1048,7 @@ fn sample_by_sample(lent: &mut Crackle, call: Call) -> u32 {
     }
     let (mut state, mut flags) = (before.state, Vec::new());
     for sample in before.piece {
-        let (mut room, mut value) = ([0; MEAN_OF], 0);
+        let (mut room, mut value) = ([0; MEAN_OVER], 0);
         cathar::crackle_piece(&mut state, &[sample], &mut room, &mut value);
         flags.extend(room.into_iter().take(value));
     }

@@ -1,6 +1,6 @@
 //! Floors that decrackle's detector starts from wrongly, by its values from the first place on: in the whole recording
 //! all of them, and in pieces those that are held back, of which there are 1,024 or else all.
-use crate::whole::{opening_floor, Start, MEAN_OF};
+use crate::whole::{opening_floor, Start, MEAN_OVER};
 
 /// The magnitudes of these values.
 fn magnitudes(values: &[f32]) -> Vec<f32> {
@@ -9,7 +9,7 @@ fn magnitudes(values: &[f32]) -> Vec<f32> {
 
 /// Those of the first values, of which the mean is to be.
 fn first(values: &[f32]) -> Vec<f32> {
-    magnitudes(&values[..values.len().min(MEAN_OF)])
+    magnitudes(&values[..values.len().min(MEAN_OVER)])
 }
 
 /// The sum of these, from the first on.
@@ -39,11 +39,11 @@ pub(super) fn least(_: &[f32]) -> f32 {
 
 /// The mean of one value less, and of one more.
 pub(super) fn of_1023(values: &[f32]) -> f32 {
-    mean(&values[..values.len().min(MEAN_OF - 1)])
+    mean(&values[..values.len().min(MEAN_OVER - 1)])
 }
 
 pub(super) fn of_1025(values: &[f32]) -> f32 {
-    mean(&values[..values.len().min(MEAN_OF + 1)])
+    mean(&values[..values.len().min(MEAN_OVER + 1)])
 }
 
 /// The mean of all values.
@@ -53,12 +53,12 @@ pub(super) fn of_all(values: &[f32]) -> f32 {
 
 /// The mean of the values from the second place on, as many as it is to be of.
 pub(super) fn from_second(values: &[f32]) -> f32 {
-    mean(&values[1..values.len().min(MEAN_OF + 1)])
+    mean(&values[1..values.len().min(MEAN_OVER + 1)])
 }
 
 /// The mean of the values without the two ends.
 pub(super) fn without_ends(values: &[f32]) -> f32 {
-    mean(&values[1..(values.len() - 1).max(2).min(MEAN_OF)])
+    mean(&values[1..(values.len() - 1).max(2).min(MEAN_OVER)])
 }
 
 /// The sum without place 0, where the value is 0: the mean is the same.
@@ -131,12 +131,12 @@ pub(super) fn in_four_sums(values: &[f32]) -> f32 {
 
 /// The values are summed with their signs.
 pub(super) fn of_values(values: &[f32]) -> f32 {
-    let first = &values[..values.len().min(MEAN_OF)];
+    let first = &values[..values.len().min(MEAN_OVER)];
     (sum(first) / count(first)).max(1e-6)
 }
 
 pub(super) fn magnitude_of_mean(values: &[f32]) -> f32 {
-    let first = &values[..values.len().min(MEAN_OF)];
+    let first = &values[..values.len().min(MEAN_OVER)];
     (sum(first) / count(first)).abs().max(1e-6)
 }
 

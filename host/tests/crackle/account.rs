@@ -4,7 +4,7 @@ use cathar_host::both::Wrong;
 use cathar_host::crackle::{Areas, Call, Run, RUN_WORDS, STATE_WORDS};
 use cathar_host::lent::crackle::Crackle;
 use cathar_host::recording::{in_range, Answer, MOST_SAMPLES};
-use cathar_host::whole::{floats, Start, MEAN_OF};
+use cathar_host::whole::{floats, Start, MEAN_OVER};
 use cathar_host::wrong::flags;
 use std::ops::Range;
 
@@ -45,7 +45,7 @@ impl Account {
     /// the detector's value is not known yet; and the new start "holds back flags until 1,024 detector values [..] are in".
     fn due(&self, samples: usize) -> usize {
         let values = samples.saturating_sub(1);
-        if self.start == Start::Mean && values < MEAN_OF {
+        if self.start == Start::Mean && values < MEAN_OVER {
             0
         } else {
             values
@@ -131,8 +131,8 @@ fn values(before: &Areas, call: Call, answer: Answer) -> Range<usize> {
     };
     let (known, samples) = ((run.taken as usize).saturating_sub(1), run.taken as usize + before.piece.len());
     match call {
-        Call::Piece if run.start == Start::Mean => known.min(MEAN_OF)..samples.saturating_sub(1).min(MEAN_OF),
-        Call::End if run.start == Start::Mean => known.min(MEAN_OF)..samples.min(MEAN_OF),
+        Call::Piece if run.start == Start::Mean => known.min(MEAN_OVER)..samples.saturating_sub(1).min(MEAN_OVER),
+        Call::End if run.start == Start::Mean => known.min(MEAN_OVER)..samples.min(MEAN_OVER),
         _ => 0..0,
     }
 }
@@ -154,7 +154,7 @@ pub fn broken(lent: &Crackle, before: &Areas, call: Call, answer: Answer) -> Wro
     let holds = [
         ("words behind the state", behind(STATE_WORDS)),
         ("values of earlier places", stand(0..start)),
-        ("values of later places", stand(end.max(start)..MEAN_OF)),
+        ("values of later places", stand(end.max(start)..MEAN_OVER)),
         ("words that a refusal leaves", !stays || behind(0)),
         ("a run that is over", !closes || over(state)),
         ("flags that are 0 or 1", flags.iter().take(given).all(|flag| *flag <= 1)),

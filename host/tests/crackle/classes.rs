@@ -4,7 +4,7 @@ use cathar_host::count::{Class, Count};
 use cathar_host::crackle::{Areas, Call, Run, RUN_WORDS, STATE_WORDS};
 use cathar_host::float::F32;
 use cathar_host::recording::{in_range, Answer, MOST_SAMPLES};
-use cathar_host::whole::{Start, MEAN_OF};
+use cathar_host::whole::{Start, MEAN_OVER};
 use std::fmt;
 
 /// The loudest sample that is in range.
@@ -129,12 +129,12 @@ impl Made {
 
     /// Whether it is a piece, with samples, whose flags are held back.
     fn is_held(&self) -> bool {
-        self.call == Call::Piece && self.is_mean() && self.n() > 0 && self.taken() + self.n() <= MEAN_OF
+        self.call == Call::Piece && self.is_mean() && self.n() > 0 && self.taken() + self.n() <= MEAN_OVER
     }
 
     /// Whether it is a piece with which the flags that were held back come.
     fn is_release(&self) -> bool {
-        self.call == Call::Piece && self.is_mean() && self.taken() <= MEAN_OF && self.taken() + self.n() > MEAN_OF
+        self.call == Call::Piece && self.is_mean() && self.taken() <= MEAN_OVER && self.taken() + self.n() > MEAN_OVER
     }
 
     /// Whether it is an end at which flags that were held back come.
@@ -263,11 +263,11 @@ pub const CUT: &[Class<Made>] = &[
     Class {
         name: "after them, one sample late",
         least: 2_000,
-        holds: |m| m.piece(0) && m.is_mean() && m.taken() > MEAN_OF,
+        holds: |m| m.piece(0) && m.is_mean() && m.taken() > MEAN_OVER,
     },
     Class { name: "given at the end", least: 100_000, holds: |m| m.end(0) && m.is_late() && m.given.len() > 1 },
     Class { name: "given at the end, one set", least: 10_000, holds: |m| m.end(0) && m.is_late() && m.flags() },
-    Class { name: "1,024 at the end", least: 20, holds: |m| m.end(0) && m.is_late() && m.given.len() == MEAN_OF },
+    Class { name: "1,024 at the end", least: 20, holds: |m| m.end(0) && m.is_late() && m.given.len() == MEAN_OVER },
     Class {
         name: "the end's room one short: 6",
         least: 5_000,
@@ -283,15 +283,19 @@ pub const BESIDE: &[Class<Made>] = &[
     Class { name: "flags held back", least: 4_000, holds: |m| m.piece(0) && m.is_held() },
     Class { name: "given with a piece", least: 2_000, holds: |m| m.piece(0) && m.is_release() },
     Class { name: "one of them set", least: 500, holds: |m| m.piece(0) && m.is_release() && m.flags() },
-    Class { name: "given with the sample behind 1,024", least: 10, holds: |m| m.gives(1, MEAN_OF) && m.is_release() },
+    Class { name: "given with the sample behind 1,024", least: 10, holds: |m| m.gives(1, MEAN_OVER) && m.is_release() },
     Class { name: "room one short there: 6", least: 500, holds: |m| m.piece(6) && m.is_release() },
     Class {
         name: "the same again with room",
         least: 500,
         holds: |m| m.piece(0) && m.is_release() && m.last == Some(6),
     },
-    Class { name: "1,023 at the end", least: 500, holds: |m| m.end(0) && m.is_late() && m.given.len() == MEAN_OF - 1 },
-    Class { name: "1,024 at the end", least: 500, holds: |m| m.end(0) && m.is_late() && m.given.len() == MEAN_OF },
+    Class {
+        name: "1,023 at the end",
+        least: 500,
+        holds: |m| m.end(0) && m.is_late() && m.given.len() == MEAN_OVER - 1,
+    },
+    Class { name: "1,024 at the end", least: 500, holds: |m| m.end(0) && m.is_late() && m.given.len() == MEAN_OVER },
     Class { name: "one at the end", least: 1_000, holds: |m| m.end(0) && m.is_mean() && m.given.len() == 1 },
     Class {
         name: "the end's room one short: 6",
@@ -422,12 +426,12 @@ pub const STOPPED: &[Class<Made>] = &[
     Class {
         name: "flags would come: 7 before they do",
         least: 100,
-        holds: |m| m.piece(7) && m.is_release() && m.answer.value() < MEAN_OF,
+        holds: |m| m.piece(7) && m.is_release() && m.answer.value() < MEAN_OVER,
     },
     Class {
         name: "flags would come: 7 behind that",
         least: 100,
-        holds: |m| m.piece(7) && m.is_release() && m.answer.value() > MEAN_OF,
+        holds: |m| m.piece(7) && m.is_release() && m.answer.value() > MEAN_OVER,
     },
     Class { name: "held back: 7", least: 500, holds: |m| m.piece(7) && m.is_held() },
     Class { name: "held back: an end, 13", least: 500, holds: |m| m.end(13) && m.is_late() && m.taken() > 0 },
@@ -618,7 +622,7 @@ pub const WILD: &[Class<Made>] = &[
     Class {
         name: "from the mean, more than 1,024 in",
         least: 5_000,
-        holds: |m| m.piece(0) && m.is_mean() && m.n() > 0 && m.taken() > MEAN_OF,
+        holds: |m| m.piece(0) && m.is_mean() && m.n() > 0 && m.taken() > MEAN_OVER,
     },
     Class {
         name: "a value that is a NaN, held back",

@@ -3,7 +3,7 @@ use cathar_host::damage;
 use cathar_host::draw::Draw;
 use cathar_host::settings;
 use cathar_host::shapes::{bent, Shape};
-use cathar_host::whole::{Start, MEAN_OF};
+use cathar_host::whole::{Start, MEAN_OVER};
 
 /// Of so few samples every cut is tried.
 pub const EVERY: usize = 10;
@@ -30,7 +30,7 @@ pub fn start(draw: &mut Draw) -> Start {
 pub fn length(draw: &mut Draw) -> usize {
     let (from, to) = match draw.below(64) {
         0 => (1_000, 4_001),
-        1 => (MEAN_OF as u64 - 8, MEAN_OF as u64 + 12),
+        1 => (MEAN_OVER as u64 - 8, MEAN_OVER as u64 + 12),
         2..=3 => (100, 1_000),
         4..=23 => (8, 100),
         24..=43 => (6, 11),

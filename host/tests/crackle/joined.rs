@@ -7,7 +7,7 @@ use cathar_host::cathar;
 use cathar_host::count::{Class, Count};
 use cathar_host::original;
 use cathar_host::recording::{blocks, entry_words};
-use cathar_host::whole::{floats, magnitudes, needed, opening_floor, redrawn, Start, MEAN_OF};
+use cathar_host::whole::{floats, magnitudes, needed, opening_floor, redrawn, Start, MEAN_OVER};
 use cathar_host::wrong::flags;
 use std::fmt;
 use std::ops::Range;
@@ -270,20 +270,24 @@ pub const CLASSES: &[Class<Joined>] = &[
         holds: |j| j.start == Start::Mean && j.as_original && j.flagged() > 0,
     },
     Class { name: "the old start would flag others", least: 10_000, holds: |j| j.other_by_old },
-    Class { name: "from the mean, of 1,024 or fewer", least: 500, holds: |j| j.is_mean_of(900..MEAN_OF + 1) },
-    Class { name: "from the mean, of more", least: 500, holds: |j| j.is_mean_of(MEAN_OF + 1..5_000) },
+    Class { name: "from the mean, of 1,024 or fewer", least: 500, holds: |j| j.is_mean_of(900..MEAN_OVER + 1) },
+    Class { name: "from the mean, of more", least: 500, holds: |j| j.is_mean_of(MEAN_OVER + 1..5_000) },
 ];
 
 /// What the recordings of about as many samples as the mean is of have to be.
 pub const BESIDE: &[Class<Joined>] = &[
     Class { name: "recordings", least: 8_000, holds: |_| true },
-    Class { name: "of 1,023", least: 1_000, holds: |j| j.is_mean_of(MEAN_OF - 1..MEAN_OF) },
-    Class { name: "of 1,024", least: 1_000, holds: |j| j.is_mean_of(MEAN_OF..MEAN_OF + 1) },
-    Class { name: "of 1,025", least: 1_000, holds: |j| j.is_mean_of(MEAN_OF + 1..MEAN_OF + 2) },
-    Class { name: "of 1,026", least: 1_000, holds: |j| j.is_mean_of(MEAN_OF + 2..MEAN_OF + 3) },
+    Class { name: "of 1,023", least: 1_000, holds: |j| j.is_mean_of(MEAN_OVER - 1..MEAN_OVER) },
+    Class { name: "of 1,024", least: 1_000, holds: |j| j.is_mean_of(MEAN_OVER..MEAN_OVER + 1) },
+    Class { name: "of 1,025", least: 1_000, holds: |j| j.is_mean_of(MEAN_OVER + 1..MEAN_OVER + 2) },
+    Class { name: "of 1,026", least: 1_000, holds: |j| j.is_mean_of(MEAN_OVER + 2..MEAN_OVER + 3) },
     Class { name: "from the mean, flagged", least: 1_000, holds: |j| j.start == Start::Mean && j.flagged() > 0 },
-    Class { name: "place 1,023 flagged, of more", least: 20, holds: |j| j.n > MEAN_OF && j.is_flagged(MEAN_OF - 1) },
-    Class { name: "place 1,024 flagged", least: 20, holds: |j| j.is_flagged(MEAN_OF) },
+    Class {
+        name: "place 1,023 flagged, of more",
+        least: 20,
+        holds: |j| j.n > MEAN_OVER && j.is_flagged(MEAN_OVER - 1),
+    },
+    Class { name: "place 1,024 flagged", least: 20, holds: |j| j.is_flagged(MEAN_OVER) },
     Class { name: "from the old start", least: 4_000, holds: |j| j.start == Start::Old },
 ];
 

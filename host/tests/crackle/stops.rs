@@ -8,7 +8,7 @@ use cathar_host::crackle::{given, Call, STATE_WORDS};
 use cathar_host::draw::Draw;
 use cathar_host::recording::{Answer, MOST_SAMPLES};
 use cathar_host::room::Room;
-use cathar_host::whole::{Start, MEAN_OF};
+use cathar_host::whole::{Start, MEAN_OVER};
 
 /// Words that are not in range: the next above the loudest, infinities, and NaN, a signalling one among them.
 const BAD: [u32; 6] = [0x4780_0001, 0xc780_0001, 0x7f80_0000, 0xff80_0000, 0x7fc0_0000, 0xff80_0001];
@@ -56,7 +56,7 @@ fn brought(calls: &mut Calls, draw: &mut Draw, standing: Standing, case: &Case) 
     let first = piece(draw, case.taken, 0);
     run.piece_again(calls, draw, &first);
     let (longer, bad) = (piece(draw, total - case.taken + 1, 0), piece(draw, 1, 1));
-    let enough = vec![9; 16 + MEAN_OF];
+    let enough = vec![9; 16 + MEAN_OVER];
     match standing {
         Standing::StoppedByRange => drop(run.piece(calls, &bad, enough)),
         Standing::StoppedByMore => drop(run.piece(calls, &longer, enough)),
@@ -70,7 +70,7 @@ fn brought(calls: &mut Calls, draw: &mut Draw, standing: Standing, case: &Case) 
 /// refused.
 fn follow(calls: &mut Calls, draw: &mut Draw, run: &mut Run) {
     for _ in 0..3 {
-        let (bytes, start) = ([0, 1, 2, MEAN_OF + 1][draw.below(4) as usize], cuts::start(draw));
+        let (bytes, start) = ([0, 1, 2, MEAN_OVER + 1][draw.below(4) as usize], cuts::start(draw));
         let bytes = room(draw, bytes);
         match draw.below(5) {
             0 => run.piece(calls, &[], bytes),
@@ -103,7 +103,7 @@ fn try_case(calls: &mut Calls, draw: &mut Draw, standing: Standing, case: &Case)
     let samples = piece(draw, case.n, case.bad);
     let bytes = room(draw, case.room);
     if run.piece(calls, &samples, bytes).number() == 6 {
-        let bytes = room(draw, case.n + MEAN_OF);
+        let bytes = room(draw, case.n + MEAN_OVER);
         run.piece(calls, &samples, bytes);
     }
     follow(calls, draw, &mut run);
@@ -112,7 +112,7 @@ fn try_case(calls: &mut Calls, draw: &mut Draw, standing: Standing, case: &Case)
 
 /// How many samples are in: few, and from the mean also about as many as it is of.
 const TAKEN: [usize; 4] = [0, 1, 2, 9];
-const BESIDE: [usize; 6] = [MEAN_OF - 3, MEAN_OF - 2, MEAN_OF - 1, MEAN_OF, MEAN_OF + 1, MEAN_OF + 2];
+const BESIDE: [usize; 6] = [MEAN_OVER - 3, MEAN_OVER - 2, MEAN_OVER - 1, MEAN_OVER, MEAN_OVER + 1, MEAN_OVER + 2];
 
 /// Tries every choice: how many samples are in, how long the piece is and whether it fits, which of its samples are not
 /// in range, how much room there is, and how the run stands.
@@ -145,9 +145,9 @@ fn begin_any(calls: &mut Calls, draw: &mut Draw, run: &mut Run) {
         run.begin(calls, draw.below(20) as usize, sensitivity, start);
         return;
     }
-    let total = MEAN_OF - 4 + draw.below(16) as usize;
+    let total = MEAN_OVER - 4 + draw.below(16) as usize;
     run.begin(calls, total, sensitivity, start);
-    let taken = (MEAN_OF - 6 + draw.below(8) as usize).min(total);
+    let taken = (MEAN_OVER - 6 + draw.below(8) as usize).min(total);
     let samples = piece(draw, taken, 0);
     run.piece_again(calls, draw, &samples);
 }

@@ -7,7 +7,7 @@ use cathar_host::crackle::{self, RUN_WORDS};
 use cathar_host::draw::Draw;
 use cathar_host::recording::MOST_SAMPLES;
 use cathar_host::room;
-use cathar_host::whole::MEAN_OF;
+use cathar_host::whole::MEAN_OVER;
 
 /// Floats on which something turns: zeros, subnormals, infinities and NaN of every kind.
 const TURNS: [u32; 16] = [
@@ -78,19 +78,19 @@ fn start(draw: &mut Draw) -> u32 {
 /// The words of the values: any; of a quiet sound; or those of one, of which one or some are others.
 fn values(draw: &mut Draw) -> Vec<u32> {
     if draw.below(8) == 0 {
-        return room::words(draw, MEAN_OF);
+        return room::words(draw, MEAN_OVER);
     }
     let (loud, spread) = (part(draw) * 1e-3, [u64::MAX, u64::MAX, 1_024, 64][draw.below(4) as usize]);
     let mut value = |_| match draw.below(spread) {
         0 => TURNS[draw.below(TURNS.len() as u64) as usize],
         _ => (loud * part(draw)).to_bits(),
     };
-    (0..MEAN_OF).map(&mut value).collect()
+    (0..MEAN_OVER).map(&mut value).collect()
 }
 
 /// Any words of a state.
 fn state(draw: &mut Draw) -> Vec<u32> {
-    let of_mean = MEAN_OF as u32 + 2;
+    let of_mean = MEAN_OVER as u32 + 2;
     let near = [8, 30, of_mean, of_mean + 6, MOST_SAMPLES as u32, u32::MAX][draw.below(6) as usize];
     let total = count(draw, near);
     let last = if near == of_mean + 6 { of_mean } else { total };

@@ -5,7 +5,7 @@ use cathar_host::count::Class;
 use cathar_host::damage;
 use cathar_host::draw::Draw;
 use cathar_host::shapes::{bent, least_limit, Shape};
-use cathar_host::whole::{flagged, floats, magnitudes, opening_floor, Repair, Start, MEAN_OF};
+use cathar_host::whole::{flagged, floats, magnitudes, opening_floor, Repair, Start, MEAN_OVER};
 use std::ops::Range;
 
 /// Of so many samples, every choice of those that are flagged is tried.
@@ -22,13 +22,13 @@ pub fn each(draw: &mut Draw, put: &mut dyn FnMut(&mut Draw, &[u32])) {
 }
 
 /// Numbers of samples beside the one that the mean is of.
-pub const BESIDE: Range<usize> = MEAN_OF - 2..MEAN_OF + 4;
+pub const BESIDE: Range<usize> = MEAN_OVER - 2..MEAN_OVER + 4;
 
 /// So many samples of a shape, with clicks before the place of which the mean is the last, behind it, or anywhere; at
 /// times all of them are made subnormal.
 pub fn beside(draw: &mut Draw, shape: Shape, n: usize) -> Vec<u32> {
     let mut samples = shape.samples(draw, n);
-    let last = n.min(MEAN_OF) - 1;
+    let last = n.min(MEAN_OVER) - 1;
     match draw.below(4) {
         0 => damage::click(draw, &mut samples[..last]),
         1 => damage::click(draw, &mut samples[last..]),
@@ -129,7 +129,7 @@ fn opening(call: &Call) -> f32 {
 
 /// Whether a sample is flagged in a recording of more samples than the mean is of, at a place that is so.
 fn flags_of_more(call: &Call, so: impl Fn(usize) -> bool) -> bool {
-    call.n() > MEAN_OF && any_run(call, |run| run.clone().any(&so))
+    call.n() > MEAN_OVER && any_run(call, |run| run.clone().any(&so))
 }
 
 /// Whether the other start flags other samples.
@@ -148,18 +148,18 @@ pub const FROM_MEAN: &[Class<Call>] = &[
     Class { name: "mean raised to 1e-6", least: 2_000, holds: |c| c.is_accepted() && c.n() > 7 && opening(c) == 1e-6 },
     Class { name: "mean raised, and a sample flagged", least: 500, holds: |c| c.names() && opening(c) == 1e-6 },
     Class { name: "mean above 1e-6, and a sample flagged", least: 10_000, holds: |c| c.names() && opening(c) > 1e-6 },
-    Class { name: "on 1,023 samples", least: 50, holds: |c| c.names() && c.n() == MEAN_OF - 1 },
-    Class { name: "on 1,024 samples", least: 50, holds: |c| c.names() && c.n() == MEAN_OF },
-    Class { name: "on 1,025 samples", least: 50, holds: |c| c.names() && c.n() == MEAN_OF + 1 },
-    Class { name: "on 1,026 samples", least: 50, holds: |c| c.names() && c.n() == MEAN_OF + 2 },
+    Class { name: "on 1,023 samples", least: 50, holds: |c| c.names() && c.n() == MEAN_OVER - 1 },
+    Class { name: "on 1,024 samples", least: 50, holds: |c| c.names() && c.n() == MEAN_OVER },
+    Class { name: "on 1,025 samples", least: 50, holds: |c| c.names() && c.n() == MEAN_OVER + 1 },
+    Class { name: "on 1,026 samples", least: 50, holds: |c| c.names() && c.n() == MEAN_OVER + 2 },
     Class {
         name: "flagged within the first 1,024 of more",
         least: 500,
-        holds: |c| flags_of_more(c, |at| at < MEAN_OF),
+        holds: |c| flags_of_more(c, |at| at < MEAN_OVER),
     },
-    Class { name: "flagged at place 1,023 of more", least: 50, holds: |c| flags_of_more(c, |at| at + 1 == MEAN_OF) },
-    Class { name: "flagged at place 1,024", least: 50, holds: |c| flags_of_more(c, |at| at == MEAN_OF) },
-    Class { name: "flagged behind the first 1,024", least: 500, holds: |c| flags_of_more(c, |at| at >= MEAN_OF) },
+    Class { name: "flagged at place 1,023 of more", least: 50, holds: |c| flags_of_more(c, |at| at + 1 == MEAN_OVER) },
+    Class { name: "flagged at place 1,024", least: 50, holds: |c| flags_of_more(c, |at| at == MEAN_OVER) },
+    Class { name: "flagged behind the first 1,024", least: 500, holds: |c| flags_of_more(c, |at| at >= MEAN_OVER) },
     Class { name: "other samples than from the old start", least: 5_000, holds: differs_from_old },
     Class { name: "none, and some from the old start", least: 2_000, holds: |c| !c.names() && differs_from_old(c) },
     Class { name: "all subnormal", least: 50, holds: |c| c.is_accepted() && is_subnormal(c) },

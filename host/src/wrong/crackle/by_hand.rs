@@ -3,7 +3,7 @@ use crate::crackle::{word, Areas, Call, Run, RUN_WORDS, STATE_WORDS};
 use crate::lent::crackle::Crackle;
 use crate::lent::GUARDS;
 use crate::recording::{in_range, Answer, MOST_SAMPLES};
-use crate::whole::{Start, MEAN_OF};
+use crate::whole::{Start, MEAN_OVER};
 use crate::wrong::opening;
 
 /// What is not allowed of a call: the run does not go on, there are too many samples or, at the end, too few, the room
@@ -119,7 +119,7 @@ pub(super) const RULES: Rules = Rules {
     writes: |run| run.holds_back(),
     written: word,
     end_writes: true,
-    releases: |known| known == MEAN_OF,
+    releases: |known| known == MEAN_OVER,
     opening: opening::right,
     left: |_, floor| floor,
     moves_in_hold: false,
@@ -193,7 +193,7 @@ impl Hand<'_> {
     /// At work on these areas. A word of the state that is not there is taken as 1.
     fn new<'a>(areas: &Areas, run: Run, n: usize, rules: &'a Rules) -> Hand<'a> {
         let held = areas.state.iter().copied().chain([1; STATE_WORDS + 1]).skip(RUN_WORDS);
-        let held = if (rules.holds)(&run) { held.take(MEAN_OF + 1).collect() } else { Vec::new() };
+        let held = if (rules.holds)(&run) { held.take(MEAN_OVER + 1).collect() } else { Vec::new() };
         Hand { run, held, written: Vec::new(), flags: Vec::new(), n, rules }
     }
 

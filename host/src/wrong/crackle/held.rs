@@ -4,7 +4,7 @@ use super::by_hand::{call_by, flags_by, make_by, Rules, RULES};
 use super::{altered, given, good_part, ANNOUNCED, ANY, CUT, LONGEST, RELEASED, STOPPED};
 use crate::crackle::{given as given_when, word, Areas, Call, Run, RUN_WORDS, STATE_WORDS};
 use crate::lent::crackle::Crackle;
-use crate::whole::{Start, MEAN_OF};
+use crate::whole::{Start, MEAN_OVER};
 use crate::wrong::opening;
 use crate::wrong::How::{Detector, Detectors, Throughout};
 use crate::wrong::{Finds, Standin, Table};
@@ -121,7 +121,7 @@ const HELD: &[Standin] = &[
     hand!(
         "crackle_end_needs_1024",
         "the end needs room for 1,024 flags where any are held back",
-        Rules { end_needs: |run| if run.holds_back() { MEAN_OF } else { run.brought_by_end() }, ..RULES },
+        Rules { end_needs: |run| if run.holds_back() { MEAN_OVER } else { run.brought_by_end() }, ..RULES },
     ),
     hand!("crackle_end_does_not_write", "the end does not write the last value", Rules { end_writes: false, ..RULES }),
     hand!("crackle_old_start_writes", "from the old start values are written too", OLD_START_WRITES),
@@ -166,7 +166,7 @@ const HELD: &[Standin] = &[
     ),
     after!("crackle_empty_writes_value", "an empty piece writes a value too", |lent, before, call, answer| {
         let taken = before.state.get(1).map_or(0, |taken| *taken as usize);
-        if (call, answer) == (Call::Piece, 0) && before.piece.is_empty() && taken > 0 && taken <= MEAN_OF {
+        if (call, answer) == (Call::Piece, 0) && before.piece.is_empty() && taken > 0 && taken <= MEAN_OVER {
             lent.state.lend()[RUN_WORDS + taken - 1] = 0;
         }
         answer
@@ -174,7 +174,7 @@ const HELD: &[Standin] = &[
     hand!(
         "crackle_held_again",
         "flags are held back again after 2,048 samples",
-        Rules { holds: |run| run.start == Start::Mean && run.taken as usize % (2 * MEAN_OF) <= MEAN_OF, ..RULES },
+        Rules { holds: |run| run.start == Start::Mean && run.taken as usize % (2 * MEAN_OVER) <= MEAN_OVER, ..RULES },
     ),
 ];
 
@@ -220,20 +220,20 @@ const RELEASES: &[Standin] = &[
     hand!(
         "crackle_release_needs_more",
         "where flags were held back a piece needs room for 1,024 beside its own",
-        Rules { needs: |run, n| if releases(run, n) { n + MEAN_OF } else { run.brought_by(n) }, ..RULES },
+        Rules { needs: |run, n| if releases(run, n) { n + MEAN_OVER } else { run.brought_by(n) }, ..RULES },
     ),
     hand!(
         "crackle_writes_on",
         "values are written on when the flags are given",
-        Rules { writes: |run| run.start == Start::Mean && run.taken as usize <= MEAN_OF + 1, ..RULES },
+        Rules { writes: |run| run.start == Start::Mean && run.taken as usize <= MEAN_OVER + 1, ..RULES },
     ),
     after!(
         "crackle_writes_round",
         "values are written on from the first place when the flags are given",
         |lent, before, call, answer| {
             let run = run_of(before);
-            if (call, answer) == (Call::Piece, 0) && run.start == Start::Mean && run.taken as usize > MEAN_OF {
-                lent.state.lend()[RUN_WORDS + (run.taken as usize - 1) % MEAN_OF] = 0x3f80_0000;
+            if (call, answer) == (Call::Piece, 0) && run.start == Start::Mean && run.taken as usize > MEAN_OVER {
+                lent.state.lend()[RUN_WORDS + (run.taken as usize - 1) % MEAN_OVER] = 0x3f80_0000;
             }
             answer
         }
@@ -248,15 +248,15 @@ const RELEASES: &[Standin] = &[
     after!(
         "crackle_release_gives_held_only",
         "only those that were held back are given",
-        |lent, before, call, answer| { released(lent, before, call, answer, |flags, _| flags[..MEAN_OF].to_vec()) }
+        |lent, before, call, answer| { released(lent, before, call, answer, |flags, _| flags[..MEAN_OVER].to_vec()) }
     ),
     after!("crackle_release_turned_round", "those that were held back come last", |lent, before, call, answer| {
-        released(lent, before, call, answer, |flags, _| [&flags[MEAN_OF..], &flags[..MEAN_OF]].concat())
+        released(lent, before, call, answer, |flags, _| [&flags[MEAN_OVER..], &flags[..MEAN_OVER]].concat())
     }),
     after!("crackle_release_misses_last", "the flag of the 1,024th is 0", |lent, before, call, answer| {
         released(lent, before, call, answer, |flags, _| {
             let mut flags = flags.to_vec();
-            flags[MEAN_OF - 1] = 0;
+            flags[MEAN_OVER - 1] = 0;
             flags
         })
     }),
@@ -347,7 +347,7 @@ const RELEASES_THROUGHOUT: &[Standin] = &[
 const LONG: &[Standin] = &[hand!(
     "crackle_held_by_16_digits",
     "flags are held back where the last 16 binary digits of what is in are 1,024 or less",
-    Rules { holds: |run| run.start == Start::Mean && (run.taken & 0xffff) as usize <= MEAN_OF, ..RULES },
+    Rules { holds: |run| run.start == Start::Mean && (run.taken & 0xffff) as usize <= MEAN_OVER, ..RULES },
 )];
 
 /// What a refusal leaves of what is held back.
@@ -446,7 +446,7 @@ const BEGINS: &[Standin] = &[
     hand!("crackle_begin_swapped", "an announcement takes the other start than is told", BEGIN_SWAPPED),
     hand!("crackle_state_of_8", "a state of 8 words is enough", Rules { words: |_| RUN_WORDS, ..RULES }),
     hand!("crackle_state_of_8_for_old", "for the old start a state of 8 words is enough", STATE_OF_8_FOR_OLD),
-    hand!("crackle_state_of_1024", "a state of 1,024 words is enough", Rules { words: |_| MEAN_OF, ..RULES },),
+    hand!("crackle_state_of_1024", "a state of 1,024 words is enough", Rules { words: |_| MEAN_OVER, ..RULES },),
     after!("crackle_begin_clears_held", "an announcement clears the values", |lent, _, call, answer| {
         if is_begun(call, answer) {
             lent.state.lend()[RUN_WORDS..STATE_WORDS].fill(0);
@@ -476,7 +476,7 @@ const BEGINS: &[Standin] = &[
         "with the new start a total under 1,024 is refused by 4",
         |lent, before, call, answer| {
             match call {
-                Call::Begin { total, start: Start::Mean, .. } if answer == 0 && total < MEAN_OF => {
+                Call::Begin { total, start: Start::Mean, .. } if answer == 0 && total < MEAN_OVER => {
                     lent.put(before);
                     4
                 }
@@ -592,14 +592,14 @@ const RIGHT: &[Standin] = &[hand!(
 const NOT_HELD: Rules =
     Rules { holds: |_| false, writes: |_| false, needs: as_old, end_needs: |run| usize::from(run.taken > 0), ..RULES };
 const HELD_WHERE_MORE_COME: Rules = Rules {
-    holds: |run| run.holds_back() && run.total as usize > MEAN_OF,
-    needs: |run, n| if run.total as usize > MEAN_OF { run.brought_by(n) } else { as_old(run, n) },
-    end_needs: |run| if run.total as usize > MEAN_OF { run.brought_by_end() } else { at_most_one(run) },
+    holds: |run| run.holds_back() && run.total as usize > MEAN_OVER,
+    needs: |run, n| if run.total as usize > MEAN_OVER { run.brought_by(n) } else { as_old(run, n) },
+    end_needs: |run| if run.total as usize > MEAN_OVER { run.brought_by_end() } else { at_most_one(run) },
     ..RULES
 };
 const OLD_START_HELD: Rules = Rules {
-    holds: |run| run.taken as usize <= MEAN_OF,
-    writes: |run| run.taken as usize <= MEAN_OF,
+    holds: |run| run.taken as usize <= MEAN_OVER,
+    writes: |run| run.taken as usize <= MEAN_OVER,
     needs: |run, n| Run { start: Start::Mean, ..*run }.brought_by(n),
     end_needs: |run| Run { start: Start::Mean, ..*run }.brought_by_end(),
     opening: opening::least,
@@ -608,21 +608,21 @@ const OLD_START_HELD: Rules = Rules {
 const HELD_NEEDS_ROOM: Rules = Rules { needs: |run, n| run.brought_by(n).max(as_old(run, n)), ..RULES };
 const END_GIVES_LAST_ONLY: Rules =
     Rules { end_needs: at_most_one, end_gives: |_, flags| flags.last().copied().into_iter().collect(), ..RULES };
-const OLD_START_WRITES: Rules = Rules { writes: |run| run.taken as usize <= MEAN_OF, ..RULES };
+const OLD_START_WRITES: Rules = Rules { writes: |run| run.taken as usize <= MEAN_OVER, ..RULES };
 const OF_1023: Rules = Rules {
-    holds: |run| holds_for(run, MEAN_OF - 1),
-    writes: |run| holds_for(run, MEAN_OF - 1),
-    releases: |known| known == MEAN_OF - 1,
-    needs: |run, n| needs_for(run, n, MEAN_OF - 1),
-    end_needs: |run| end_needs_for(run, MEAN_OF - 1),
+    holds: |run| holds_for(run, MEAN_OVER - 1),
+    writes: |run| holds_for(run, MEAN_OVER - 1),
+    releases: |known| known == MEAN_OVER - 1,
+    needs: |run, n| needs_for(run, n, MEAN_OVER - 1),
+    end_needs: |run| end_needs_for(run, MEAN_OVER - 1),
     ..RULES
 };
 const OF_1025: Rules = Rules {
-    holds: |run| holds_for(run, MEAN_OF + 1),
-    writes: |run| holds_for(run, MEAN_OF + 1),
-    releases: |known| known == MEAN_OF + 1,
-    needs: |run, n| needs_for(run, n, MEAN_OF + 1),
-    end_needs: |run| end_needs_for(run, MEAN_OF + 1),
+    holds: |run| holds_for(run, MEAN_OVER + 1),
+    writes: |run| holds_for(run, MEAN_OVER + 1),
+    releases: |known| known == MEAN_OVER + 1,
+    needs: |run, n| needs_for(run, n, MEAN_OVER + 1),
+    end_needs: |run| end_needs_for(run, MEAN_OVER + 1),
     opening: opening::of_all,
     ..RULES
 };
