@@ -128,7 +128,7 @@ impl Run {
         taken - given(self.start, taken)
     }
 
-    /// Whether the flag of the last sample is held back, whatever comes next.
+    /// Whether the detector's value at the place of the last sample, once it is known, is not judged by itself.
     pub fn holds_back(self) -> bool {
         self.start == Start::Mean && self.taken as usize <= MEAN_OVER
     }
@@ -150,8 +150,8 @@ impl Run {
         values.into_iter().map(|value| self.judge(value)).collect()
     }
 
-    /// At the place of the last sample this is the detector's value. Its flag, or where it is held back the value stands
-    /// in its place; with the last that the mean is of come the flags of all.
+    /// At the place of the last sample this is the detector's value. Its flag, or where it is held back the value
+    /// stands in its place; with the last that the mean is of come the flags of all.
     fn know(&mut self, value: f32, held: &mut [u32]) -> Vec<u8> {
         if !self.holds_back() {
             return vec![self.judge(value)];

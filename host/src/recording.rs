@@ -1,6 +1,6 @@
-//! A recording as document 01 has it: samples, marks, journal and used, and what opening, undo and the end
-//! of a repair make of them; and of document 02 the second opening, of request P2, the counts, of request P5, and mark 7,
-//! of request P7. It is written from the documents' text alone, and to be seen right rather than to be fast, so that the
+//! A recording as document 01 has it: samples, marks, journal and used, and what opening, undo and the end of a repair
+//! make of them; and of document 02 the second opening, of request P2, the counts, of request P5, and mark 7, of
+//! request P7. It is written from the documents' text alone, and to be seen right rather than to be fast, so that the
 //! library can be held to it.
 
 /// The most samples of a recording that is not turned away.

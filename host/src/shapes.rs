@@ -158,9 +158,9 @@ fn size_beside_limit(draw: &mut Draw) -> usize {
     }
 }
 
-/// Hands on any sound with a click at one place, as high as it can be without being flagged, and one step higher, where it
-/// is; and the sensitivity. Nothing, where no click is so. Where its place is one of those that the mean is of, the mean
-/// has a say in it.
+/// Hands on any sound with a click at one place, as high as it can be without being flagged, and one step higher,
+/// where it is; and the sensitivity. Nothing, where no click is so. Where its place is one of those that the mean is
+/// of, the mean has a say in it.
 pub fn beside_limit(draw: &mut Draw, start: Start, put: &mut dyn FnMut(&mut Draw, &[u32], f32)) {
     let n = size_beside_limit(draw);
     let shape = [Shape::Noise, Shape::Tone, Shape::Quiet, Shape::Steps][draw.below(4) as usize];

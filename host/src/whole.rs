@@ -32,8 +32,8 @@ pub enum Repair {
 }
 
 impl Repair {
-    /// "3 cubic declip, 4 decrackle, 5 dequantize (either form)"; and of the new start "this sets mark 7", while the old
-    /// one "keeps mark 4".
+    /// "3 cubic declip, 4 decrackle, 5 dequantize (either form)"; and of the new start "this sets mark 7", while the
+    /// old one "keeps mark 4".
     pub fn mark(self) -> u8 {
         match self {
             Repair::Declip { .. } => 3,
@@ -88,8 +88,8 @@ impl Repair {
         }
     }
 
-    /// The same samples got in another way, where there is one: of decrackle from the old start by the curve, and from the
-    /// new one by the original, where the mean is raised to 1e-6, so that the floor starts as the original's does.
+    /// The same samples got in another way, where there is one: of decrackle from the old start by the curve, and from
+    /// the new one by the original, where the mean is raised to 1e-6, so that the floor starts as the original's does.
     fn after_otherwise(self, samples: &[f32]) -> Option<Vec<f32>> {
         match self {
             Repair::Decrackle { sensitivity, start: Start::Old } => {
@@ -102,8 +102,8 @@ impl Repair {
         }
     }
 
-    /// The named places with the words that the original writes there, where it knows the repair. It writes nowhere else,
-    /// so that none of the samples that change is missing among those named.
+    /// The named places with the words that the original writes there, where it knows the repair. It writes nowhere
+    /// else, so that none of the samples that change is missing among those named.
     fn rewritten(self, words: &[u32]) -> Vec<(usize, u32)> {
         let samples = floats(words);
         let after = self.after(&samples);
@@ -180,9 +180,9 @@ pub fn magnitudes(samples: &[f32]) -> Vec<f32> {
     (0..n).map(|i| f32::abs(value(i))).collect()
 }
 
-/// The floor before the first place, by these magnitudes, of which there are as many as the mean is of, or else all. Old:
-/// "floor starts at 1e-6." New: "start from the f32 mean of the first 1,024 detector magnitudes (all of them if fewer),
-/// summed in order and divided once, raised to 1e-6 if below."
+/// The floor before the first place, by these magnitudes, of which there are as many as the mean is of, or else all.
+/// Old: "floor starts at 1e-6." New: "start from the f32 mean of the first 1,024 detector magnitudes (all of them if
+/// fewer), summed in order and divided once, raised to 1e-6 if below."
 pub fn opening_floor(start: Start, magnitudes: &[f32]) -> f32 {
     match start {
         Start::Old => 1e-6,

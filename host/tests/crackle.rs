@@ -1,8 +1,8 @@
 //! The crackle detector in pieces against the model of its calls, from either start: every answer and value, and every
-//! byte of state, piece and room, with what stands around each lent area. Beside the model each call is held to an account
-//! of what was given before it, and the flags of all calls joined to those of the whole recording: worked out by the
-//! documents' rules, as the original Rust shows them by what it rewrites, where the floor starts as the original's does,
-//! and as the library's own decrackle names them.
+//! byte of state, piece and room, with what stands around each lent area. Beside the model each call is held to an
+//! account of what was given before it, and the flags of all calls joined to those of the whole recording: worked out
+//! by the documents' rules, as the original Rust shows them by what it rewrites, where the floor starts as the
+//! original's does, and as the library's own decrackle names them.
 //!
 //! `CATHAR_SEED` sets the seed.
 mod crackle {
@@ -60,7 +60,8 @@ fn give_both(
     }
 }
 
-/// Every cut of few samples, with empty pieces and without; and of 8 and 9 samples with every choice of those that bend.
+/// Every cut of few samples, with empty pieces and without; and of 8 and 9 samples with every choice of those that
+/// bend.
 fn every_cut((calls, recordings): (&mut Calls, &mut Recordings), draw: &mut Draw) {
     for n in 0..=cuts::EVERY_EMPTY {
         cuts::each_with_empty(n, &mut |lengths| {
@@ -371,8 +372,9 @@ fn by_hand_from_the_mean() {
     calls.close(0);
 }
 
-/// By hand, from the mean: 1,026 samples of which place 3 is 1, at sensitivity 10. No flag comes with 1,024 samples, 1,024
-/// come with the next, and one each with the last and at the end. The sum of the values is 2, and the mean 1/512.
+/// By hand, from the mean: 1,026 samples of which place 3 is 1, at sensitivity 10. No flag comes with 1,024 samples,
+/// 1,024 come with the next, and one each with the last and at the end. The sum of the values is 2, and the mean
+/// 1/512.
 #[test]
 fn by_hand_of_1026() {
     let mut calls = Count::new("the crackle detector by hand", &[]);

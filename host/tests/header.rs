@@ -129,12 +129,18 @@ fn number(text: &str) -> u64 {
     number.unwrap_or_else(|_| panic!("no number: {text}"))
 }
 
-/// A constant of a file in Rattle.
+/// A constant of a file in Rattle, or of the crate that it uses it of: a number, or a sum of numbers and such
+/// constants.
 fn constant(name: &str, of: &str) -> u64 {
     let text = text(of);
     let line = text.lines().find(|line| line.trim_start_matches("pub ").starts_with(&format!("const {name}: ")));
-    let line = line.unwrap_or_else(|| panic!("{of} has no {name}"));
-    number(line.trim_end_matches(';').rsplit(' ').next().expect("a number"))
+    if let Some((_, sum)) = line.and_then(|line| line.trim_end_matches(';').split_once(" = ")) {
+        let is_number = |part: &str| part.starts_with(|c: char| c.is_ascii_digit());
+        return sum.split(" + ").map(|part| if is_number(part) { number(part) } else { constant(part, of) }).sum();
+    }
+    let used = text.lines().find_map(|line| line.strip_prefix("use ")?.strip_suffix(&format!("::{name};")));
+    let used = used.unwrap_or_else(|| panic!("{of} has no {name}"));
+    constant(name, &format!("crates/{used}/src/lib.rt"))
 }
 
 /// `TooMany` as `TOO_MANY`.

@@ -1,8 +1,9 @@
 //! Sequences of all calls on a recording, opened in either way, against the model of the recording and the original
 //! Rust, with undo among them: after every call the answer and value, every byte of the lent memory with what stands
-//! around each part of it, that the counts are those of the marks, and that every sample marked as measured or as not
-//! received has its raw word and was so marked at first. After the last call the repairs that survive are made alone on a fresh copy of the raw recording,
-//! opened in the same way, by both sides, and have to leave the same; and then all is undone.
+//! around each part of it, that the counts are those of the marks, that every entry has the mark of its repair, and
+//! that every sample marked as measured or as not received has its raw word and was so marked at first. After the last
+//! call the repairs that survive are made alone on a fresh copy of the raw recording, opened in the same way, by both
+//! sides, and have to leave the same; and then all is undone.
 //!
 //! `CATHAR_SEED` sets the seed.
 mod sequences {

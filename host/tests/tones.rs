@@ -17,8 +17,8 @@ const SENSITIVITIES: [f32; 3] = [1.0, 5.0, 10.0];
 /// How many samples of the tones of amplitude 0.5 the old start redraws, at each of the sensitivities.
 const BY_OLD_START: [[usize; 3]; 5] = [[94, 144, 778], [97, 157, 811], [94, 157, 813], [96, 158, 839], [97, 160, 923]];
 
-/// The sine of so many parts of a whole turn, of which there are so many: by its power series within a quarter of a turn,
-/// so that it is the same on every machine.
+/// The sine of so many parts of a whole turn, of which there are so many: by its power series within a quarter of a
+/// turn, so that it is the same on every machine.
 fn sine(parts: usize, turn: usize) -> f64 {
     let (parts, sign) = (parts % turn, if 2 * (parts % turn) < turn { 1.0 } else { -1.0 });
     let half = if 2 * parts < turn { 2 * parts } else { 2 * parts - turn };

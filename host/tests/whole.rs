@@ -318,9 +318,9 @@ fn sums() {
     }
 }
 
-/// Request P7 by hand. Of the 9 samples above the detector is 1 at place 4 and 1/2 beside it, so that the mean is 2/9. At
-/// sensitivity 9 the limit from there is about 2/3: place 4 alone stands out. Of a steady tone of 8 samples the old start
-/// flags places 1, 3 and 5, and the new one, whose mean is 5/8 and which flags from above 7 times as much, none.
+/// Request P7 by hand. Of the 9 samples above the detector is 1 at place 4 and 1/2 beside it, so that the mean is 2/9.
+/// At sensitivity 9 the limit from there is about 2/3: place 4 alone stands out. Of a steady tone of 8 samples the old
+/// start flags places 1, 3 and 5, and the new one, whose mean is 5/8 and which flags from above 7 times as much, none.
 #[test]
 fn sums_from_the_mean() {
     let mut one = [0.0; 9];

@@ -41,8 +41,8 @@ pub enum Task {
     Scan,
     /// A repair over the whole recording. The original does not know decrackle from the mean.
     Whole(Repair),
-    /// The flags of a recording that comes in pieces of so many samples, from this start. In the original's place the host
-    /// works them out on the whole recording.
+    /// The flags of a recording that comes in pieces of so many samples, from this start. In the original's place the
+    /// host works them out on the whole recording.
     Pieces { len: usize, start: Start },
     /// The undo of a repair that named all samples but two. The original has none.
     Undo,

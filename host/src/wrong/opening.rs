@@ -58,7 +58,7 @@ pub(super) fn from_second(values: &[f32]) -> f32 {
 
 /// The mean of the values without the two ends.
 pub(super) fn without_ends(values: &[f32]) -> f32 {
-    mean(&values[1..(values.len() - 1).max(2).min(MEAN_OVER)])
+    mean(&values[1..(values.len() - 1).clamp(2, MEAN_OVER)])
 }
 
 /// The sum without place 0, where the value is 0: the mean is the same.
@@ -147,9 +147,11 @@ pub(super) fn not_raised(values: &[f32]) -> f32 {
 }
 
 pub(super) fn raised_from_0(values: &[f32]) -> f32 {
-    match not_raised(values) {
-        mean if mean == 0.0 => 1e-6,
-        mean => mean,
+    let mean = not_raised(values);
+    if mean == 0.0 {
+        1e-6
+    } else {
+        mean
     }
 }
 

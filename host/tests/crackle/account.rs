@@ -41,8 +41,9 @@ impl Account {
         Account { standing, total: 0, sensitivity: 1.0, start: Start::Old, samples, flags }
     }
 
-    /// How many flags have to be given once so many samples are in: "flags come one sample late", since at the last one
-    /// the detector's value is not known yet; and the new start "holds back flags until 1,024 detector values [..] are in".
+    /// How many flags have to be given once so many samples are in: "flags come one sample late", since at the last
+    /// one the detector's value is not known yet; and the new start "holds back flags until 1,024 detector values [..]
+    /// are in".
     fn due(&self, samples: usize) -> usize {
         let values = samples.saturating_sub(1);
         if self.start == Start::Mean && values < MEAN_OVER {
@@ -52,8 +53,8 @@ impl Account {
         }
     }
 
-    /// How many flags a call has to give that is not refused: those that are due and were not given, or at the end all that
-    /// were not given.
+    /// How many flags a call has to give that is not refused: those that are due and were not given, or at the end all
+    /// that were not given.
     pub fn gives(&self, call: Call, piece: usize) -> usize {
         match call {
             Call::Begin { .. } => 0,
@@ -121,9 +122,9 @@ impl Account {
     }
 }
 
-/// The values that a call may write, by their places: from the mean, and as far as their flags are held back, that of the
-/// last sample that is in and those of the samples of the piece but the last; at the end that of the last. No other call
-/// writes any, and no refusal.
+/// The values that a call may write, by their places: from the mean, and as far as their flags are held back, that of
+/// the last sample that is in and those of the samples of the piece but the last; at the end that of the last. No
+/// other call writes any, and no refusal.
 fn values(before: &Areas, call: Call, answer: Answer) -> Range<usize> {
     let run = match before.state.get(..RUN_WORDS) {
         Some(words) if answer.number() == 0 => Run::read(words),

@@ -26,7 +26,8 @@ pub fn start(draw: &mut Draw) -> Start {
     Start::BOTH[draw.below(2) as usize]
 }
 
-/// How many samples: mostly few, and often about 8; at times some hundred or thousand, or about as many as the mean is of.
+/// How many samples: mostly few, and often about 8; at times some hundred or thousand, or about as many as the mean is
+/// of.
 pub fn length(draw: &mut Draw) -> usize {
     let (from, to) = match draw.below(64) {
         0 => (1_000, 4_001),
@@ -73,8 +74,8 @@ pub fn each_of(n: usize, length: usize) -> Vec<usize> {
     lengths
 }
 
-/// Hands on every cut of n samples in two, and every one in three of which both cuts are among the last places, from this
-/// one on.
+/// Hands on every cut of n samples in two, and every one in three of which both cuts are among the last places, from
+/// this one on.
 pub fn each_in_two(n: usize, last: usize, put: &mut dyn FnMut(Vec<usize>)) {
     for first in 0..=n {
         put(vec![first, n - first]);

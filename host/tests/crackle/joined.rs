@@ -1,6 +1,6 @@
-//! All flags of a recording joined, against those of the whole, by what the model of the calls has no part in: the flags
-//! worked out over the whole recording, what the original rewrites in it, where it starts as the original does, and what
-//! the library's own decrackle names in it.
+//! All flags of a recording joined, against those of the whole, by what the model of the calls has no part in: the
+//! flags worked out over the whole recording, what the original rewrites in it, where it starts as the original does,
+//! and what the library's own decrackle names in it.
 use super::feed::Given;
 use cathar_host::both::Wrong;
 use cathar_host::cathar;
@@ -92,8 +92,8 @@ fn stands_out(samples: &[f32], sensitivity: f32, start: Start) -> bool {
     flags(&longer, sensitivity, start)[..samples.len().saturating_sub(1)].contains(&true)
 }
 
-/// What is known of a whole recording: its flags, what the original leaves of it, where the floor starts as the original's
-/// does, and what the library's decrackle makes of it.
+/// What is known of a whole recording: its flags, what the original leaves of it, where the floor starts as the
+/// original's does, and what the library's decrackle makes of it.
 struct Whole {
     samples: Vec<f32>,
     flags: Vec<bool>,
@@ -115,8 +115,8 @@ impl Whole {
         (0..self.samples.len()).filter(changes)
     }
 
-    /// Whether all that the original changes is flagged, and rewriting the flagged runs leaves what the original leaves. So
-    /// a sample that is flagged and that the original does not change is one whose new word is the old one.
+    /// Whether all that the original changes is flagged, and rewriting the flagged runs leaves what the original
+    /// leaves. So a sample that is flagged and that the original does not change is one whose new word is the old one.
     fn is_rewritten_by(&self, given: &[bool]) -> [bool; 2] {
         let ours = || patterns(&redrawn(&self.samples, given));
         match &self.original {

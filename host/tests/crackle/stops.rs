@@ -32,8 +32,8 @@ pub fn piece(draw: &mut Draw, n: usize, bad: usize) -> Vec<u32> {
     samples
 }
 
-/// A piece that is to be tried: from which start, how many samples are in and how many were announced, how many it has and
-/// which of these are not in range, and how much room there is.
+/// A piece that is to be tried: from which start, how many samples are in and how many were announced, how many it has
+/// and which of these are not in range, and how much room there is.
 #[derive(Clone, Copy)]
 struct Case {
     start: Start,
@@ -138,7 +138,8 @@ pub fn any_room(draw: &mut Draw, needed: usize) -> Vec<u8> {
     room(draw, length)
 }
 
-/// A run of any total is announced, at times of about as many samples as the mean is of, and then most of them are given.
+/// A run of any total is announced, at times of about as many samples as the mean is of, and then most of them are
+/// given.
 fn begin_any(calls: &mut Calls, draw: &mut Draw, run: &mut Run) {
     let (sensitivity, start) = (cuts::sensitivity(draw), cuts::start(draw));
     if draw.below(16) != 0 {

@@ -145,8 +145,8 @@ impl History {
         [joined.iter().any(|survivor| survivor.over), joined.iter().any(|survivor| survivor.over_missing)]
     }
 
-    /// The repairs that a call has made have to set the mark that the documents' table gives them: in their entries, and, as
-    /// far as a later one has not named them again, in their samples.
+    /// The repairs that a call has made have to set the mark that the documents' table gives them: each in its entry,
+    /// and the last of them in its samples.
     fn wrongly_marked(&self, before: &Recording, outcome: &Outcome) -> Wrong {
         let (mut start, mut entered, mut marked) = (before.used, true, true);
         let Recording { marks, journal, .. } = &self.both.model;

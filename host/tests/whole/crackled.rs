@@ -1,5 +1,5 @@
-//! Recordings for decrackle: every way in which few samples can be flagged, clicks that stand out of what is around them,
-//! and recordings of about as many samples as the mean is of.
+//! Recordings for decrackle: every way in which few samples can be flagged, clicks that stand out of what is around
+//! them, and recordings of about as many samples as the mean is of.
 use super::calls::Call;
 use cathar_host::count::Class;
 use cathar_host::damage;

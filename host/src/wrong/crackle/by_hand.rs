@@ -28,8 +28,8 @@ pub(super) struct Rules {
     pub total: fn(usize) -> usize,
     pub no_setting: fn(f32) -> bool,
     pub held: fn(f32) -> f32,
-    /// The number of an announcement's refusal, by whether there are too many samples and the setting is not allowed; and
-    /// which start it takes for the one that it is told.
+    /// The number of an announcement's refusal, by whether there are too many samples and the setting is not allowed;
+    /// and which start it takes for the one that it is told.
     pub announced: fn(bool, bool) -> u32,
     pub begins: fn(Start) -> Start,
     /// Of the third word, whether the run goes on, and of the eighth, where its floor starts.
@@ -60,15 +60,15 @@ pub(super) struct Rules {
     pub at_cut: Option<fn(&Run, f32) -> f32>,
     pub at_end: fn(&Run) -> f32,
     pub magnitude: fn(f32) -> f32,
-    /// Whether the flag of the last sample is held back; whether its value is written, and how, and whether it is at the
-    /// end; and whether the flags are given when so many values are known.
+    /// Whether the flag of the last sample is held back; whether its value is written, and how, and whether it is at
+    /// the end; and whether the flags are given when so many values are known.
     pub holds: fn(&Run) -> bool,
     pub writes: fn(&Run) -> bool,
     pub written: fn(f32) -> u32,
     pub end_writes: bool,
     pub releases: fn(usize) -> bool,
-    /// What the floor starts from, by the values that were held back; and what is left of it when they are judged, by that
-    /// and by the floor then. Whether it moves as long as they are held back.
+    /// What the floor starts from, by the values that were held back; and what is left of it when they are judged, by
+    /// that and by the floor then. Whether it moves as long as they are held back.
     pub opening: fn(&[f32]) -> f32,
     pub left: fn(f32, f32) -> f32,
     pub moves_in_hold: bool,
@@ -147,8 +147,8 @@ pub(super) fn first(numbers: &[(u32, bool)]) -> u32 {
     numbers.iter().find(|(_, applies)| *applies).map_or(0, |(number, _)| *number)
 }
 
-/// What came of a call: its answer, the run that is written in the state, if one is, the words that are written behind it,
-/// each with its place among the values, and the flags.
+/// What came of a call: its answer, the run that is written in the state, if one is, the words that are written behind
+/// it, each with its place among the values, and the flags.
 struct Done {
     answer: Answer,
     run: Option<Run>,

@@ -1,5 +1,5 @@
-//! Stand-ins for the crackle detector that are wrong in where its floor starts, in which flags are held back for that and
-//! until when, and in the values that a state keeps meanwhile.
+//! Stand-ins for the crackle detector that are wrong in where its floor starts, in which flags are held back for that
+//! and until when, and in the values that a state keeps meanwhile.
 use super::by_hand::{call_by, flags_by, make_by, Rules, RULES};
 use super::{altered, given, good_part, ANNOUNCED, ANY, CUT, LONGEST, RELEASED, STOPPED};
 use crate::crackle::{given as given_when, word, Areas, Call, Run, RUN_WORDS, STATE_WORDS};
@@ -695,8 +695,8 @@ fn last_held(before: &Areas) -> Option<usize> {
     (before.state.len() >= STATE_WORDS && run.holds_back()).then_some(run.taken as usize)?.checked_sub(1)
 }
 
-/// Where a piece gave flags that were held back, it gives others, of these and the number of its samples. The room behind
-/// them is as it was.
+/// Where a piece gave flags that were held back, it gives others, of these and the number of its samples. The room
+/// behind them is as it was.
 fn released(lent: &mut Crackle, before: &Areas, call: Call, answer: u32, gives: fn(&[u8], usize) -> Vec<u8>) -> u32 {
     if is_release(before, call, answer) {
         let flags = gives(&lent.flags()[..given(lent, answer)], before.piece.len());

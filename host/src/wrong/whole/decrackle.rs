@@ -215,7 +215,11 @@ const OF_OLD_START: &[Standin] = &[
 
 /// What gives the same.
 const RIGHT_MEAN: &[Standin] = &[
-    mean!("decrackle_mean_without_place_0", "place 0 is not summed, where the detector is 0", opening::without_place_0,),
+    mean!(
+        "decrackle_mean_without_place_0",
+        "place 0, where the detector is 0, is not summed",
+        opening::without_place_0
+    ),
     hand!("decrackle_by_hand", "decrackle written by hand, by rules that are right", RULES),
 ];
 
