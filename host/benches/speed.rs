@@ -110,7 +110,7 @@ fn each_repair() {
 
 /// Crackle in pieces, of a hundredth of a second and of one sample, from either start, as the samples double.
 fn pieces() {
-    for (start, what) in [(Start::Old, "crackle"), (Start::Mean, "crackle from the mean")] {
+    for (start, what) in [(Start::Old, "crackle"), (Start::Mean, "from the mean")] {
         for len in [PIECE, 1] {
             let line = |n| (format!("{n:>12} samples"), Task::Pieces { len, start }, n);
             let lines = doubled(FEWEST, MOST_SAMPLES).map(line).collect();

@@ -172,12 +172,11 @@ pub fn fills(samples: &[f32], threshold: f32) -> Vec<Range<usize>> {
 
 /// The detector's magnitudes at all places. "Detector 0 at both ends, elsewhere s[i]−0.5*(s[i−1]+s[i+1])."
 pub fn magnitudes(samples: &[f32]) -> Vec<f32> {
-    let n = samples.len();
-    let value = |i: usize| match i {
-        _ if i == 0 || i == n - 1 => 0.0,
-        _ => samples[i] - 0.5 * (samples[i - 1] + samples[i + 1]),
-    };
-    (0..n).map(|i| f32::abs(value(i))).collect()
+    let mut found = vec![0.0; samples.len()];
+    for (before, three) in samples.windows(3).enumerate() {
+        found[before + 1] = f32::abs(three[1] - 0.5 * (three[0] + three[2]));
+    }
+    found
 }
 
 /// The floor before the first place, by these magnitudes, of which there are as many as the mean is of, or else all.
@@ -197,17 +196,18 @@ pub fn opening_floor(start: Start, magnitudes: &[f32]) -> f32 {
 /// Which samples decrackle flags. "Sensitivity not NaN, held to 1..10; factor 12−sensitivity. Under 8 samples:
 /// nothing named. [..] floor=floor*(1−0.001)+a*0.001, then flag if a>factor*max(floor,1e-6)."
 pub fn flags(samples: &[f32], sensitivity: f32, start: Start) -> Vec<bool> {
+    let mut flags = vec![false; samples.len()];
     if samples.len() < 8 {
-        return vec![false; samples.len()];
+        return flags;
     }
     let factor = 12.0 - sensitivity.clamp(1.0, 10.0);
     let magnitudes = magnitudes(samples);
     let mut floor = opening_floor(start, &magnitudes);
-    let mut flag = |a: f32| {
+    for (flag, a) in flags.iter_mut().zip(magnitudes) {
         floor = floor * (1.0 - 0.001) + a * 0.001;
-        a > factor * floor.max(1e-6)
-    };
-    magnitudes.into_iter().map(&mut flag).collect()
+        *flag = a > factor * floor.max(1e-6);
+    }
+    flags
 }
 
 /// The runs of places that decrackle flags, in their order.
