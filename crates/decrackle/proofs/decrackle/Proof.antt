@@ -97,8 +97,8 @@ returns-2 c =
     let at = laid .before in
     let a = start at .args in
     whole-done _ (a .work .now) (recording at) _ (at .begin .ensures .0) (marked .mark-for .result) (decrackled (a .start) (a .sensitivity)) _
-    (decrackle-is _ _ _ _ (recording at) (marked .mark-for .ensures)) _ _ _ _ _ (after end) (told .enum-told .given .1) (at .begin .ensures .1) (laid .work .given)
-    (drawn .before .draw .ensures) (drawn .work2 .given) (end .finish .ensures .0) (end .finish .ensures .1)
+    (decrackle-is _ _ _ _ (recording at) (marked .mark-for .ensures)) _ _ _ _ _ (after end) (told .enum-told .given .1) (at .begin .ensures .1)
+    (laid .work .given) (drawn .before .draw .ensures) (drawn .work2 .given) (end .finish .ensures .0) (end .finish .ensures .1)
 
 pub decrackle-spec : {M : Type 1} → statement M
 decrackle-spec =
