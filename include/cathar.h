@@ -1,6 +1,6 @@
 /* The functions of libcathar.a, for programs on x86-64 Linux, with names for limits, marks and answers, and
- * functions that say how much memory a call needs. examples/repair.c, examples/gaps.c and examples/crackle.c are such
- * programs, each with the command that compiles it.
+ * functions that say how much memory a call needs. examples/repair.c, examples/gaps.c, examples/crackle.c and
+ * examples/propose.c are such programs, each with the command that compiles it.
  *
  * Each is total: it asks nothing of its arguments but what C asks of a pointer, always returns, and touches
  * no memory but its own stack and what is lent to it. What each gives and leaves in that memory is proved,
@@ -56,7 +56,7 @@ float cathar_round(float x);
  * An area and its length, in elements, follow each other. Each area has at least the length given for it. No
  * pointer is null, not even that of an area of length 0; each is aligned for its type; and no two areas
  * overlap, used, value, order and yes among them, nor a workspace, a list of orders, qualified or repaired, nor the
- * lists of several gaps.
+ * lists of several gaps, nor a proposal.
  *
  * A sample is in range if it is finite and its magnitude is at most CATHAR_LOUDEST. */
 #define CATHAR_MOST_SAMPLES 1048576     /* the most samples of a recording */
@@ -77,7 +77,7 @@ float cathar_round(float x);
 #define CATHAR_CRACKLE_STATE 1032       /* the words that a run of the crackle detector needs between its calls */
 
 /* The marks. A repair names the samples that it writes, and no others. Each gets its result, which may be the word
- * that it had, and the repair's mark, which is 1 to 5 or 7. So, where nothing but these calls writes a recording, a
+ * that it had, and the repair's mark, which is 1 to 5, 7 or 8. So, where nothing but these calls writes a recording, a
  * mark of these tells which repair was the last to name the sample; and a sample that is marked as measured or as not
  * received was so marked when the recording was opened, and has the word that it was opened with.
  *
@@ -93,6 +93,7 @@ float cathar_round(float x);
 #define CATHAR_MARK_DEQUANTIZE 5        /* in either form */
 #define CATHAR_MARK_NOT_RECEIVED 6      /* the frame that it was in did not arrive; no repair sets this mark */
 #define CATHAR_MARK_DECRACKLE_FROM_MEAN 7
+#define CATHAR_MARK_DECLIP_PROPOSED 8   /* made by another program, and taken because it keeps to the rule */
 
 /* The counts are for cathar_measured alone, and are the library's between calls: who writes marks or counts gets
  * answers from it that say nothing. Both openings set all of them. An accepted repair that names a sample, and an
@@ -106,9 +107,9 @@ static inline size_t cathar_counts(size_t n)
 
 /* The answers. Each call on a recording, the question cathar_measured, the reading of frames and the calls of the
  * crackle detector answer CATHAR_ACCEPTED, and else the number of the refusal. Where several apply, it is the first in
- * the list of the call's refusals: they are tested in the order of their numbers, but 14 directly after 1, and 4 of
- * cathar_inpaint_gaps before all others. The crackle detector tests 13 before 6 and 7, and 6 for a state that is too
- * short before all else.
+ * the list of the call's refusals: they are tested in the order of their numbers, but 14 directly after 1, 15 before
+ * 9, and 4 of cathar_inpaint_gaps before all others. The crackle detector tests 13 before 6 and 7, and 6 for a state
+ * that is too short before all else.
  *
  * A call that is refused leaves samples, marks, counts, journal and used as they were. Of its workspace 8 and 9 leave
  * the needed part cleared, and the others leave all of it. A scan, cathar_inpaint_auto, is several repairs, and answers
@@ -130,6 +131,7 @@ static inline size_t cathar_counts(size_t n)
 #define CATHAR_REFUSED_FRAMES 12        /* frames: the input is not whole frames, or samples or marks lack room */
 #define CATHAR_REFUSED_PIECES 13        /* crackle: more samples than announced, fewer at the end, or the run is over */
 #define CATHAR_REFUSED_BLOCKS 14        /* the number of counts is not that of the blocks */
+#define CATHAR_REFUSED_PROPOSAL 15      /* the proposal has another length than the recording, or breaks the rule */
 
 /* Reads what the bus sent, frames_n bytes, into the samples and marks of a recording, which cathar_open_received
  * then opens. A frame is CATHAR_FRAME_BYTES bytes: its number, of 16 bits, and then CATHAR_FRAME_WORDS words of 32
@@ -161,9 +163,9 @@ uint32_t cathar_read_frames(const uint8_t *frames, size_t frames_n, uint32_t *sa
  *   then the mark that the repair set.
  * For so many repairs of n samples, whatever they name, this gives as many words as are enough, a scan counting as
  * one repair, and a list of gaps as one for each gap. (Those over the whole recording never name the first and the
- * last sample; where they name all others, as cathar_dequantize does, k of them take k times 3(n-2)+2 words. The runs
- * of a scan take most where two zeros stand directly before CATHAR_HELD_RUN equal words, again and again: 55 words for
- * each 18 samples.) */
+ * last sample; where they name all others, as cathar_dequantize does, k of them take k times 3(n-2)+2 words. A proposal
+ * may name every sample, and takes 3n+2 words then. The runs of a scan take most where two zeros stand directly before
+ * CATHAR_HELD_RUN equal words, again and again: 55 words for each 18 samples.) */
 static inline size_t cathar_journal_words(size_t n, size_t repairs)
 {
     return repairs * (3 * n + n / (CATHAR_HELD_RUN + 2) + 2);
@@ -205,7 +207,7 @@ uint32_t cathar_open_received(const uint32_t *samples, size_t n, uint8_t *marks,
  *   a place is not below n,
  *   places do not strictly rise,
  *   an old mark exceeds 255, or
- *   the set mark is not 1 to 5 or 7. */
+ *   the set mark is not 1 to 5, 7 or 8. */
 uint32_t cathar_undo(uint32_t *samples, size_t n, uint8_t *marks, size_t marks_n,
                      uint16_t *counts, size_t counts_n, uint32_t *journal, size_t journal_n, size_t *used,
                      size_t *value);
@@ -396,6 +398,28 @@ uint32_t cathar_dequantize_cosparse(uint32_t *samples, size_t n, uint8_t *marks,
                                     uint32_t *journal, size_t journal_n, size_t *used,
                                     uint32_t bits, float strength, uint32_t iterations,
                                     uint32_t *work, size_t work_n, size_t *value);
+
+/* Takes another program's proposal for the clipped samples: mark 8. Nothing of it is trusted. It is looked at word by
+ * word, and taken only where every word keeps to the rule:
+ *   of a sample whose magnitude is under the threshold the proposal has the very word, all 32 bits;
+ *   a sample at or above the threshold is answered by one that is in range and at or above it;
+ *   a sample at or below the negative threshold by one that is in range and at or below that.
+ * So, whoever made the proposal, an accepted one changes no sample under the threshold, and leaves every other in range
+ * and on its side of it. What the original's project_gamma makes of candidates that are in range or NaN is always
+ * accepted, where the recording is in range and the journal has room.
+ * proposal is proposal_n words, each the pattern of a float; it is only read. Named are all samples whose magnitude is
+ * at or above the threshold, also those whose proposed word is the one that they had. To name none is no refusal, and
+ * makes no entry in the journal. There is no workspace.
+ * value receives the number m of named samples where it was accepted, which may be 0, for refusal 7 the lowest place
+ * whose sample is not in range, for refusal 15 the lowest place that breaks the rule, or 0 where proposal_n is not n,
+ * and 0 for the others; what it held has no say.
+ * Refusals: 1, 14, 2, 3, 4, 7, 15, 9. Refusal 4 is given where threshold is a NaN, an infinity, or not above 0. Every
+ * sample is read. Refusal 15 is given where
+ *   proposal_n is not n, or
+ *   a word of the proposal breaks the rule. */
+uint32_t cathar_declip_proposed(uint32_t *samples, size_t n, uint8_t *marks, size_t marks_n,
+                                uint16_t *counts, size_t counts_n, uint32_t *journal, size_t journal_n, size_t *used,
+                                float threshold, const uint32_t *proposal, size_t proposal_n, size_t *value);
 
 /* The crackle detector flags samples as the sound arrives, when there is no whole recording yet for cathar_decrackle.
  * A run of it is announced by cathar_crackle_begin, or for the old start by cathar_crackle_begin_old_start, with the

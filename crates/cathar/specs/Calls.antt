@@ -18,11 +18,12 @@ use Rattle.declip.specs.Declip.{declipRepair}
 use Rattle.decrackle.specs.declared.Start.{Start}
 use Rattle.decrackle.specs.Decrackle.{decrackleRepair}
 use Rattle.dequant.specs.Dequant.{dequantizeRepair, cosparseRepair}
+use Rattle.proposed.specs.Proposed.{proposedRepair}
 use Rattle.crackle.specs.Pieces.{Told}
 use Rattle.frames.specs.Frames.{Delivered}
 
 -- a call with its settings and the workspace that it is lent: doubles for a gap, for several and for the automatic scan, 32-bit words for
--- the repairs over the whole recording. To several gaps lists for their answers are lent, too.
+-- the repairs over the whole recording. To several gaps lists for their answers are lent, too. A proposal needs no workspace.
 pub data Call : Type 0 where
   gap : (start len passes : ℕ) → List Float → Call
   gaps : (starts lens : List ℕ) (passes : ℕ) → List Float → AnswerLists → Call
@@ -31,6 +32,7 @@ pub data Call : Type 0 where
   decrackle : (start : Start) (sensitivity : Float) → List ℕ → Call
   dequantize : (bits : ℕ) (strength : Float) → List ℕ → Call
   cosparse : (bits : ℕ) (strength : Float) (iterations : ℕ) → List ℕ → Call
+  proposed : (threshold : Float) (proposal : List ℕ) → Call
   undo : Call
 
 -- the workspace after a call
@@ -50,7 +52,7 @@ pub record Outcome : Type 0 where
 abbrev pub outcome : ℕ → List ℕ → State → Work → Outcome
 outcome k figures s w = record { number = k; figures = figures; after = s; work = w }
 
--- most calls give one figure: m, or the place for 7 and 8
+-- most calls give one figure: m, or the place for 7, 8 and 15
 abbrev pub told : Ended → Work → Outcome
 told e w = outcome (number (e .answer)) (value (e .answer) ∷ []) (e .after) w
 
@@ -72,6 +74,7 @@ ran (declip threshold work) s = redrawn s work (declipRepair threshold (length w
 ran (decrackle start sensitivity work) s = redrawn s work (decrackleRepair start sensitivity (length work) s)
 ran (dequantize bits strength work) s = redrawn s work (dequantizeRepair bits strength (length work) s)
 ran (cosparse bits strength iterations work) s = redrawn s work (cosparseRepair bits strength iterations (length work) s)
+ran (proposed threshold proposal) s = told (proposedRepair threshold proposal s) none
 ran undo s = told (undone s) none
 
 -- beside it the answers of several gaps stand in their lists

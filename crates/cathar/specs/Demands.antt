@@ -24,7 +24,9 @@ use Rattle.splice.specs.Several.{spans, AnswerLists, listsWrong}
 use Rattle.declip.specs.Declip.{declipPlan}
 use Rattle.decrackle.specs.Decrackle.{decracklePlan}
 use Rattle.dequant.specs.Dequant.{dequantizePlan, cosparsePlan}
-use Rattle.cathar.specs.Calls.{Call, gap, gaps, scan, declip, decrackle, dequantize, cosparse, undo, ran, Opening, opens, opening}
+use Rattle.proposed.specs.Proposed.{proposedPlan}
+use Rattle.cathar.specs.Calls.{Call, gap, gaps, scan, declip, decrackle, dequantize, cosparse, proposed, undo, ran}
+use Rattle.cathar.specs.Calls.{Opening, opens, opening}
 use Rattle.cathar.specs.Refusals.{turnedAway, openingTurnedAway, canGive, testedByOpening}
 
 -- ---- What a call counts as
@@ -50,6 +52,7 @@ kind (declip threshold work) = repairs (declipPlan threshold (length work))
 kind (decrackle start sensitivity work) = repairs (decracklePlan start sensitivity (length work))
 kind (dequantize bits strength work) = repairs (dequantizePlan bits strength (length work))
 kind (cosparse bits strength iterations work) = repairs (cosparsePlan bits strength iterations (length work))
+kind (proposed threshold proposal) = repairs (proposedPlan threshold proposal)
 kind undo = undoes
 
 -- ---- 1. "Any samples and settings end in a repair or in a numbered refusal, given exactly when its rule says. A refusal changes

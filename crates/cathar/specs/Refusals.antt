@@ -1,4 +1,5 @@
--- "What is turned away": document 01's table and request P5's line 14, a definition for each line, whose words the comments quote. (Refusal 12
+-- "What is turned away": document 01's table with request P5's line 14 and request P9's line 15, a definition for each line, whose words the
+-- comments quote. (Refusal 12
 -- is none of them: it is that of the reader of frames, which is no call on a recording, and stands with its rule in the crate `frames`. So do
 -- the two refusals of the span question, in the crate `recording`.) A line says of what a call asks
 -- for, and of the recording that it finds, whether it applies, whatever the other lines say. "The lowest number that applies is the
@@ -9,6 +10,7 @@ use mathlib.Core.Bool.{Bool, true, false, not, _&&_, _||_}
 use mathlib.Core.List.{List, [], _∷_, _++_}
 use lib.ListN.{length}
 use lib.Dec.{leb, ltb, eqb}
+use lib.Ieee.{Float}
 use Rattle.leaves.specs.Choice.{if_then_else_}
 use Rattle.leaves.specs.Floats.{inRange}
 use Rattle.recording.specs.Recording.{State, Placed, Plan, refuse, change, picked, entrySize, differ, countsWrong, tooMany, overUsed}
@@ -20,7 +22,8 @@ use Rattle.redraw.specs.Whole as whole
 use Rattle.declip.specs.Declip as declips
 use Rattle.decrackle.specs.Decrackle as decrackles
 use Rattle.dequant.specs.Dequant as dequants
-use Rattle.cathar.specs.Calls.{Call, gap, gaps, scan, declip, decrackle, dequantize, cosparse, undo}
+use Rattle.proposed.specs.Proposed as proposals
+use Rattle.cathar.specs.Calls.{Call, gap, gaps, scan, declip, decrackle, dequantize, cosparse, proposed, undo}
 
 -- ---- What a call asks for, as far as the table speaks of it
 
@@ -34,6 +37,8 @@ pub record Asked : Type 0 where
   pub room : ℕ
   -- the words of the samples that it reads
   pub reads : List ℕ
+  -- whether what it proposes has another length, or breaks the rule
+  pub proposalWrong : Bool
   -- the samples that it names, with its results
   pub names : List Placed
   -- whether it is an undo
@@ -53,6 +58,7 @@ redrawing allowed work drawn s =
       needed = whole.needed (length (s .samples));
       room = length work;
       reads = s .samples;
+      proposalWrong = false;
       names = picked 0 (drawn .named) (drawn .words);
       undoes = false;
     }
@@ -60,7 +66,14 @@ redrawing allowed work drawn s =
 -- a call that asks for nothing of a gap, a workspace or samples
 abbrev pub plain : Bool → Bool → Asked
 plain allowed undoes =
-    record { allowed = allowed; gapWrong = false; needed = 0; room = 0; reads = []; names = []; undoes = undoes }
+    record { allowed = allowed; gapWrong = false; needed = 0; room = 0; reads = []; proposalWrong = false; names = []; undoes = undoes }
+
+-- whether one of the samples is not answered as request P9 has it
+unfoldable pub anyUnanswered : Float → List ℕ → List ℕ → Bool
+unfolding proposals.answers
+anyUnanswered threshold [] ps = false
+anyUnanswered threshold (w ∷ ws) [] = false
+anyUnanswered threshold (w ∷ ws) (p ∷ ps) = not (proposals.answers threshold w p) || anyUnanswered threshold ws ps
 
 -- Of a gap "any number [of passes] is allowed", and "Everything in [the window] outside the gap is known and read". What its runs ask for
 -- is not a scan's own affair, nor what its spans ask for that of several gaps, of which only the lists are.
@@ -72,6 +85,7 @@ asked (gap start len passes work) s =
       needed = single.needed (length (s .samples)) start len;
       room = length work;
       reads = single.knownBefore (s .samples) start len ++ single.knownBehind (s .samples) start len;
+      proposalWrong = false;
       names = changed (single.repaired passes (s .samples) start len);
       undoes = false;
     }
@@ -83,6 +97,17 @@ asked (decrackle start sensitivity work) s =
 asked (dequantize bits strength work) s = redrawing (dequants.allowed strength) work (dequants.dequantized bits strength (s .samples)) s
 asked (cosparse bits strength iterations work) s =
     redrawing (dequants.allowed strength) work (dequants.cosparse bits strength iterations (s .samples)) s
+asked (proposed threshold proposal) s =
+    record {
+      allowed = declips.allowed threshold;
+      gapWrong = false;
+      needed = 0;
+      room = 0;
+      reads = s .samples;
+      proposalWrong = not (eqb (length proposal) (length (s .samples))) || anyUnanswered threshold (s .samples) proposal;
+      names = proposals.named threshold (s .samples) proposal;
+      undoes = false;
+    }
 asked undo s = plain true true
 
 -- ---- The lines of the table
@@ -146,9 +171,13 @@ line10 a s = a .undoes && eqb (s .used) 0
 abbrev pub line11 : Asked → State → Bool
 line11 a s = a .undoes && malformed (length (s .samples)) (s .journal) (s .used)
 
+-- 15: "proposal of another length, .. or breaking the rule"
+abbrev pub line15 : Asked → Bool
+line15 a = a .proposalWrong
+
 -- whether the line of this number applies
 unfoldable pub applies : Asked → State → ℕ → Bool
-unfolding anyOut malformed
+unfolding anyOut anyUnanswered malformed
 applies a s k =
     if eqb k 1 then line1 s else
     if eqb k 2 then line2 s else
@@ -162,6 +191,7 @@ applies a s k =
     if eqb k 10 then line10 a s else
     if eqb k 11 then line11 a s else
     if eqb k 14 then line14 s else
+    if eqb k 15 then line15 a else
     false
 
 -- ---- The answer
@@ -171,11 +201,12 @@ unfoldable pub first : (ℕ → Bool) → List ℕ → ℕ
 first applies [] = 0
 first applies (k ∷ ks) = let later = first applies ks in if applies k then k else later
 
--- the order in which the lines are tested: 14 "after 1"
+-- the order in which the lines are tested: 14 "after 1". Line 15 is a proposal's alone.
 abbrev pub tested : List ℕ
 tested = 1 ∷ 14 ∷ 2 ∷ 3 ∷ 4 ∷ 5 ∷ 6 ∷ 7 ∷ 8 ∷ 9 ∷ 10 ∷ 11 ∷ []
 
--- those that a call tests. Of several gaps: "4 first, ..; all others are each span's own", which tests them as a gap by itself does.
+-- those that a call tests. Of several gaps: "4 first, ..; all others are each span's own", which tests them as a gap by itself does. Of a
+-- proposal: "7 for the recording as before; 8 isn't given; 15, .. before 9".
 abbrev pub tests : Call → List ℕ
 tests (gap start len passes work) = tested
 tests (gaps starts lens passes work answers) = 4 ∷ []
@@ -184,6 +215,7 @@ tests (declip threshold work) = tested
 tests (decrackle start sensitivity work) = tested
 tests (dequantize bits strength work) = tested
 tests (cosparse bits strength iterations work) = tested
+tests (proposed threshold proposal) = 1 ∷ 14 ∷ 2 ∷ 3 ∷ 4 ∷ 7 ∷ 15 ∷ 9 ∷ []
 tests undo = tested
 
 -- "It gives refusals 1 and 2 only", and 14 "given by opening and undo too": opening tests these
@@ -211,4 +243,5 @@ canGive (declip threshold work) = 1 ∷ 14 ∷ 2 ∷ 3 ∷ 4 ∷ 6 ∷ 7 ∷ 8 �
 canGive (decrackle start sensitivity work) = 1 ∷ 14 ∷ 2 ∷ 3 ∷ 4 ∷ 6 ∷ 7 ∷ 8 ∷ 9 ∷ []
 canGive (dequantize bits strength work) = 1 ∷ 14 ∷ 2 ∷ 3 ∷ 4 ∷ 6 ∷ 7 ∷ 8 ∷ 9 ∷ []
 canGive (cosparse bits strength iterations work) = 1 ∷ 14 ∷ 2 ∷ 3 ∷ 4 ∷ 6 ∷ 7 ∷ 8 ∷ 9 ∷ []
+canGive (proposed threshold proposal) = 1 ∷ 14 ∷ 2 ∷ 3 ∷ 4 ∷ 7 ∷ 15 ∷ 9 ∷ []
 canGive undo = 1 ∷ 14 ∷ 2 ∷ 3 ∷ 10 ∷ 11 ∷ []

@@ -6,7 +6,7 @@ ghost use mathlib.Core.List.{[], _∷_};
 ghost use lib.ListN.{length};
 ghost use Rattle.leaves.specs.Floats.{narrowed, rounded};
 ghost use Rattle.leaves.specs.Root.{Rooted};
-ghost use Rattle.cathar.specs.Calls.{gap, gaps, answersOf, scan, declip, decrackle, dequantize, cosparse, undo};
+ghost use Rattle.cathar.specs.Calls.{gap, gaps, answersOf, scan, declip, decrackle, dequantize, cosparse, proposed, undo};
 ghost use Rattle.cathar.specs.Calls.{none, doubles, words, outcome, ran};
 ghost use Rattle.cathar.specs.Calls.{asMeasured, asReceived, opening, framesTold, toldOf, spanTold, spanToldOf};
 ghost use Rattle.cathar.specs.Calls.{crackleTold, begunTold, heardTold};
@@ -330,6 +330,36 @@ pub extern "C" fn cathar_dequantize_cosparse(
         strength,
         iterations,
         work,
+    );
+    *value = value_of(answer);
+    number_of(answer)
+}
+
+// Takes another program's proposal for the samples whose magnitude is at or above the threshold, where every
+// word of it keeps to the rule. The number of the refusal, 1 to 4, 7, 9, 14 or 15, or 0; value becomes the
+// number of named samples, the place for 7 and 15, and 0 for the other refusals.
+#[no_mangle]
+pub extern "C" fn cathar_declip_proposed(
+    samples: &mut [u32],
+    marks: &mut [u8],
+    counts: &mut [u16],
+    journal: &mut [u32],
+    used: &mut usize,
+    threshold: f32,
+    proposal: &[u32],
+    value: &mut usize,
+) -> u32
+    ensures { λ r. ⌜ outcome r (now (value .exit) ∷ []) (left samples marks counts journal used) none
+        ≡ ran (proposed threshold (now (proposal .entry))) (lent samples marks counts journal used) ⌝ }
+{
+    let answer = proposed::declip_proposed(
+        samples,
+        marks,
+        counts,
+        journal,
+        used,
+        threshold,
+        proposal,
     );
     *value = value_of(answer);
     number_of(answer)

@@ -25,7 +25,7 @@ use redraw::finish;
 const SHOULDER: usize = 4;
 
 // Refusal 4's test: a threshold lies above 0 and below plus infinity.
-fn threshold_allowed(threshold: f32) -> bool
+pub fn threshold_allowed(threshold: f32) -> bool
     ensures { λ r. ⌜ r ≡ allowed threshold ⌝ }
 {
     if 0.0 < threshold {
@@ -36,7 +36,7 @@ fn threshold_allowed(threshold: f32) -> bool
 }
 
 // Whether a sample's magnitude is at or above the threshold.
-fn is_clipped(threshold: f32, word: u32) -> bool
+pub fn is_clipped(threshold: f32, word: u32) -> bool
     ensures { λ r. ⌜ r ≡ clipped threshold word ⌝ }
 {
     threshold <= magnitude32(f32_of_word(word))

@@ -93,7 +93,7 @@ abbrev pub Ascending : ℕ → ℕ → List Placed → Type 0
 Ascending n least [] = Unit {0}
 Ascending n least (c ∷ cs) = (least ≤ c .place) × (c .place < n) × Ascending n (c .place + 1) cs
 
--- a plan refuses, or sets a mark of 1 to 5 at such places
+-- a plan refuses, or sets one of the marks that a repair sets, at such places
 abbrev pub Keeps : ℕ → Plan → Type 0
 Keeps n (refuse why) = Unit {0}
 Keeps n (change mark cs) = (made mark ≡ true) × Ascending n 0 cs

@@ -31,6 +31,10 @@ notReceived = 6
 abbrev pub decrackleFromMean : ℕ
 decrackleFromMean = 7
 
--- the marks that a repair sets: 1 to 5, and 7. "No repair sets mark 6".
+-- request P9, of declip by a proposal: "mark 8"
+abbrev pub declipProposed : ℕ
+declipProposed = 8
+
+-- the marks that a repair sets: 1 to 5, 7 and 8. "No repair sets mark 6".
 abbrev pub made : ℕ → Bool
-made k = leb gapByModel k && leb k dequantize || eqb k decrackleFromMean
+made k = leb gapByModel k && leb k dequantize || eqb k decrackleFromMean || eqb k declipProposed

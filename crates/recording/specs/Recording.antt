@@ -288,7 +288,8 @@ markPast [] = false
 markPast (t ∷ ts) = ltb 255 (t .mark) || markPast ts
 
 -- 11: "used is 1, m is 0 or more than the samples, 3m+2 exceeds used, a place is not below the number of samples, places do
--- not strictly rise, an old mark exceeds 255, or the set mark is not 1 to 5"
+-- not strictly rise, an old mark exceeds 255, or the set mark is not 1 to 5"; requests P7 and P9: it "now allows a set mark of 7" and "now
+-- allows 8"
 unfoldable pub malformed : ℕ → List ℕ → ℕ → Bool
 unfolding lastSaved placePast notRising markPast
 malformed n journal used =

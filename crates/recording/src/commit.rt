@@ -15,7 +15,7 @@ use super::counts::recount;
 use leaves::words::in_range;
 
 // Place, old word and old mark of one sample, written from journal word `at` on.
-fn save(samples: &[u32], marks: &[u8], journal: &mut [u32], at: usize, place: usize)
+pub fn save(samples: &[u32], marks: &[u8], journal: &mut [u32], at: usize, place: usize)
     requires { ⌜ (at + 3 ≤ length (now journal)) × (place < length (now samples)) × (place < length (now marks)) × (place ≤ mostSamples) ⌝ }
     ensures { λ _. ⌜ now (journal .exit)
         ≡ sets (now (journal .entry)) at (threeWords (saved (now (samples .entry)) (now (marks .entry)) (place ∷ []))) ⌝ }
@@ -26,7 +26,7 @@ fn save(samples: &[u32], marks: &[u8], journal: &mut [u32], at: usize, place: us
 }
 
 // The end of an entry of m saved samples that begins at used: m, and the mark. Used passes it.
-fn seal(journal: &mut [u32], used: &mut usize, m: usize, mark: u8)
+pub fn seal(journal: &mut [u32], used: &mut usize, m: usize, mark: u8)
     requires { ⌜ (now used + (3 * m + 2) ≤ length (now journal)) × (m ≤ mostSamples) ⌝ }
     ensures { λ _. ⌜ (now (journal .exit) ≡ sets (now (journal .entry)) (now (used .entry) + 3 * m) (m ∷ mark ∷ []))
         × (now (used .exit) ≡ now (used .entry) + (3 * m + 2)) ⌝ }

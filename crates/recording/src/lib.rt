@@ -12,7 +12,8 @@ pub mod read;
 pub mod undo;
 
 // Why a call is turned away, in the order of document 01's table, whose first line is number 1. The
-// two range cases carry the lowest place of a sample out of range.
+// two range cases carry the lowest place of a sample out of range, and a proposal's the lowest place that
+// breaks its rule.
 pub enum Reason {
     // 1: marks and samples differ in number.
     Counts,
@@ -43,6 +44,8 @@ pub enum Reason {
     Pieces,
     // 14: the number of counts is not that of the blocks.
     Blocks,
+    // 15: the proposal has another length than the recording, with place 0, or breaks its rule at this place.
+    Proposal(usize),
 }
 
 // How a call ends: accepted, with the number of samples that it named or took back, or refused.

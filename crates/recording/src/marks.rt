@@ -26,7 +26,10 @@ pub const NOT_RECEIVED: u8 = 6;
 // Decrackle redrew it, from the mean.
 pub const DECRACKLE_FROM_MEAN: u8 = 7;
 
-// Whether a journal word is a mark that a repair sets: 1 to 5, and 7.
+// Another program proposed it, for a clipped sample.
+pub const DECLIP_PROPOSED: u8 = 8;
+
+// Whether a journal word is a mark that a repair sets: 1 to 5, 7 and 8.
 pub fn is_made(word: u32) -> bool
     ensures { λ r. ⌜ r ≡ made word ⌝ }
 {
@@ -36,5 +39,8 @@ pub fn is_made(word: u32) -> bool
     if word <= DEQUANTIZE as u32 {
         return true;
     }
-    word == DECRACKLE_FROM_MEAN as u32
+    if word == DECRACKLE_FROM_MEAN as u32 {
+        return true;
+    }
+    word == DECLIP_PROPOSED as u32
 }

@@ -24,16 +24,18 @@ fn reason_number(why: Reason) -> u32
         Reason::Frames => 12,
         Reason::Pieces => 13,
         Reason::Blocks => 14,
+        Reason::Proposal(_) => 15,
     }
 }
 
-// The place that a range case carries, and 0 for the other reasons.
+// The place that a range case or a proposal's carries, and 0 for the other reasons.
 fn reason_place(why: Reason) -> usize
     ensures { λ r. ⌜ r ≡ reasonPlace why ⌝ }
 {
     match why {
         Reason::Read(place) => place,
         Reason::Result(place) => place,
+        Reason::Proposal(place) => place,
         Reason::Counts => 0,
         Reason::TooMany => 0,
         Reason::Used => 0,
@@ -59,7 +61,7 @@ pub fn number_of(answer: Answer) -> u32
     }
 }
 
-// The m of an acceptance, the place of a range refusal, and 0 for the other refusals.
+// The m of an acceptance, the place of a refusal that carries one, and 0 for the other refusals.
 pub fn value_of(answer: Answer) -> usize
     ensures { λ r. ⌜ r ≡ value answer ⌝ }
 {

@@ -10,7 +10,7 @@ use Rattle.recording.proofs.marks.is_made.Statement.{statement}
 use Rattle.recording.proofs.marks.is_made.Tie as tie
 
 none-made : (k : ℕ) → k < 1 → false ≡ made k
-none-made k h = rw (lt-leb 1 k h, ne-eqb k 7 (λ e. omega (arith, e, h))) refl
+none-made k h = rw (lt-leb 1 k h, ne-eqb k 7 (λ e. omega (arith, e, h)), ne-eqb k 8 (λ e. omega (arith, e, h))) refl
 
 cast-if1 : tie.Need-cast-if1
 cast-if1 c = search needs

@@ -1,0 +1,5 @@
+pub mod Proposed
+pub mod Gamma
+pub mod Consequences
+pub mod Inner
+pub mod Examples
