@@ -1,0 +1,2 @@
+-- Laws of declip as proposed by the old host.
+pub mod Gamma

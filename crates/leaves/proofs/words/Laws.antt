@@ -71,7 +71,7 @@ no-nan-word f w h = rw (nanBits-above, le-ltb _ _ h) tt
 -- ---- a sample in range
 
 -- The test for equal numbers is the same either way round.
-eqb-sym : (a b : ℕ) → eqb a b ≡ eqb b a
+pub eqb-sym : (a b : ℕ) → eqb a b ≡ eqb b a
 eqb-sym a b = go (eqb a b) refl
   where
     go : (t : Bool) → eqb a b ≡ t → t ≡ eqb b a
