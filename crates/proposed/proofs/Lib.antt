@@ -1,0 +1,3 @@
+-- Laws of a proposal's rule, and what follows from it.
+pub mod Laws
+pub mod Consequences
