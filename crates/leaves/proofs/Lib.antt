@@ -6,4 +6,5 @@ pub mod Parts
 pub mod Stores
 pub mod Values
 pub mod Rounding
+pub mod Comparing
 pub mod Literals
