@@ -45,16 +45,18 @@ use Rattle.dequant.specs.Dequant.{cosparse as sparse}
 use Rattle.declip.proofs.Consequences.{declip-lawful}
 use Rattle.decrackle.proofs.Consequences.{decrackle-lawful}
 use Rattle.dequant.proofs.Consequences.{dequantize-lawful, cosparse-lawful}
-use Rattle.cathar.specs.Calls.{Call, gap, gaps, scan, declip, decrackle, dequantize, cosparse, undo, Work, Outcome, told, ran}
+use Rattle.proposed.specs.Proposed.{proposedPlan, proposedRepair}
+use Rattle.proposed.proofs.Consequences.{proposed-is-lawful}
+use Rattle.cathar.specs.Calls.{Call, gap, gaps, scan, declip, decrackle, dequantize, cosparse, proposed, undo, Work, Outcome, told, ran}
 use Rattle.cathar.specs.Calls.{Opening, asMeasured, asReceived, opens}
-use Rattle.cathar.specs.Refusals.{plain, asked, applies, anyOut, first, turnedAway, openingTurnedAway, testedByOpening, canGive}
+use Rattle.cathar.specs.Refusals.{plain, asked, applies, anyOut, anyUnanswered, first, turnedAway, openingTurnedAway, testedByOpening, canGive}
 use Rattle.cathar.specs.Demands.{GivenExactlyWhen, OpeningGivenExactlyWhen, OnlyThese, OpeningOnlyThese, RefusalChangesNothing}
 use Rattle.cathar.specs.Demands.{RefusedOpeningChangesNothing, RulesAreLawful, after, AfterAny, Kind, kind, repairs, undoes, scans}
 use Rattle.cathar.specs.Demands.{scanned, counted, rules, CallIsItsRules, Demand2, allRules, Demand3, SurvivorsStand}
 use Rattle.cathar.specs.Demands.{UndoingAll, MeasuredIsRaw, MeasuredWasReceived, RawIsMeasuredOrNotReceived, NotReceivedIsRaw}
 use Rattle.cathar.specs.Demands.{eachOf, Opened, EntriesAreSurvivors, CountsAreWorkedOut, AnswerIsEachMark, YesIsRaw}
 use Rattle.cathar.proofs.Refusals.{first-among, among-more, six-to-nine, opened-keeps, whole-number, gap-number, undo-number}
-use Rattle.cathar.proofs.Refusals.{scan-number, scannable-zero, opening-number}
+use Rattle.cathar.proofs.Refusals.{scan-number, scannable-zero, proposed-number, opening-number}
 use Rattle.cathar.proofs.Spans.{gaps-rules, gaps-number, gaps-keep}
 
 -- ---- A call is its rules
@@ -85,6 +87,11 @@ cosparse-did : (bits : ℕ) (strength : Float) (iterations room : ℕ) (s : Stat
 unfolding cosparseRepair single.did
 cosparse-did bits strength iterations room s = refl
 
+proposed-did : (threshold : Float) (proposal : List ℕ) (s : State)
+    → proposedRepair threshold proposal s ≡ single.did (single.repair (proposedPlan threshold proposal)) s
+unfolding proposedRepair single.did
+proposed-did threshold proposal s = refl
+
 pub undo-did : (s : State) → undone s ≡ single.did single.undo s
 unfolding single.did
 undo-did s = refl
@@ -113,6 +120,7 @@ call-is-its-rules (declip threshold work) s = alone _ s _ (declip-did threshold 
 call-is-its-rules (decrackle start sensitivity work) s = alone _ s _ (decrackle-did start sensitivity (length work) s)
 call-is-its-rules (dequantize bits strength work) s = alone _ s _ (dequantize-did bits strength (length work) s)
 call-is-its-rules (cosparse bits strength iterations work) s = alone _ s _ (cosparse-did bits strength iterations (length work) s)
+call-is-its-rules (proposed threshold proposal) s = alone _ s _ (proposed-did threshold proposal s)
 call-is-its-rules undo s = alone _ s _ (undo-did s)
 
 -- ---- Refusals
@@ -126,6 +134,7 @@ own (declip threshold work) s = number (declipRepair threshold (length work) s .
 own (decrackle start sensitivity work) s = number (decrackleRepair start sensitivity (length work) s .answer)
 own (dequantize bits strength work) s = number (dequantizeRepair bits strength (length work) s .answer)
 own (cosparse bits strength iterations work) s = number (cosparseRepair bits strength iterations (length work) s .answer)
+own (proposed threshold proposal) s = number (proposedRepair threshold proposal s .answer)
 own undo s = number (undone s .answer)
 
 -- is that of the first line that applies
@@ -141,6 +150,7 @@ by-lines (dequantize bits strength work) s =
     whole-number (dequants.allowed strength) (length work) marks.dequantize (dequantized bits strength) s
 by-lines (cosparse bits strength iterations work) s =
     whole-number (dequants.allowed strength) (length work) marks.dequantize (sparse bits strength iterations) s
+by-lines (proposed threshold proposal) s = proposed-number threshold proposal s
 by-lines undo s = undo-number s
 
 -- where there are no runs, the number of the lines is all there is
@@ -181,6 +191,7 @@ given-exactly-when (declip threshold work) s = no-runs _ _ (by-lines (declip thr
 given-exactly-when (decrackle start sensitivity work) s = no-runs _ _ (by-lines (decrackle start sensitivity work) s)
 given-exactly-when (dequantize bits strength work) s = no-runs _ _ (by-lines (dequantize bits strength work) s)
 given-exactly-when (cosparse bits strength iterations work) s = no-runs _ _ (by-lines (cosparse bits strength iterations work) s)
+given-exactly-when (proposed threshold proposal) s = no-runs _ _ (by-lines (proposed threshold proposal) s)
 given-exactly-when undo s = no-runs _ _ (by-lines undo s)
 
 -- ---- The two openings
@@ -208,7 +219,7 @@ opening-given-exactly-when o s = rw (opens-with o s) (opening-number (raw-marks 
 
 -- which numbers there can be: of the lines that a call tests those that can apply to it
 lines-only : (c : Call) (s : State) → (turnedAway c s ≡ 0) ⊎ Among (turnedAway c s) (canGive c)
-unfolding turnedAway first applies anyOut
+unfolding turnedAway first applies anyOut anyUnanswered
 lines-only (gap start len passes work) s = first-among (applies (asked (gap start len passes work) s) s) (canGive (gap start len passes work))
 lines-only (gaps starts lens passes work lists) s =
     first-among (applies (asked (gaps starts lens passes work lists) s) s) (canGive (gaps starts lens passes work lists))
@@ -221,6 +232,7 @@ lines-only (decrackle start sensitivity work) s =
 lines-only (dequantize bits strength work) s = first-among (applies (asked (dequantize bits strength work) s) s) (canGive (dequantize bits strength work))
 lines-only (cosparse bits strength iterations work) s =
     first-among (applies (asked (cosparse bits strength iterations work) s) s) (canGive (cosparse bits strength iterations work))
+lines-only (proposed threshold proposal) s = first-among (applies (asked (proposed threshold proposal) s) s) (canGive (proposed threshold proposal))
 lines-only undo s = first-among (applies (asked undo s) s) (canGive undo)
 
 -- the first refusal of runs, each of which is accepted or refused by 6 to 9
@@ -268,6 +280,7 @@ only-these (decrackle start sensitivity work) s = rw (by-lines (decrackle start 
 only-these (dequantize bits strength work) s = rw (by-lines (dequantize bits strength work) s) (lines-only (dequantize bits strength work) s)
 only-these (cosparse bits strength iterations work) s =
     rw (by-lines (cosparse bits strength iterations work) s) (lines-only (cosparse bits strength iterations work) s)
+only-these (proposed threshold proposal) s = rw (by-lines (proposed threshold proposal) s) (lines-only (proposed threshold proposal) s)
 only-these undo s = rw (by-lines undo s) (lines-only undo s)
 
 pub opening-only-these : OpeningOnlyThese
@@ -295,6 +308,8 @@ refusal-changes-nothing (dequantize bits strength work) s h =
     alone-keeps _ s _ (dequantize-did bits strength (length work) s) (rw (by-lines (dequantize bits strength work) s) h)
 refusal-changes-nothing (cosparse bits strength iterations work) s h =
     alone-keeps _ s _ (cosparse-did bits strength iterations (length work) s) (rw (by-lines (cosparse bits strength iterations work) s) h)
+refusal-changes-nothing (proposed threshold proposal) s h =
+    alone-keeps _ s _ (proposed-did threshold proposal s) (rw (by-lines (proposed threshold proposal) s) h)
 refusal-changes-nothing undo s h = alone-keeps _ s _ (undo-did s) (rw (by-lines undo s) h)
 
 pub refused-opening-changes-nothing : RefusedOpeningChangesNothing
@@ -330,6 +345,7 @@ rules-are-lawful (declip threshold work) s = (declip-lawful threshold (length wo
 rules-are-lawful (decrackle start sensitivity work) s = (decrackle-lawful start sensitivity (length work), tt)
 rules-are-lawful (dequantize bits strength work) s = (dequantize-lawful bits strength (length work), tt)
 rules-are-lawful (cosparse bits strength iterations work) s = (cosparse-lawful bits strength iterations (length work), tt)
+rules-are-lawful (proposed threshold proposal) s = (proposed-is-lawful threshold proposal, tt)
 rules-are-lawful undo s = tt
 
 -- a call that counts as one repair ends as that does, and tells its number and value
@@ -369,6 +385,7 @@ one-repair (declip threshold work) s r h = told-by _ _ _ r s (declip-did thresho
 one-repair (decrackle start sensitivity work) s r h = told-by _ _ _ r s (decrackle-did start sensitivity (length work) s) h
 one-repair (dequantize bits strength work) s r h = told-by _ _ _ r s (dequantize-did bits strength (length work) s) h
 one-repair (cosparse bits strength iterations work) s r h = told-by _ _ _ r s (cosparse-did bits strength iterations (length work) s) h
+one-repair (proposed threshold proposal) s r h = told-by _ _ _ r s (proposed-did threshold proposal s) h
 one-repair undo s r h = absurd (false≢true (ap is-repair h))
 
 -- an answer with the number 0 is an acceptance

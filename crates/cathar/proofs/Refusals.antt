@@ -1,6 +1,6 @@
 -- The table of refusals, as specs/Demands.antt states it: the number that each rule gives is that of the first line that applies.
 -- Assumes nothing.
-use mathlib.Core.Path.{_≡_, refl, ap, _∙_}
+use mathlib.Core.Path.{_≡_, refl, sym, ap, _∙_}
 use mathlib.Core.Bool.{Bool, true, false, not, _&&_, _||_}
 use mathlib.Core.List.{List, [], _∷_, _++_}
 use mathlib.Core.Logic.{_⊎_, inl, inr}
@@ -21,13 +21,18 @@ use Rattle.recording.specs.Recording.{unlessRead, unlessRefused, readable, rang
 use Rattle.recording.specs.Recording.{ended, refused, lastCount, malformed, takenBack, undone}
 use Rattle.recording.specs.Consequences.{Among}
 use Rattle.recording.proofs.open.Laws.{alike-by, fitting-by}
-use Rattle.recording.specs.declared.Reason.the-variants.{Setting, Read, Result, Nothing, Malformed}
+use Rattle.recording.specs.Marks.{declipProposed}
+use Rattle.recording.specs.declared.Reason.the-variants.{Setting, Read, Result, Nothing, Malformed, Proposal}
 use Rattle.recording.specs.declared.Answer.{Answer}
 use Rattle.recording.specs.declared.Answer.the-variants.{Done, Refused}
 use Rattle.inpaint.specs.Gap.{gapWrong, byLine, from, needed, knownBefore, knownBehind, allReadable, repaired, gapPlan, gapRepair}
 use Rattle.inpaint.specs.Auto as auto
 use Rattle.redraw.specs.Whole as whole
-use Rattle.cathar.specs.Refusals.{changed, anyOut, results, first}
+use Rattle.redraw.proofs.Ending.{done-not-refused}
+use Rattle.declip.specs.Declip as declips
+use Rattle.proposed.specs.Proposed.{answers, answered, taken, named, proposedPlan, proposedRepair}
+use Rattle.proposed.proofs.Laws.{taken-ranged}
+use Rattle.cathar.specs.Refusals.{changed, anyOut, anyUnanswered, results, first}
 
 -- ---- The first of several numbers
 
@@ -165,6 +170,67 @@ whole-number allowed room mark draw s =
     go (inl a) b = rw a refl
     go (inr a) (inl b) = rw (a, b) refl
     go (inr a) (inr b) = rw (a, b) (read-number s 0 (s .samples) (change mark cs) (finished s cs) (carried-number s mark cs))
+
+-- what the test of a proposal answers, by whether a sample is not answered as it should be
+unanswered-by : (threshold : Float) (i : ℕ) (ws ps : List ℕ)
+    → ((anyUnanswered threshold ws ps ≡ false) × (answered threshold i ws ps ≡ Done 0))
+    ⊎ ((anyUnanswered threshold ws ps ≡ true) × (place : ℕ) × (answered threshold i ws ps ≡ Refused (Proposal place)))
+unfolding answered anyUnanswered
+unanswered-by threshold i [] ps = inl (refl, refl)
+unanswered-by threshold i (w ∷ ws) [] = inl (refl, refl)
+unanswered-by threshold i (w ∷ ws) (p ∷ ps) =
+    elim (truth (answers threshold w p)) [
+      | inl holds ↦ rw holds (unanswered-by threshold (i + 1) ws ps)
+      | inr fails ↦ rw fails (inr (refl, i, refl))
+    ]
+
+-- line 9, where no result is out of range
+ranged-number : (s : State) (mark : ℕ) (cs : List Placed) → ranged cs ≡ Done 0
+    → number (carried s (change mark cs) .answer)
+    ≡ (let m = length cs in if leb 1 m && ltb (length (s .journal) - s .used) (entrySize m) then 9 else 0)
+ranged-number s mark cs h =
+    elim (ranged-by cs) [
+      | inl g ↦ rw (g .0) at (carried-number s mark cs)
+      | inr n ↦ absurd (done-not-refused 0 _ (sym h ∙ n .2))
+    ]
+
+-- lines 15 and 9 of a proposal
+taken-number : (threshold : Float) (proposal : List ℕ) (s : State)
+    → let samples = s .samples in
+    let cs = named threshold samples proposal in
+    number (carried s (unlessRead (taken threshold samples proposal) (change declipProposed cs)) .answer)
+    ≡ (if not (eqb (length proposal) (length samples)) || anyUnanswered threshold samples proposal then 15 else
+    if leb 1 (length cs) && ltb (length (s .journal) - s .used) (entrySize (length cs)) then 9 else
+    0)
+unfolding carried taken
+taken-number threshold proposal s =
+    elim (truth (eqb (length proposal) (length (s .samples)))) [
+      | inr other ↦ rw other refl
+      | inl same ↦ elim (unanswered-by threshold 0 (s .samples) proposal) [
+        | inr n ↦ rw (same, n .0, n .2) refl
+        | inl g ↦ rw (same, g .0, g .1) (ranged-number s declipProposed _ (taken-ranged threshold (s .samples) proposal 0 (rw (same, taken) (g .1))))
+      ]
+    ]
+
+-- lines 4, 7, 15 and 9 of a proposal
+pub proposed-number : (threshold : Float) (proposal : List ℕ) (s : State)
+    → let samples = s .samples in
+    let cs = named threshold samples proposal in
+    number (proposedRepair threshold proposal s .answer)
+    ≡ sized s
+    (if not (declips.allowed threshold) then 4 else
+    if anyOut samples then 7 else
+    if not (eqb (length proposal) (length samples)) || anyUnanswered threshold samples proposal then 15 else
+    if leb 1 (length cs) && ltb (length (s .journal) - s .used) (entrySize (length cs)) then 9 else
+    0)
+unfolding proposedRepair called performed proposedPlan carried
+proposed-number threshold proposal s =
+    unless-number s (carried s (proposedPlan threshold proposal (s .samples)))
+    ∙ ap (sized s)
+    (elim (truth (not (declips.allowed threshold))) [
+      | inl a ↦ rw a refl
+      | inr a ↦ rw a (read-number s 0 (s .samples) _ _ (taken-number threshold proposal s))
+    ])
 
 -- line 7 of a gap, of which two parts are read
 gap-read-number : (s : State) (start len : ℕ) (rest : Plan) (k : ℕ) → number (carried s rest .answer) ≡ k

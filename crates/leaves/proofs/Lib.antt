@@ -7,4 +7,5 @@ pub mod Stores
 pub mod Values
 pub mod Comparing
 pub mod Rounding
+pub mod Comparing
 pub mod Literals

@@ -1,2 +1,4 @@
--- Laws of declip as proposed by the old host.
+-- Laws of a proposal's rule, and what follows from it.
+pub mod Laws
+pub mod Consequences
 pub mod Gamma

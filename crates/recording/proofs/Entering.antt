@@ -1,7 +1,7 @@
 -- A repair whose plan keeps to its rule: it leaves all as it is, or it enters what it names; and what is then kept.
 -- Assumes nothing.
 use mathlib.Core.Path.{_≡_, refl, sym, ap, _∙_}
-use mathlib.Core.Bool.{true, false, _&&_}
+use mathlib.Core.Bool.{true, false, _&&_, _||_}
 use mathlib.Core.List.{List, [], _∷_}
 use mathlib.Core.Logic.{_⊎_, inl, inr, _≢_}
 use Prim.Native.Nat.{ℕ, _+_, _-_, _≤_, _<_}
@@ -48,9 +48,12 @@ pub record Sound (s : State) : Type 0 where
 -- a mark that a repair sets is a byte
 made-byte : (k : ℕ) → made k ≡ true → k < 256
 made-byte k h =
-    elim (either (leb 1 k && leb k 5) (eqb k 7) h) [
-      | inl e ↦ omega (arith, leb-true k 5 (both-hold (leb 1 k) (leb k 5) e .1))
-      | inr e ↦ omega (arith, eqb-true k 7 e)
+    elim (either (leb 1 k && leb k 5 || eqb k 7) (eqb k 8) h) [
+      | inl e ↦ elim (either (leb 1 k && leb k 5) (eqb k 7) e) [
+        | inl d ↦ omega (arith, leb-true k 5 (both-hold (leb 1 k) (leb k 5) d .1))
+        | inr d ↦ omega (arith, eqb-true k 7 d)
+      ]
+      | inr e ↦ omega (arith, eqb-true k 8 e)
     ]
 
 -- such a repair ends in the commit
