@@ -5,7 +5,6 @@ pub mod Lists
 pub mod Parts
 pub mod Stores
 pub mod Values
-pub mod Comparing
 pub mod Rounding
 pub mod Comparing
 pub mod Literals
