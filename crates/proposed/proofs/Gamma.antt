@@ -57,8 +57,7 @@ answers-by t w p keeps above below =
     kept false e = eq-eqb p w (keeps e)
 
     opened : keepsBits t w p ≡ true → answeredAbove t w p ≡ true → answeredBelow t w p ≡ true → answers t w p ≡ true
-    unfolding answers
-    opened a b c = rw (a, b, c)
+    opened a b c = unfold answers in rw (a, b, c)
 
 clipped-is : (t : Float) (w : ℕ) → clipped t w ≡ le t (magnitude (float w))
 unfolding clipped
@@ -74,8 +73,7 @@ answers-in-range t w p h c =
     ]
   where
     opened : answers t w p ≡ true → keepsBits t w p && answeredAbove t w p && answeredBelow t w p ≡ true
-    unfolding answers
-    opened e = e
+    opened e = unfold answers in e
 
 -- ---- A float in range, and the threshold
 
@@ -241,11 +239,7 @@ module _ (t : Float) (f : fits binary32 t ≡ true) (ok : allowed t ≡ true) wh
   -- none of them is refused
   gamma-answered : (i : ℕ) (cs ws : List ℕ) → Candidates cs → InRange ws → answered t i ws (projected t cs ws) ≡ Done 0
   gamma-answered i [] [] h r = unfold answered in refl
-  gamma-answered i [] (w ∷ ws) h r = none
-    where
-      none : answered t i (w ∷ ws) (projected t [] (w ∷ ws)) ≡ Done 0
-      unfolding answered projected
-      none = refl
+  gamma-answered i [] (w ∷ ws) h r = unfold answered projected in refl
   gamma-answered i (c ∷ cs) [] h r = unfold answered in refl
   gamma-answered i (c ∷ cs) (w ∷ ws) h r =
       let first = gamma-answers c w (h .0) (sym (in-range-is w) ∙ r .0) (r .1) in
@@ -258,11 +252,8 @@ module _ (t : Float) (f : fits binary32 t ≡ true) (ok : allowed t ≡ true) wh
   gamma-length (c ∷ cs) (w ∷ ws) e = ap suc (gamma-length cs ws (omega arith))
 
   gamma-taken : (cs ws : List ℕ) → Candidates cs → InRange ws → length cs ≡ length ws → taken t ws (projected t cs ws) ≡ Done 0
-  gamma-taken cs ws h r e = opened (gamma-length cs ws e) (gamma-answered 0 cs ws h r)
-    where
-      opened : {ps : List ℕ} → length ps ≡ length ws → answered t 0 ws ps ≡ Done 0 → taken t ws ps ≡ Done 0
-      unfolding taken
-      opened l a = rw (eq-eqb _ _ l, a)
+  unfolding taken
+  gamma-taken cs ws h r e = rw (eq-eqb _ _ (gamma-length cs ws e), gamma-answered 0 cs ws h r)
 
 -- every sample of a recording in range is readable
 all-readable : (i : ℕ) (ws : List ℕ) → InRange ws → readable i ws ≡ Done 0
@@ -271,11 +262,8 @@ all-readable i [] r = refl
 all-readable i (w ∷ ws) r = rw (r .0) (all-readable (i + 1) ws (r .2))
 
 pub projected-is-taken : ProjectedIsTaken
-projected-is-taken t cs ws f ok r h e = planned (all-readable 0 ws r) (gamma-taken t f ok cs ws h r e)
-  where
-    planned : {ps : List ℕ} → readable 0 ws ≡ Done 0 → taken t ws ps ≡ Done 0 → proposedPlan t ps ws ≡ change declipProposed (named t ws ps)
-    unfolding proposedPlan
-    planned a b = rw (ok, a, b)
+unfolding proposedPlan
+projected-is-taken t cs ws f ok r h e = rw (ok, all-readable 0 ws r, gamma-taken t f ok cs ws h r e)
 
 -- ---- Every named sample has a word in range, where none is refused
 
@@ -292,18 +280,16 @@ picked-in-range t i j (w ∷ ws) (p ∷ ps) h = elim (truth (answers t w p)) [
   where
     one : EitherWay (clipped t w) → (clipped t w ≡ true → inRange p ≡ true) → ranged (picked (j + 1) (map (clipped t) ws) ps) ≡ Done 0
         → ranged (picked j (clipped t w ∷ map (clipped t) ws) (p ∷ ps)) ≡ Done 0
-    unfolding picked ranged
-    one (inl c) r later = rw (c, r c) later
-    one (inr c) r later = rw c later
+    one (inl c) r later = unfold picked ranged in rw (c, r c) later
+    one (inr c) r later = unfold picked ranged in rw c later
 
 results-are-in-range : ResultsAreInRange
 unfolding named
 results-are-in-range t ws ps h = picked-in-range t 0 0 ws ps (same-length (truth (eqb (length ps) (length ws))))
   where
     same-length : EitherWay (eqb (length ps) (length ws)) → answered t 0 ws ps ≡ Done 0
-    unfolding taken
-    same-length (inl e) = rw e at h
-    same-length (inr n) = two-answers 0 _ h (rw n)
+    same-length (inl e) = unfold taken in rw e at h
+    same-length (inr n) = two-answers 0 _ h (unfold taken in rw n)
 
 -- ---- The call
 
