@@ -130,13 +130,14 @@ le-itself x h = rw (number-test, h, or-true)
 
 -- ---- Negation
 
+-- negated twice, a float is itself
 pub neg-neg : (x : Float) → neg (neg x) ≡ x
 unfolding neg
 neg-neg nan = refl
 neg-neg (inf s) = ap inf (Bool·not-not s)
 neg-neg (fin s m e) = ap (λ (b : Bool). fin b m e) (Bool·not-not s)
 
--- it turns comparisons round
+-- negation turns comparisons round
 pub lt-neg : (x y : Float) → lt (neg x) (neg y) ≡ lt y x
 unfolding neg lt
 lt-neg nan y = sym (lt-nan y)
@@ -189,12 +190,14 @@ beyond-side t x h = elim (own-or-negated x) [
   | inr e ↦ inr (le-across t x ∙ (rw e at h))
 ]
 
+-- a float and its negation have one magnitude
 pub magnitude-neg : (x : Float) → magnitude (neg x) ≡ magnitude x
 unfolding neg
 magnitude-neg nan = refl
 magnitude-neg (inf s) = refl
 magnitude-neg (fin s m e) = refl
 
+-- a magnitude is a NaN where the float is
 pub magnitude-nan : (x : Float) → isNan (magnitude x) ≡ isNan x
 unfolding isNan
 magnitude-nan nan = refl
@@ -235,6 +238,7 @@ size-above : (n : ℕ) (d e : ℤ) → lt nought (fin false n d) ≡ true → 0 
 unfolding lt
 size-above n d e h = mul-pos (let more = ltb-true (0 * down d) (n * up d * 1) h in omega arith) (down-pos e)
 
+-- what is at or above t is not at or below -t
 pub above-not-below : (t x : Float) → lt nought t ≡ true → le t x ≡ true → le x (neg t) ≡ false
 unfolding le neg
 above-not-below nan x p h = absurd (false≢true p)
@@ -254,5 +258,6 @@ above-not-below (fin false n d) (fin false m e) p h =
     let some = size-above n d e p in
     apart (m * up e * down d) (n * up d * down e) (omega arith)
 
+-- nor the other way
 pub below-not-above : (t x : Float) → lt nought t ≡ true → le x (neg t) ≡ true → le t x ≡ false
 below-not-above t x p h = elim (truth (le t x)) [ inl k ↦ both h (above-not-below t x p k) | inr k ↦ k ]
