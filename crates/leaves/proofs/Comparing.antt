@@ -17,11 +17,11 @@ turned false a b h =
     elim (truth (ltb a b)) [
       | inl less ↦ rw less refl
       | inr more ↦
-        let same : eqb a b && true ≡ true = rw more at h in
-        elim (truth (eqb a b)) [
-          | inl equal ↦ rw (more, eq-eqb b a (sym (eqb-true a b equal))) refl
-          | inr other ↦ absurd (false≢true (rw other at same))
-        ]
+          let same : eqb a b && true ≡ true = rw more at h in
+          elim (truth (eqb a b)) [
+            | inl equal ↦ rw (more, eq-eqb b a (sym (eqb-true a b equal))) refl
+            | inr other ↦ absurd (false≢true (rw other at same))
+          ]
     ]
 turned true zero zero h = refl
 turned true zero (suc b) h = rw (lt-ltb 0 (suc b + 0) (omega arith)) refl
