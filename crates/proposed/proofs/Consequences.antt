@@ -2,11 +2,11 @@
 -- sample is answered, and what stands at each sample after an accepted one. Assumes nothing.
 use mathlib.Core.Path.{_≡_, refl, sym, ap, subst, _∙_}
 use mathlib.Core.Bool.{Bool, true, false, not, true≢false}
-use mathlib.Core.List.{List, [], _∷_, _++_, map, append-nil}
+use mathlib.Core.List.{List, [], _∷_, _++_, map}
 use mathlib.Core.Logic.{_⊎_, inl, inr}
 use Prim.Native.Nat.{ℕ, zero, suc, _+_, _<_}
 use native.Mathlib.Omega.{arith}
-use native.Mathlib.Nat.{add-zero}
+use native.Mathlib.Nat.{zero-add, add-zero}
 use borrow.Author.Tests.{eq-eqb, eqb-true}
 use lib.Dec.{eqb}
 use lib.Ieee.{Float}
@@ -16,11 +16,11 @@ use Rattle.leaves.specs.Choice.{if_then_else_}
 use Rattle.leaves.specs.Arithmetic.{float}
 use Rattle.leaves.specs.Floats.{inRange}
 use Rattle.leaves.proofs.Choice.{EitherWay, truth, picks}
-use Rattle.recording.specs.Recording.{State, Ended, places, put, picked, readable, unlessRead, Plan, change}
+use Rattle.recording.specs.Recording.{State, Ended, Placed, places, put, picked, readable, unlessRead, Plan, change}
 use Rattle.recording.specs.Marks.{declipProposed}
 use Rattle.recording.specs.History.{Keeps, repair, did}
 use Rattle.recording.specs.Consequences.{Among, MadeOf}
-use Rattle.recording.proofs.Performing.{picked-ascends, unless-kept}
+use Rattle.recording.proofs.Performing.{unless-kept}
 use Rattle.recording.proofs.Single.{accepted-as-ruled}
 use Rattle.recording.specs.declared.Reason.{Reason}
 use Rattle.recording.specs.declared.Reason.the-variants.{Proposal}
@@ -32,7 +32,7 @@ use Rattle.proposed.specs.Proposed.{answers, answered, taken, named, pro
 use Rattle.proposed.specs.Inner.{checked, clippedPlaces}
 use Rattle.proposed.specs.Consequences.{ProposedIsLawful, AnswersEach, TakenExactlyWhen, ResultsAreInRange, SamplesAreTheProposal}
 use Rattle.proposed.specs.Consequences.{SameSide, Stands, EachSampleStands}
-use Rattle.proposed.proofs.Laws.{bits-kept, above-answered, below-answered, clipped-side, clipped-answered, places-named}
+use Rattle.proposed.proofs.Laws.{bits-kept, above-answered, below-answered, clipped-side, clipped-answered, places-named, named-ascends}
 use Rattle.proposed.proofs.Laws.{taken-length, taken-zero, taken-ranged, accepts, ends-refused}
 
 -- ---- Demand 3
@@ -43,16 +43,12 @@ accepted-kept n (Done m) p kept = kept m refl
 accepted-kept n (Refused why) p kept = tt
 
 pub proposed-is-lawful : ProposedIsLawful
-unfolding proposedPlan named
+unfolding proposedPlan
 proposed-is-lawful threshold proposal samples =
     picks (Keeps n) (not (allowed threshold)) _ _ tt
     (unless-kept n (readable 0 samples) _
     (accepted-kept n (taken threshold samples proposal) _
-    (λ m done. (
-      refl,
-      picked-ascends n 0 0 (map (clipped threshold) samples) proposal (omega arith)
-          (omega (arith, taken-length threshold samples proposal m done)),
-    ))))
+    (λ m done. (refl, named-ascends threshold samples proposal (taken-length threshold samples proposal m done)))))
   where
     n : ℕ
     n = length samples
@@ -67,14 +63,14 @@ each-answered threshold j [] ps same h i k = absurd (omega arith)
 each-answered threshold j (w ∷ ws) [] same h i k = absurd (omega arith)
 each-answered threshold j (w ∷ ws) (p ∷ ps) same h i k =
     elim (truth (answers threshold w p)) [
-      | inr no ↦ absurd (done-not-refused 0 (Proposal j) (sym (rw no at h)))
-      | inl yes ↦ at-place yes (rw yes at h) i k
+      | inr wrong ↦ absurd (done-not-refused 0 (Proposal j) (sym (rw wrong at h)))
+      | inl right ↦ at-place right (each-answered threshold (j + 1) ws ps (omega arith) (rw right at h)) i k
     ]
   where
-    at-place : answers threshold w p ≡ true → answered threshold (j + 1) ws ps ≡ Done 0 → (i : ℕ) → i < suc (length ws)
-        → answers threshold (getD (w ∷ ws) i 0) (getD (p ∷ ps) i 0) ≡ true
-    at-place yes later zero k = yes
-    at-place yes later (suc i) k = each-answered threshold (j + 1) ws ps (omega arith) later i (omega arith)
+    at-place : answers threshold w p ≡ true → ((i : ℕ) → i < length ws → answers threshold (getD ws i 0) (getD ps i 0) ≡ true)
+        → (i : ℕ) → i < suc (length ws) → answers threshold (getD (w ∷ ws) i 0) (getD (p ∷ ps) i 0) ≡ true
+    at-place right later zero k = right
+    at-place right later (suc i) k = later i (omega arith)
 
 all-answered : (threshold : Float) (j : ℕ) (ws ps : List ℕ) → length ps ≡ length ws
     → ((i : ℕ) → i < length ws → answers threshold (getD ws i 0) (getD ps i 0) ≡ true)
@@ -87,6 +83,7 @@ all-answered threshold j (w ∷ ws) (p ∷ ps) same each =
     rw here (all-answered threshold (j + 1) ws ps (omega arith) (λ i k. each (suc i) (omega arith)))
 
 pub taken-exactly-when : TakenExactlyWhen
+unfolding taken
 taken-exactly-when threshold samples proposal = (forth, back)
   where
     forth : taken threshold samples proposal ≡ Done 0 → AnswersEach threshold samples proposal
@@ -95,7 +92,6 @@ taken-exactly-when threshold samples proposal = (forth, back)
         (same, each-answered threshold 0 samples proposal same (taken-zero threshold samples proposal 0 h))
 
     back : AnswersEach threshold samples proposal → taken threshold samples proposal ≡ Done 0
-    unfolding taken
     back h = rw (eq-eqb _ _ (h .0)) (all-answered threshold 0 samples proposal (h .0) (h .1))
 
 pub results-are-in-range : ResultsAreInRange
@@ -112,21 +108,23 @@ put-from threshold i front [] (p ∷ ps) count same h = absurd (omega arith)
 put-from threshold i front (w ∷ ws) [] count same h = absurd (omega arith)
 put-from threshold i front (w ∷ ws) (p ∷ ps) count same h =
     elim (truth (answers threshold w p)) [
-      | inr no ↦ absurd (done-not-refused 0 (Proposal i) (sym (rw no at h)))
-      | inl yes ↦ one yes (rw yes at h) (truth (clipped threshold w))
+      | inr wrong ↦ absurd (done-not-refused 0 (Proposal i) (sym (rw wrong at h)))
+      | inl right ↦ one right
+          (put-from threshold (i + 1) (front ++ (p ∷ [])) ws ps (simp length-append (omega arith)) (omega arith) (rw right at h))
+          (truth (clipped threshold w))
     ]
   where
-    -- the word that stands there then is passed
-    passed : answered threshold (i + 1) ws ps ≡ Done 0 → put (picked (i + 1) (map (clipped threshold) ws) ps) (front ++ p ∷ ws) ≡ front ++ p ∷ ps
-    passed later =
-        let count' : length (front ++ (p ∷ [])) ≡ i + 1 = simp length-append (omega arith) in
-        rw (← append-snoc front p ws, ← append-snoc front p ps)
-        (put-from threshold (i + 1) (front ++ (p ∷ [])) ws ps count' (omega arith) later)
+    later : List Placed
+    later = picked (i + 1) (map (clipped threshold) ws) ps
 
-    one : answers threshold w p ≡ true → answered threshold (i + 1) ws ps ≡ Done 0 → EitherWay (clipped threshold w)
+    one : answers threshold w p ≡ true → put later ((front ++ (p ∷ [])) ++ ws) ≡ (front ++ (p ∷ [])) ++ ps → EitherWay (clipped threshold w)
         → put (picked i (map (clipped threshold) (w ∷ ws)) (p ∷ ps)) (front ++ w ∷ ws) ≡ front ++ p ∷ ps
-    one yes later (inl beyond) = rw (beyond, set-at front w ws p i count) (passed later)
-    one yes later (inr under) = rw (under, ← bits-kept threshold w p yes under) (passed later)
+    one right passed (inl beyond) =
+        ap (λ (b : Bool). put (if b then record { place = i; value = p } ∷ later else later) (front ++ w ∷ ws)) beyond
+        ∙ ap (put later) (set-at front w ws p i count)
+        ∙ (rw (append-snoc front p ws, append-snoc front p ps) at passed)
+    one right passed (inr under) =
+        rw (under, ← bits-kept threshold w p right under) (rw (append-snoc front p ws, append-snoc front p ps) at passed)
 
 -- what an acceptance tells: the proposal is taken, and this is the plan
 record Taken (threshold : Float) (proposal samples : List ℕ) : Type 0 where
@@ -176,18 +174,20 @@ clipped-among threshold j (w ∷ ws) (suc i) k h =
     let later = clipped-among threshold (j + 1) ws i (omega arith) h in
     rw next (elim (truth (clipped threshold w)) [ inl beyond ↦ rw beyond (inr later) | inr under ↦ rw under later ])
 
+-- it is neither the first nor one of the others
+not-first : (i j : ℕ) (js : List ℕ) → (i ≡ j → ⊥) → (Among i js → ⊥) → Among i (j ∷ js) → ⊥
+not-first i j js other later (inl e) = other e
+not-first i j js other later (inr a) = later a
+
 none-before : (threshold : Float) (i j : ℕ) (ws : List ℕ) → i < j → Among i (clippedPlaces threshold j ws) → ⊥
 unfolding clippedPlaces
 none-before threshold i j [] h a = a
 none-before threshold i j (w ∷ ws) h a =
+    let later = none-before threshold i (j + 1) ws (omega arith) in
     elim (truth (clipped threshold w)) [
-      | inl beyond ↦ first (rw beyond at a)
-      | inr under ↦ none-before threshold i (j + 1) ws (omega arith) (rw under at a)
+      | inl beyond ↦ not-first i j (clippedPlaces threshold (j + 1) ws) (λ e. omega arith) later (rw beyond at a)
+      | inr under ↦ later (rw under at a)
     ]
-  where
-    first : Among i (j ∷ clippedPlaces threshold (j + 1) ws) → ⊥
-    first (inl e) = omega arith
-    first (inr later) = none-before threshold i (j + 1) ws (omega arith) later
 
 under-not-among : (threshold : Float) (j : ℕ) (ws : List ℕ) (i : ℕ) → i < length ws → clipped threshold (getD ws i 0) ≡ false
     → Among (j + i) (clippedPlaces threshold j ws) → ⊥
@@ -196,21 +196,18 @@ under-not-among threshold j [] i k h a = absurd (omega arith)
 under-not-among threshold j (w ∷ ws) zero k h a = none-before threshold j (j + 1) ws (omega arith) (rw (h, add-zero j) at a)
 under-not-among threshold j (w ∷ ws) (suc i) k h a =
     let next : j + suc i ≡ j + 1 + i = omega arith in
+    let later = under-not-among threshold (j + 1) ws i (omega arith) h in
     elim (truth (clipped threshold w)) [
-      | inl beyond ↦ later (rw (beyond, next) at a)
-      | inr under ↦ under-not-among threshold (j + 1) ws i (omega arith) h (rw (under, next) at a)
+      | inl beyond ↦ not-first (j + 1 + i) j (clippedPlaces threshold (j + 1) ws) (λ e. omega arith) later (rw (beyond, next) at a)
+      | inr under ↦ later (rw (under, next) at a)
     ]
-  where
-    later : Among (j + 1 + i) (j ∷ clippedPlaces threshold (j + 1) ws) → ⊥
-    later (inl e) = omega arith
-    later (inr m) = under-not-among threshold (j + 1) ws i (omega arith) h m
 
 -- the side that a sample is on is that of its answer
 same-side : (threshold : Float) (w p : ℕ) → answers threshold w p ≡ true → clipped threshold w ≡ true → SameSide threshold (float w) (float p)
-same-side threshold w p yes beyond =
+same-side threshold w p right beyond =
     elim (clipped-side threshold w p beyond) [
-      | inl above ↦ inl (above, above-answered threshold w p yes above .1)
-      | inr below ↦ inr (below, below-answered threshold w p yes below .1)
+      | inl above ↦ inl (above, above-answered threshold w p right above .1)
+      | inr below ↦ inr (below, below-answered threshold w p right below .1)
     ]
 
 pub each-sample-stands : EachSampleStands
@@ -219,14 +216,14 @@ each-sample-stands threshold proposal s m h i k =
     let made = accepted-made threshold proposal s m h in
     let words = samples-are-the-proposal threshold proposal s m h in
     let places = places-named threshold (s .samples) proposal (t .as-long) in
-    let yes = each-answered threshold 0 (s .samples) proposal (t .as-long) (t .is-taken) i k in
+    let right = each-answered threshold 0 (s .samples) proposal (t .as-long) (t .is-taken) i k in
     record {
       under = λ under.
-          let apart = made .others i (λ a. under-not-among threshold 0 (s .samples) i k under (rw places at a)) in
+          let apart = made .others i (λ a. under-not-among threshold 0 (s .samples) i k under (rw zero-add (rw places at a))) in
           (apart .0, apart .1);
       beyond = λ beyond. (
-        rw words (clipped-answered threshold _ _ yes beyond),
-        rw words (same-side threshold _ _ yes beyond),
-        made .named i (rw places (clipped-among threshold 0 (s .samples) i k beyond)),
+        rw words (clipped-answered threshold _ _ right beyond),
+        rw words (same-side threshold _ _ right beyond),
+        made .named i (rw places (rw zero-add at (clipped-among threshold 0 (s .samples) i k beyond))),
       );
     }

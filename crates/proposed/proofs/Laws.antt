@@ -8,25 +8,27 @@ use native.Mathlib.Omega.{arith}
 use native.Mathlib.Numerals.{add-one}
 use borrow.Author.Tests.{eq-eqb, ne-eqb, eqb-true}
 use lib.Dec.{eqb}
-use lib.Ieee.{Float, le, neg}
+use lib.Ieee.{Float, binary32, ofBits, le, neg}
 use lib.ListN.{length, getD, set, drop, drop-of-length-le}
-use lib.Seq.{drop-cons, drop-set-lt}
+use lib.Seq.{sets, drop-cons, drop-set-lt}
 use Rattle.leaves.specs.Choice.{if_then_else_}
 use Rattle.leaves.specs.Arithmetic.{float}
 use Rattle.leaves.specs.Floats.{magnitude, inRange}
 use Rattle.leaves.proofs.Choice.{EitherWay, truth, both-hold}
 use Rattle.leaves.proofs.Comparing.{beyond-side}
 use Rattle.recording.specs.Recording.{State, Ended, ended, fitting, orElse, unlessRefused, unlessRead, readable, ranged, Placed, places, put, each}
-use Rattle.recording.specs.Recording.{picked, Plan, refuse, change, entered, carried, performed, called}
+use Rattle.recording.specs.Recording.{picked, saved, threeWords, entrySize, Plan, refuse, change, entered, carried, performed, called}
 use Rattle.recording.specs.Marks.{declipProposed}
-use Rattle.recording.specs.Inner.{Fits}
+use Rattle.recording.specs.History.{Ascending}
+use Rattle.recording.specs.Inner.{Fits, Recountable}
 use Rattle.recording.specs.declared.Reason.{Reason}
 use Rattle.recording.specs.declared.Reason.the-variants.{Setting, Proposal}
 use Rattle.recording.specs.declared.Answer.{Answer}
 use Rattle.recording.specs.declared.Answer.the-variants.{Done, Refused}
 use Rattle.recording.proofs.Put.{length-places}
 use Rattle.recording.proofs.open.Laws.{accepted-fits}
-use Rattle.recording.proofs.commit.Laws.{carried-on}
+use Rattle.recording.proofs.Performing.{picked-ascends}
+use Rattle.recording.proofs.commit.Laws.{named-recountable, carried-on}
 use Rattle.redraw.proofs.Ending.{done-not-refused}
 use Rattle.declip.specs.Declip.{allowed, clipped}
 use Rattle.proposed.specs.Proposed.{keepsBits, answeredAbove, answeredBelow, answers, answered, taken, named, proposedPlan, proposedRepair}
@@ -35,6 +37,41 @@ use Rattle.proposed.specs.Inner.{checked, clippedPlaces}
 -- ---- One sample, and the word that answers it
 
 module _ (threshold : Float) (w p : ℕ) where
+  -- by whether the sample is clipped
+  pub bits-beyond : (b : Bool) → b ≡ clipped threshold w → b ≡ true → true ≡ keepsBits threshold w p
+  bits-beyond b e h = rw (sym e ∙ h) refl
+
+  pub bits-under : (b : Bool) → b ≡ clipped threshold w → b ≡ false → eqb p w ≡ keepsBits threshold w p
+  bits-under b e h = rw (sym e ∙ h) refl
+
+  -- by which side it is on, and whether its answer is in range
+  module _ (x : Float) (ex : x ≡ ofBits binary32 w) where
+    pub above-not : le threshold x ≡ false → true ≡ answeredAbove threshold w p
+    unfolding float
+    above-not h = rw (← ex, h) refl
+
+    pub below-not : le x (neg threshold) ≡ false → true ≡ answeredBelow threshold w p
+    unfolding float
+    below-not h = rw (← ex, h) refl
+
+    module _ (b : Bool) (eb : b ≡ inRange p) where
+      pub above-out : le threshold x ≡ true → b ≡ false → false ≡ answeredAbove threshold w p
+      unfolding float
+      above-out h k = rw (← ex, ← eb, h, k) refl
+
+      pub below-out : le x (neg threshold) ≡ true → b ≡ false → false ≡ answeredBelow threshold w p
+      unfolding float
+      below-out h k = rw (← ex, ← eb, h, k) refl
+
+      module _ (y : Float) (ey : y ≡ ofBits binary32 p) where
+        pub above-in : le threshold x ≡ true → b ≡ true → le threshold y ≡ answeredAbove threshold w p
+        unfolding float
+        above-in h k = rw (← ex, ← ey, ← eb, h, k) refl
+
+        pub below-in : le x (neg threshold) ≡ true → b ≡ true → le y (neg threshold) ≡ answeredBelow threshold w p
+        unfolding float
+        below-in h k = rw (← ex, ← ey, ← eb, h, k) refl
+
   -- by the three tests, one after the other
   pub answers-bits : (a : Bool) → a ≡ keepsBits threshold w p → a ≡ false → false ≡ answers threshold w p
   unfolding answers
@@ -54,8 +91,9 @@ module _ (threshold : Float) (w p : ℕ) where
     all-three : (keepsBits threshold w p ≡ true) × (answeredAbove threshold w p ≡ true) × (answeredBelow threshold w p ≡ true)
     unfolding answers
     all-three =
-        let first = both-hold (keepsBits threshold w p) (answeredAbove threshold w p && answeredBelow threshold w p) h in
-        (first .0, both-hold (answeredAbove threshold w p) (answeredBelow threshold w p) (first .1))
+        let last = both-hold (keepsBits threshold w p && answeredAbove threshold w p) (answeredBelow threshold w p) h in
+        let two = both-hold (keepsBits threshold w p) (answeredAbove threshold w p) (last .0) in
+        (two .0, two .1, last .1)
 
     -- where a test does not apply the other holds
     implied : (a b : Bool) → not a || b ≡ true → a ≡ true → b ≡ true
@@ -185,6 +223,13 @@ pub named-count : (threshold : Float) (samples proposal : List ℕ) → length p
 named-count threshold samples proposal h =
     sym (length-places (named threshold samples proposal)) ∙ ap length (places-named threshold samples proposal h)
 
+-- they ascend
+pub named-ascends : (threshold : Float) (samples proposal : List ℕ) → length proposal ≡ length samples
+    → Ascending (length samples) 0 (named threshold samples proposal)
+unfolding named
+named-ascends threshold samples proposal same =
+    picked-ascends (length samples) 0 0 (map (clipped threshold) samples) proposal (omega arith) (omega arith)
+
 -- no more are clipped than there are samples
 pub clipped-few : (threshold : Float) (i : ℕ) (ws : List ℕ) → length (clippedPlaces threshold i ws) ≤ length ws
 unfolding clippedPlaces
@@ -192,6 +237,30 @@ clipped-few threshold i [] = omega arith
 clipped-few threshold i (w ∷ ws) =
     let later = clipped-few threshold (i + 1) ws in
     elim (truth (clipped threshold w)) [ inl beyond ↦ rw beyond (omega arith) | inr under ↦ rw under (omega arith) ]
+
+-- saved by their places, they are saved as the named ones
+pub saved-named : (threshold : Float) (proposal : List ℕ) (s : State) (middle : List ℕ) → length proposal ≡ length (s .samples)
+    → middle ≡ sets (s .journal) (s .used) (threeWords (saved (s .samples) (s .marks) (clippedPlaces threshold 0 (s .samples))))
+    → middle ≡ sets (s .journal) (s .used) (threeWords (saved (s .samples) (s .marks) (places (named threshold (s .samples) proposal))))
+saved-named threshold proposal s middle same e =
+    e
+    ∙ ap (λ (is : List ℕ). sets (s .journal) (s .used) (threeWords (saved (s .samples) (s .marks) is)))
+    (sym (places-named threshold (s .samples) proposal same))
+
+-- and their blocks can be recounted
+pub named-blocks : (threshold : Float) (proposal : List ℕ) (s : State) (m : ℕ) (marks middle : List ℕ)
+    → Fits s × (length proposal ≡ length (s .samples))
+    → m ≡ length (named threshold (s .samples) proposal)
+    → entrySize m ≤ length (s .journal) - s .used
+    → length marks ≡ length (s .marks)
+    → middle ≡ sets (s .journal) (s .used) (threeWords (saved (s .samples) (s .marks) (clippedPlaces threshold 0 (s .samples))))
+    → Recountable marks (s .counts) middle (s .used) m
+named-blocks threshold proposal s m marks middle pre count room long e =
+    named-recountable s (named threshold (s .samples) proposal) m marks middle (pre .0) ascends count room long
+    (saved-named threshold proposal s middle (pre .1) e)
+  where
+    ascends : Ascending (length (s .samples)) 0 (named threshold (s .samples) proposal)
+    ascends = named-ascends threshold (s .samples) proposal (pre .1)
 
 -- ---- Writing them: the samples behind a place are still as they were
 
@@ -284,8 +353,8 @@ answered-zero threshold i [] ps m h = refl
 answered-zero threshold i (w ∷ ws) [] m h = refl
 answered-zero threshold i (w ∷ ws) (p ∷ ps) m h =
     elim (truth (answers threshold w p)) [
-      | inl yes ↦ rw yes (answered-zero threshold (i + 1) ws ps m (rw yes at h))
-      | inr no ↦ absurd (done-not-refused m (Proposal i) (sym (rw no at h)))
+      | inl right ↦ rw right (answered-zero threshold (i + 1) ws ps m (rw right at h))
+      | inr wrong ↦ absurd (done-not-refused m (Proposal i) (sym (rw wrong at h)))
     ]
 
 pub taken-zero : (threshold : Float) (samples proposal : List ℕ) (m : ℕ) → taken threshold samples proposal ≡ Done m
@@ -303,14 +372,14 @@ answered-ranged threshold i [] ps h = refl
 answered-ranged threshold i (w ∷ ws) [] h = refl
 answered-ranged threshold i (w ∷ ws) (p ∷ ps) h =
     elim (truth (answers threshold w p)) [
-      | inr no ↦ absurd (done-not-refused 0 (Proposal i) (sym (rw no at h)))
-      | inl yes ↦ one yes (answered-ranged threshold (i + 1) ws ps (rw yes at h)) (truth (clipped threshold w))
+      | inr wrong ↦ absurd (done-not-refused 0 (Proposal i) (sym (rw wrong at h)))
+      | inl right ↦ one right (answered-ranged threshold (i + 1) ws ps (rw right at h)) (truth (clipped threshold w))
     ]
   where
     one : answers threshold w p ≡ true → ranged (picked (i + 1) (map (clipped threshold) ws) ps) ≡ Done 0 → EitherWay (clipped threshold w)
         → ranged (picked i (map (clipped threshold) (w ∷ ws)) (p ∷ ps)) ≡ Done 0
-    one yes later (inl beyond) = rw (beyond, clipped-answered threshold w p yes beyond) later
-    one yes later (inr under) = rw under later
+    one right later (inl beyond) = rw (beyond, clipped-answered threshold w p right beyond) later
+    one right later (inr under) = rw under later
 
 pub taken-ranged : (threshold : Float) (samples proposal : List ℕ) (m : ℕ) → taken threshold samples proposal ≡ Done m
     → ranged (named threshold samples proposal) ≡ Done 0
@@ -333,13 +402,17 @@ module _ (threshold : Float) (proposal : List ℕ) (s : State) where
 
   pub accepts : (m : ℕ) → checked threshold proposal s ≡ Done m
       → Accepts s (fitting s) (not (allowed threshold)) (readable 0 (s .samples)) (taken threshold (s .samples) proposal) planned
-  accepts m e = first-accepts s _ _ _ _ planned m (checked-first ∙ e)
+  accepts m e =
+      first-accepts s (fitting s) (not (allowed threshold)) (readable 0 (s .samples)) (taken threshold (s .samples) proposal) planned m
+      (checked-first ∙ e)
 
   -- a refusal of the tests ends it
   pub ends-refused : (a : Answer) (why : Reason) → a ≡ checked threshold proposal s → a ≡ Refused why → ended a s ≡ proposedRepair threshold proposal s
   ends-refused a why ea e =
       let tested = checked-first ∙ sym ea in
-      sym (ap (λ (x : Answer). ended x s) tested) ∙ first-refuses s _ _ _ _ planned why (tested ∙ e) ∙ repair-is
+      sym (ap (λ (x : Answer). ended x s) tested)
+      ∙ first-refuses s (fitting s) (not (allowed threshold)) (readable 0 (s .samples)) (taken threshold (s .samples) proposal) planned why (tested ∙ e)
+      ∙ repair-is
 
   module _ (a : Answer) (m : ℕ) (ea : a ≡ checked threshold proposal s) (e : a ≡ Done m) where
     -- what their acceptance tells

@@ -53,6 +53,14 @@ save-more j next-j whole samples marks at next i is e ej rest =
     let there : next ≡ suc (suc (suc at)) = omega arith in
     rw (there, ej) rest
 
+-- one of what is left is counted, or saved: the others give the whole number, and fit behind it
+pub count-more : {A : Type 0} (x : A) (left later : List A) (m whole : ℕ) → left ≡ x ∷ later → m + length left ≡ whole → m + 1 + length later ≡ whole
+count-more x left later m whole e rest = let more : length left ≡ suc (length later) = ap length e in omega arith
+
+pub room-more : {A : Type 0} (x : A) (left later : List A) (at room : ℕ) → left ≡ x ∷ later → at + 3 * length left ≤ room
+    → at + 3 + 3 * length later ≤ room
+room-more x left later at room e h = let more : length left ≡ suc (length later) = ap length e in omega arith
+
 -- ---- A span
 
 pub consecutive-more : (start len i : ℕ) → i < len → consecutive (start + i) (len - i) ≡ (start + i) ∷ consecutive (start + (i + 1)) (len - (i + 1))
@@ -137,15 +145,11 @@ module _ (work : List ℕ) (n i : ℕ) (h : i < n) where
   -- it is counted, saved, written and marked, and what is left gives the whole
   pub pick-count : (m whole : ℕ) → (getD work (n + i) 0 ≡ 0 → ⊥) → m + length (rest-picked work n i) ≡ whole
       → m + 1 + length (rest-picked work n (i + 1)) ≡ whole
-  pick-count m whole e rest =
-      let more : length (rest-picked work n i) ≡ suc (length (rest-picked work n (i + 1))) = ap length (pick-one e) in
-      omega arith
+  pick-count m whole e rest = count-more _ _ _ m whole (pick-one e) rest
 
   pub pick-room : (at room : ℕ) → (getD work (n + i) 0 ≡ 0 → ⊥) → at + 3 * length (rest-picked work n i) ≤ room
       → at + 3 + 3 * length (rest-picked work n (i + 1)) ≤ room
-  pick-room at room e h =
-      let more : length (rest-picked work n i) ≡ suc (length (rest-picked work n (i + 1))) = ap length (pick-one e) in
-      omega arith
+  pick-room at room e h = room-more _ _ _ at room (pick-one e) h
 
   pub pick-save : (j next-j whole samples marks : List ℕ) (at : ℕ) → (getD work (n + i) 0 ≡ 0 → ⊥)
       → next-j ≡ sets j at (threeWords (saved samples marks (i ∷ [])))
