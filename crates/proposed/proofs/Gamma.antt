@@ -2,7 +2,7 @@
 -- proposal, and then of the call. Assumes nothing.
 use mathlib.Core.Path.{_≡_, refl, sym, ap, _∙_, subst}
 use mathlib.Core.Bool.{Bool, true, false, not, _&&_, _||_, false≢true}
-use mathlib.Core.List.{List, [], _∷_, map}
+use mathlib.Core.List.{List, [], _∷_}
 use mathlib.Core.Logic.{inl, inr}
 use Prim.Native.Nat.{ℕ, suc, _+_, _-_, _*_, _<_, _≤_, _^_}
 use native.Mathlib.Omega.{arith}
@@ -17,19 +17,19 @@ use borrow.Author.Tests.{ltb-true, eqb-true, eqb-false, eq-eqb, le-ltb}
 use Rattle.leaves.specs.Choice.{if_then_else_}
 use Rattle.leaves.specs.Arithmetic.{float}
 use Rattle.leaves.specs.Floats.{magnitude, largest, larger, smaller, inRange}
-use Rattle.leaves.proofs.Choice.{EitherWay, truth, both-hold, either, picks-by}
+use Rattle.leaves.proofs.Choice.{truth, both-hold, either, picks-by}
 use Rattle.leaves.proofs.order.Laws.{both}
 use Rattle.leaves.proofs.Comparing.{finite-number, not-lt-le, lt-not-le, le-itself, magnitude-nan}
-use Rattle.leaves.proofs.Comparing.{beyond-side, above-beyond, below-beyond, above-not-below}
-use Rattle.recording.specs.Recording.{State, Placed, change, picked, readable, ranged, fitting, entered, carried, performed, entrySize}
+use Rattle.leaves.proofs.Comparing.{above-beyond, below-beyond, above-not-below}
+use Rattle.recording.specs.Recording.{State, Placed, change, readable, ranged, fitting, entered, carried, performed, entrySize}
 use Rattle.recording.specs.Marks.{declipProposed}
 use Rattle.recording.specs.declared.Reason.the-variants.{Proposal}
-use Rattle.recording.specs.declared.Answer.{Answer}
 use Rattle.recording.specs.declared.Answer.the-variants.{Done, Refused}
 use Rattle.declip.specs.Declip.{allowed, clipped}
 use Rattle.proposed.specs.Proposed.{keepsBits, answeredAbove, answeredBelow, answers, answered, taken, named, proposedPlan, proposedRepair}
 use Rattle.proposed.specs.Gamma.{projectGamma, projectedWord, projected, inRangeOrNan, Candidates, InRange}
-use Rattle.proposed.specs.Consequences.{ResultsAreInRange, ProjectedIsTaken, ProjectedIsAccepted}
+use Rattle.proposed.specs.Consequences.{ProjectedIsTaken, ProjectedIsAccepted}
+use Rattle.proposed.proofs.Consequences.{results-are-in-range}
 
 -- ---- What it takes to answer a sample
 
@@ -269,52 +269,6 @@ all-readable i (w ∷ ws) r = rw (r .0) (all-readable (i + 1) ws (r .2))
 pub projected-is-taken : ProjectedIsTaken
 unfolding proposedPlan
 projected-is-taken t cs ws f ok r h e = rw (ok, all-readable 0 ws r, gamma-taken t f ok cs ws h r e)
-
--- ---- Every named sample has a word in range, where none is refused
-
--- of a test that is implied
-implied : (a b : Bool) → not a || b ≡ true → a ≡ true → b ≡ true
-implied true b h e = h
-implied false b h e = absurd (false≢true e)
-
--- what answers a clipped sample is in range
-answers-in-range : (t : Float) (w p : ℕ) → answers t w p ≡ true → clipped t w ≡ true → inRange p ≡ true
-answers-in-range t w p h c =
-    let parts = both-hold (keepsBits t w p && answeredAbove t w p) (answeredBelow t w p) (opened h) in
-    elim (beyond-side t (float w) (sym (clipped-is t w) ∙ c)) [
-      | inl a ↦ both-hold (inRange p) _ (implied (le t (float w)) _ (both-hold (keepsBits t w p) _ (parts .0) .1) a) .0
-      | inr b ↦ both-hold (inRange p) _ (implied (le (float w) (neg t)) _ (parts .1) b) .0
-    ]
-  where
-    opened : answers t w p ≡ true → keepsBits t w p && answeredAbove t w p && answeredBelow t w p ≡ true
-    opened e = unfold answers in e
-
--- an answer is not both
-two-answers : {A : Type 0} (i : ℕ) (a : Answer) → a ≡ Done 0 → a ≡ Refused (Proposal i) → A
-two-answers i a p q = let none : _≡_ {A = ℕ} 0 1 = cc in absurd (omega arith)
-
--- the words that are picked out for the clipped samples are in range
-picked-in-range : (t : Float) (i j : ℕ) (ws ps : List ℕ) → answered t i ws ps ≡ Done 0 → ranged (picked j (map (clipped t) ws) ps) ≡ Done 0
-picked-in-range t i j [] ps h = unfold picked ranged in refl
-picked-in-range t i j (w ∷ ws) [] h = unfold picked ranged in refl
-picked-in-range t i j (w ∷ ws) (p ∷ ps) h = elim (truth (answers t w p)) [
-  | inl a ↦ one (truth (clipped t w)) (answers-in-range t w p a) (picked-in-range t (i + 1) (j + 1) ws ps (rw (answered-cons, a) at h))
-  | inr n ↦ two-answers i _ h (rw (answered-cons, n))
-]
-  where
-    one : EitherWay (clipped t w) → (clipped t w ≡ true → inRange p ≡ true) → ranged (picked (j + 1) (map (clipped t) ws) ps) ≡ Done 0
-        → ranged (picked j (clipped t w ∷ map (clipped t) ws) (p ∷ ps)) ≡ Done 0
-    one (inl c) r later = unfold picked ranged in rw (c, r c) later
-    one (inr c) r later = unfold picked ranged in rw c later
-
--- so it is of the proposal as a whole
-results-are-in-range : ResultsAreInRange
-unfolding named
-results-are-in-range t ws ps h = picked-in-range t 0 0 ws ps (same-length (truth (eqb (length ps) (length ws))))
-  where
-    same-length : EitherWay (eqb (length ps) (length ws)) → answered t 0 ws ps ≡ Done 0
-    same-length (inl e) = unfold taken in rw e at h
-    same-length (inr n) = two-answers 0 _ h (unfold taken in rw n)
 
 -- ---- The call
 
