@@ -1,13 +1,15 @@
 // Runs rows of document 01's "Sums done by hand" on the compiled code and writes what each leaves: the
 // number and the value of the answer and used, then samples and journal in hexadecimal digits and the
 // marks and the counts of the blocks in decimal ones; and of a gap the order of its model. And *quiet* once
-// more by a list of gaps, and a steady tone that decrackle redraws from the old start and leaves alone from the mean.
+// more by a list of gaps, a steady tone that decrackle redraws from the old start and leaves alone from the mean,
+// and proposals for three samples.
 ghost use Prim.Native.Nat.{_≤_};
 ghost use lib.ListN.{length};
 use decrackle::Start;
 use inpaint::GapAnswer;
 use inpaint::gap::inpaint_gap;
 use leaves::words::word_of_f32;
+use proposed::declip_proposed;
 use recording::Answer;
 use recording::numbers::number_of;
 use recording::numbers::value_of;
@@ -15,7 +17,7 @@ use recording::open::open;
 use recording::undo::undo;
 use splice::inpaint_gaps;
 
-// 2^-30, which stands around the gap of *quiet*, and the plain numbers 1, -1 and 4096.
+// 2^-30, which stands around the gap of *quiet*, and the plain numbers 1, -1, 4096, 1/2, 1 1/2, -2 and 2.
 const SOFT: u32 = 0x3080_0000;
 
 const ONE: u32 = 0x3f80_0000;
@@ -23,6 +25,19 @@ const ONE: u32 = 0x3f80_0000;
 const MINUS_ONE: u32 = 0xbf80_0000;
 
 const LAST: u32 = 0x4580_0000;
+
+const HALF: u32 = 0x3f00_0000;
+
+const MORE: u32 = 0x3fc0_0000;
+
+const MINUS_TWO: u32 = 0xc000_0000;
+
+const TWO: u32 = 0x4000_0000;
+
+// -1/2, and the float just below 1.
+const MINUS_HALF: u32 = 0xbf00_0000;
+
+const BELOW_ONE: u32 = 0x3f7f_ffff;
 
 // What stands in lent memory that nobody has written yet.
 const LEFT: u32 = 0xdead_beef;
@@ -297,6 +312,44 @@ fn tone(title: &[u8], start: Start) {
     decrackle_and_show(title, &mut samples, &mut marks, 5.0, start);
 }
 
+// 1/2, 1 and -2, freshly opened, and this proposal for them at the threshold 1; then what an undo leaves.
+fn propose(title: &[u8], proposal: &[u32]) {
+    let mut samples = [HALF, ONE, MINUS_TWO];
+    let mut marks = [7u8; 3];
+    let mut counts = [LEFT_COUNT; 1];
+    let mut journal = [LEFT; 8];
+    let mut used: usize = 99;
+    open(&samples, &mut marks, &mut counts, &mut journal, &mut used);
+    let answer = declip_proposed(
+        &mut samples,
+        &mut marks,
+        &mut counts,
+        &mut journal,
+        &mut used,
+        1.0,
+        proposal,
+    );
+    show(title, answer, &samples, &marks, &counts, &journal, used);
+    take_back(
+        &mut samples,
+        &mut marks,
+        &mut counts,
+        &mut journal,
+        &mut used,
+    );
+}
+
+// One that is taken, and two that are not: the sample under the threshold has its sign changed; 1 is answered by
+// the float below it, and -2 by 2.
+fn proposals() {
+    let kept = [HALF, MORE, MINUS_TWO];
+    propose(b"1/2, 1 1/2 and -2", &kept);
+    let turned = [MINUS_HALF, MORE, MINUS_TWO];
+    propose(b"-1/2, 1 1/2 and -2", &turned);
+    let beside = [HALF, BELOW_ONE, TWO];
+    propose(b"1/2, the float below 1, and 2", &beside);
+}
+
 // How many samples are the number of their place.
 fn own_numbers(samples: &[u32]) -> usize
     requires { ⌜ length (now samples) ≤ 4097 ⌝ }
@@ -416,6 +469,8 @@ fn main() {
     io::write_all(1, b"A steady tone of eight samples\n");
     tone(b"decrackle at 5 from the old start", Start::Old);
     tone(b"decrackle at 5 from the mean", Start::Mean);
+    io::write_all(1, b"1/2, 1 and -2, with proposals at the threshold 1\n");
+    proposals();
     io::write_all(1, b"Long gaps\n");
     long_gaps();
 }

@@ -1,10 +1,9 @@
 -- "What is turned away": document 01's table with request P5's line 14 and request P9's line 15, a definition for each line, whose words the
--- comments quote. (Refusal 12
--- is none of them: it is that of the reader of frames, which is no call on a recording, and stands with its rule in the crate `frames`. So do
--- the two refusals of the span question, in the crate `recording`.) A line says of what a call asks
--- for, and of the recording that it finds, whether it applies, whatever the other lines say. "The lowest number that applies is the
--- answer": a call tests the lines in the order of `tests`, and answers with the first that applies. That each call does so is
--- `GivenExactlyWhen` of Demands.antt. Definitions only.
+-- comments quote. (Refusal 12 is none of them: it is that of the reader of frames, which is no call on a recording, and stands with its rule
+-- in the crate `frames`. So do the two refusals of the span question, in the crate `recording`.) A line says of what a call asks for, and of
+-- the recording that it finds, whether it applies, whatever the other lines say. "The lowest number that applies is the answer": a call tests
+-- the lines in the order of `tests`, and answers with the first that applies. That each call does so is `GivenExactlyWhen` of Demands.antt.
+-- Definitions only.
 use Prim.Native.Nat.{ℕ, _-_}
 use mathlib.Core.Bool.{Bool, true, false, not, _&&_, _||_}
 use mathlib.Core.List.{List, [], _∷_, _++_}

@@ -38,7 +38,7 @@ answers threshold w p = keepsBits threshold w p && answeredAbove threshold w p &
 
 -- ---- Refusal 15
 
--- "breaking the rule, with the lowest place", from place i on; or else an acceptance
+-- "breaking the rule, with the lowest place", of samples that stand from place i on and as many words; or else an acceptance
 unfoldable pub answered : Float → ℕ → List ℕ → List ℕ → Answer
 unfolding answers
 answered threshold i [] ps = Done 0

@@ -161,7 +161,7 @@ committed s mark cs =
 
 -- ---- A repair: its rule, and refusals 7, 8 and 9
 
--- what a repair's own rule makes of the samples: a reason among 4 to 7, or a mark and the named samples, ascending
+-- what a repair's own rule makes of the samples: a reason among 4 to 7, or 15 for a proposal, or a mark and the named samples, ascending
 pub data Plan : Type 0 where
   refuse : Reason → Plan
   change : ℕ → List Placed → Plan
@@ -194,7 +194,7 @@ entered s mark cs =
     if ltb free (entrySize m) then refused s Room else
     ended (Done m) (committed s mark cs)
 
--- refusals 4 to 7 are the plan's own, then 8, then 9
+-- refusals 4 to 7 and 15 are the plan's own, then 8, then 9
 unfoldable pub carried : State → Plan → Ended
 unfolding ranged entered
 carried s (refuse why) = refused s why
