@@ -405,9 +405,10 @@ uint32_t cathar_dequantize_cosparse(uint32_t *samples, size_t n, uint8_t *marks,
  *   a sample at or above the threshold is answered by one that is in range and at or above it;
  *   a sample at or below the negative threshold by one that is in range and at or below that.
  * So, whoever made the proposal, an accepted one changes no sample under the threshold, and leaves every other in range
- * and on its side of it. The threshold is all that limits how many samples a proposal may rewrite: at the least one, all
- * but the zeros; the marks tell which. What the original's project_gamma makes of candidates that are in range or NaN is always
- * accepted, where the recording is in range and the journal has room.
+ * and on its side of it. The threshold is all that limits how many samples a proposal may rewrite: at the least float
+ * above 0 these are all but the zeros. The marks tell which they are.
+ * What the original's project_gamma makes of candidates that are in range or NaN is always accepted, where the
+ * recording is in range and the journal has room.
  * proposal is proposal_n words, each the pattern of a float; it is only read. Named are all samples whose magnitude is
  * at or above the threshold, also those whose proposed word is the one that they had. To name none is no refusal, and
  * makes no entry in the journal. There is no workspace.
