@@ -18,18 +18,21 @@ use cathar_host::recording::{counted, entry_words, in_range, Answer, Recording};
 use cathar_host::room::{self, Room};
 use cathar_host::settings::{self, HUGE, NO_THRESHOLDS, TINY};
 use cathar_host::shapes::Shape;
-use proposed::calls::{propose, propose_any, propose_with, Calls, ACCEPTED, BROKEN, REFUSED};
+use proposed::calls::{propose, propose_any, Calls, ACCEPTED, BROKEN, REFUSED};
 use proposed::limits::{self, Faults};
 use proposed::short;
 use std::ops::Range;
 
 /// How many recordings are projected onto for each shape, with candidates of each kind: short ones, longer ones, and ones
 /// of some thousand samples.
-const SHORT: u64 = 1_500;
-const SHAPED: u64 = 400;
+const SHORT: u64 = 4_000;
+const SHAPED: u64 = 800;
 const LONG: u64 = 5;
 
-/// How many proposals are damaged in each way, and how many in several ways at once.
+/// How many proposals that keep to the rule are tried: short ones, ones of several blocks, and of some thousand samples.
+const KEPT: [(u64, Range<u64>); 3] = [(30_000, 0..60), (1_500, 200..800), (100, 1_000..4_001)];
+
+/// How many are damaged in each way, and how many in several ways at once.
 const DAMAGED: u64 = 5_000;
 const SEVERAL: u64 = 20_000;
 
@@ -91,7 +94,7 @@ fn projections() {
         }
     }
     count.begin("from recordings that are not in range");
-    for _ in 0..SHORT * 4 {
+    for _ in 0..SHORT {
         let mut samples = any_samples(&mut draw, &(1..60));
         let threshold = settings::threshold(&mut draw, &samples);
         let candidates = candidates(&mut draw, &samples, threshold, Among::OrNan);
@@ -113,6 +116,19 @@ fn kept(draw: &mut Draw) -> (Vec<u32>, f32, Vec<u32>) {
         if is_allowed(threshold) {
             let proposal = proposal(draw, &samples, threshold);
             return (samples, threshold, proposal);
+        }
+    }
+}
+
+/// Proposals that keep to the rule, at any threshold.
+fn propose_kept(count: &mut Calls, draw: &mut Draw) {
+    count.begin("that keep to the rule, at any threshold");
+    for (times, sizes) in KEPT {
+        for _ in 0..times {
+            let samples = any_samples(draw, &sizes);
+            let threshold = settings::threshold(draw, &samples);
+            let proposal = proposal(draw, &samples, threshold);
+            propose_any(count, draw, &samples, threshold, &proposal);
         }
     }
 }
@@ -210,19 +226,13 @@ fn proposals() {
     let mut draw = Draw::new(seed);
     let mut count = Count::new("cathar_declip_proposed against the model", &[ACCEPTED, REFUSED, BROKEN]);
     propose_refused(&mut count, &mut draw);
+    propose_kept(&mut count, &mut draw);
     propose_damaged(&mut count, &mut draw);
     propose_at_thresholds(&mut count, &mut draw);
     count.begin("clipped beside the ends of blocks");
     limits::beside_blocks(&mut draw, &mut |draw, samples, proposal| {
         propose_any(&mut count, draw, samples, limits::THRESHOLD, proposal);
     });
-    count.begin("1,000 to 4,000 samples");
-    for _ in 0..100 {
-        let samples = any_samples(&mut draw, &(1_000..4_001));
-        let threshold = settings::threshold(&mut draw, &samples);
-        let proposal = proposal(&mut draw, &samples, threshold);
-        propose_with(&mut count, &mut draw, &samples, threshold, &proposal, Room::Exact);
-    }
     propose_short(&mut count, &mut draw);
     count.begin("the most samples");
     limits::most(&mut draw, &mut |(model, threshold, proposal)| {

@@ -136,28 +136,15 @@ pub fn propose(count: &mut Calls, both: &mut Both, threshold: f32, proposal: &[u
     answer
 }
 
-/// Both sides are handed this proposal for these samples, with so much room in the journal.
-pub fn propose_with(
-    count: &mut Calls,
-    draw: &mut Draw,
-    samples: &[u32],
-    threshold: f32,
-    proposal: &[u32],
-    journal: Room,
-) -> Answer {
+/// Both sides are handed this proposal for these samples, mostly with enough room in the journal.
+pub fn propose_any(count: &mut Calls, draw: &mut Draw, samples: &[u32], threshold: f32, proposal: &[u32]) -> Answer {
     let entry = match proposed::named(samples, threshold).len() {
         0 => 0,
         m => entry_words(m),
     };
-    let free = journal.of(draw, entry);
+    let free = Room::any(draw).of(draw, entry);
     let model = room::recording(draw, samples.to_vec(), free);
     propose(count, &mut Both::new(model), threshold, proposal)
-}
-
-/// Likewise, with enough room mostly.
-pub fn propose_any(count: &mut Calls, draw: &mut Draw, samples: &[u32], threshold: f32, proposal: &[u32]) -> Answer {
-    let room = Room::any(draw);
-    propose_with(count, draw, samples, threshold, proposal, room)
 }
 
 /// What is met wherever the original's proposals are.
@@ -217,11 +204,6 @@ pub const REFUSED: &[Class<Call>] = &[
     Class { name: "at another place", least: 500, holds: |c| c.breaks_at(|place, n| place > 0 && place + 1 < n) },
     Class { name: "at the lowest of several", least: 1_000, holds: Call::breaks_more },
     Class {
-        name: "for a NaN",
-        least: 100,
-        holds: |c| c.breaks(Breach::Range, |_, word| f32::from_bits(word).is_nan()),
-    },
-    Class {
         name: "for an infinity",
         least: 100,
         holds: |c| c.breaks(Breach::Range, |_, word| f32::from_bits(word).is_infinite()),
@@ -236,7 +218,12 @@ pub const REFUSED: &[Class<Call>] = &[
 
 /// What is met beside that where the proposals are not the original's.
 pub const BROKEN: &[Class<Call>] = &[
-    Class { name: "on the most samples", least: 5, holds: |c| c.names() && c.n() == 1_048_576 },
+    Class {
+        name: "for a NaN",
+        least: 100,
+        holds: |c| c.breaks(Breach::Range, |_, word| f32::from_bits(word).is_nan()),
+    },
+    Class { name: "on the most samples", least: 2, holds: |c| c.names() && c.n() == 1_048_576 },
     Class { name: "naming all of the most samples", least: 1, holds: |c| c.names() && c.named == 1_048_576 },
     Class {
         name: "15, a word too few",
