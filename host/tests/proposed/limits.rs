@@ -106,8 +106,11 @@ pub fn counts(draw: &mut Draw, put: &mut dyn FnMut(Made)) {
     }
 }
 
+/// Takes samples and a proposal.
+type Put<'a> = &'a mut dyn FnMut(&mut Draw, &[u32], &[u32]);
+
 /// Hands on recordings of several blocks, of which one sample or two, beside the ends of blocks, are clipped.
-pub fn beside_blocks(draw: &mut Draw, put: &mut dyn FnMut(&mut Draw, &[u32], &[u32])) {
+pub fn beside_blocks(draw: &mut Draw, put: Put) {
     for n in [255, 256, 257, 511, 512, 513, 767, 768, 769, 1_023] {
         let ends = (0..n).filter(|place| [0, 1, BLOCK - 1].contains(&(place % BLOCK)) || place + 1 == n);
         let ends: Vec<usize> = ends.collect();
