@@ -23,13 +23,13 @@ use proposed::limits::{self, Faults};
 use proposed::short;
 use std::ops::Range;
 
-/// How many recordings are projected onto for each shape, with candidates of each kind: short ones, longer ones, and ones
-/// of some thousand samples.
+/// How many recordings are projected onto for each shape, with candidates of each kind: short ones, longer ones, and
+/// ones of some thousand samples.
 const SHORT: u64 = 4_000;
 const SHAPED: u64 = 800;
 const LONG: u64 = 5;
 
-/// How many proposals that keep to the rule are tried: short ones, ones of several blocks, and of some thousand samples.
+/// How many proposals that keep to the rule are tried: short ones, ones of some blocks, and of some thousand samples.
 const KEPT: [(u64, Range<u64>); 3] = [(30_000, 0..60), (1_500, 200..800), (100, 1_000..4_001)];
 
 /// How many are damaged in each way, and how many in several ways at once.

@@ -1,7 +1,7 @@
 //! Stand-ins for declip by a proposal.
 use super::recording::where_also;
 use super::whole::{answers, set_value, value};
-use super::How::Model;
+use super::How::{Alike, Model};
 use super::{Finds, Standin, Table};
 use crate::call::Call;
 use crate::lent::{Lent, GUARDS, VALUE_BEFORE};
@@ -18,6 +18,7 @@ pub(super) const TABLES: &[Table] = &[
     Table { file: "proposed", test: "proposals", finds: Finds::Always, standins: OF_ENTRIES },
     Table { file: "proposed", test: "proposals", finds: Finds::Always, standins: OF_MEMORY },
     Table { file: "proposed", test: "proposals", finds: Finds::Always, standins: OF_MODEL },
+    Table { file: "proposed", test: "proposals", finds: Finds::Always, standins: OF_BOTH },
     Table { file: "proposed", test: "projections", finds: Finds::Always, standins: OF_PROJECTED },
     Table { file: "proposed", test: "proposals", finds: Finds::Never, standins: RIGHT },
 ];
@@ -448,6 +449,66 @@ const OF_MODEL: &[Standin] = &[
     },
 ];
 
+/// On both sides, so that only what has to hold of every proposal that is taken tells.
+const OF_BOTH: &[Standin] = &[
+    Standin {
+        name: "proposed_both_clear_minus_0",
+        says: "a -0 under the threshold becomes +0",
+        how: Alike(|_, before, after| {
+            if after.used > before.used {
+                after.samples.iter_mut().filter(|word| **word == 0x8000_0000).for_each(|word| *word = 0);
+            }
+        }),
+    },
+    Standin {
+        name: "proposed_both_keep_last_word",
+        says: "the last sample that is named keeps its word",
+        how: Alike(|_, before, after| {
+            if after.used > before.used {
+                let place = after.journal[after.used - 5] as usize;
+                after.samples[place] = before.samples[place];
+            }
+        }),
+    },
+    Standin {
+        name: "proposed_both_mark_3",
+        says: "the first sample that is named is marked 3",
+        how: Alike(|_, before, after| {
+            if after.used > before.used {
+                after.marks[after.journal[before.used] as usize] = 3;
+            }
+        }),
+    },
+    Standin {
+        name: "proposed_both_mark_one_more",
+        says: "the sample behind the last one that is named is marked too",
+        how: Alike(|_, before, after| {
+            if after.used > before.used {
+                let behind = after.journal[after.used - 5] as usize + 1;
+                after.marks.iter_mut().skip(behind).take(1).for_each(|mark| *mark = PROPOSED);
+            }
+        }),
+    },
+    Standin {
+        name: "proposed_both_change_when_refused",
+        says: "a mark is changed where nothing is named or the proposal is refused",
+        how: Alike(|_, before, after| {
+            if after.used == before.used {
+                after.marks.iter_mut().take(1).for_each(|mark| *mark ^= 1);
+            }
+        }),
+    },
+    Standin {
+        name: "proposed_both_used_one_more",
+        says: "used rises by a word too many where there is one",
+        how: Alike(|_, before, after| {
+            if after.used > before.used && after.used < after.journal.len() {
+                after.used += 1;
+            }
+        }),
+    },
+];
+
 /// Words that the original makes.
 const OF_PROJECTED: &[Standin] = &[
     library!(
@@ -475,7 +536,7 @@ const OF_PROJECTED: &[Standin] = &[
     }),
 ];
 
-/// The side is that of the sample's sign, since a sample that is clipped is no zero.
+/// That the rules by hand are right is what makes one of them at a time wrong.
 const RIGHT: &[Standin] =
     &[library!("proposed_by_hand", "the rules written by hand once more, and right", |lent, call| {
         by(lent, call, RULES)
@@ -534,7 +595,7 @@ fn side_alone(x: f32, word: u32, _: f32) -> bool {
     in_range(word) && f32::from_bits(word).is_sign_negative() == x.is_sign_negative()
 }
 
-/// A call written by hand, by these rules. Where they allow a proposal that is too short, what stands behind it is read.
+/// A call written by hand, by these rules. Where they allow a proposal that is too short, what is behind it is read.
 fn by(lent: &mut Lent, call: Call, rules: Rules) -> u32 {
     let threshold = match call {
         Call::Proposed { threshold } => threshold,

@@ -1,9 +1,9 @@
 //! One proposal, handed to both sides, and what is counted of it.
-use cathar_host::both::Both;
+use cathar_host::both::{Both, Wrong};
 use cathar_host::count::{Class, Count};
 use cathar_host::draw::Draw;
 use cathar_host::proposed::{self, breach, breaches, Breach};
-use cathar_host::recording::{entry_words, in_range, Answer, BLOCK};
+use cathar_host::recording::{entry_words, in_range, Answer, Recording, BLOCK};
 use cathar_host::room::{self, Room};
 use std::fmt;
 
@@ -119,12 +119,44 @@ impl Call {
 
 pub type Calls = Count<Call>;
 
+/// Whether a sample stands as it has to after an acceptance, whoever made the proposal, by its word and mark before and
+/// after: under the threshold it has both as before; and at or beyond it, it is in range, on its side, and marked 8.
+fn stands([was, is]: [(u32, u8); 2], threshold: f32) -> bool {
+    let [x, y] = [was, is].map(|(word, _)| f32::from_bits(word));
+    if x.abs() < threshold {
+        return is == was;
+    }
+    let is_on_side = x >= threshold && y >= threshold || x <= -threshold && y <= -threshold;
+    is_on_side && in_range(is.0) && is.1 == 8
+}
+
+/// What is wrong whatever the model says: a change by a call that was refused or named nothing, samples that are not
+/// the proposal after an acceptance, or one that does not stand as it has to, and a used that has not risen by its
+/// entry.
+fn broken(before: &Recording, after: &Recording, call: (f32, &[u32]), answer: Answer) -> Wrong {
+    let (threshold, proposal) = call;
+    if answer.number() != 0 || answer.value() == 0 {
+        let is_same = before == after && (answer.number() != 0 || after.samples == proposal);
+        return if is_same { Vec::new() } else { vec!["the recording from what it was"] };
+    }
+    let each = |of: &Recording| of.samples.iter().copied().zip(of.marks.iter().copied()).collect::<Vec<_>>();
+    let stand = each(before).into_iter().zip(each(after)).all(|(was, is)| stands([was, is], threshold));
+    let wrong = [
+        ("the samples from the proposal", after.samples != proposal),
+        ("a sample that does not stand as it has to", !stand),
+        ("used from what the entry takes", after.used != before.used + entry_words(answer.value())),
+    ];
+    wrong.into_iter().filter(|(_, wrong)| *wrong).map(|(name, _)| name).collect()
+}
+
 /// Both sides are handed this proposal. The answer is the model's, which never gives 8.
 pub fn propose(count: &mut Calls, both: &mut Both, threshold: f32, proposal: &[u32]) -> Answer {
-    let before = both.model.samples.clone();
-    let free = both.model.journal.len().saturating_sub(both.model.used);
-    let (answer, wrong) = both.declip_proposed(threshold, proposal);
+    let recording = both.model.clone();
+    let free = recording.journal.len().saturating_sub(recording.used);
+    let (answer, mut wrong) = both.declip_proposed(threshold, proposal);
     assert_ne!(answer.number(), 8, "8 isn't given");
+    wrong.extend(broken(&recording, &both.model, (threshold, proposal), answer));
+    let before = recording.samples;
     let changed = before.iter().zip(&both.model.samples).filter(|(old, new)| old != new).count();
     let places = proposed::named(&before, threshold);
     let block = |place: Option<&usize>| place.map(|place| place / BLOCK);

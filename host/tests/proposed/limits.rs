@@ -127,8 +127,8 @@ pub fn beside_blocks(draw: &mut Draw, put: Put) {
 }
 
 /// Hands on calls on recordings of the most samples, with journal for just what is named and with one word less: with a
-/// proposal for some of them and for every one; with the first word broken or the last, with a word too few or too many,
-/// with a threshold that is not allowed, and with a NaN as the last sample.
+/// proposal for some of them and for every one; with the first word broken or the last, with a word too few or too
+/// many, with a threshold that is not allowed, and with a NaN as the last sample.
 pub fn most(draw: &mut Draw, put: &mut dyn FnMut(Made)) {
     let samples = saw(MOST_SAMPLES);
     for threshold in [THRESHOLD, 0.5] {
