@@ -7,6 +7,7 @@ use crate::inpaint::{self, Gap, GapAnswer, Lists, Scan, Several};
 use crate::lent::crackle::Crackle;
 use crate::lent::frames::Frames;
 use crate::lent::{Lent, VALUE_BEFORE};
+use crate::proposed;
 use crate::question::{Span, Told};
 use crate::recording::{Answer, Recording};
 use crate::settings::OfScan;
@@ -117,6 +118,16 @@ impl Both {
         let number = self.lent.make(call);
         let wrong = with_answer(self.lent.wrong(&self.model, answer.value()), number, answer.number());
         (answer, with_part(wrong, "workspace", self.lent.holds_words(&work)))
+    }
+
+    /// Both sides are lent this proposal for the samples at or beyond the threshold. It has to stay as it is.
+    pub fn declip_proposed(&mut self, threshold: f32, proposal: &[u32]) -> (Answer, Wrong) {
+        self.lent.lend_proposal(proposal);
+        let call = Call::Proposed { threshold };
+        let answer = self.by_model(call, |model| proposed::declip_proposed(model, threshold, proposal));
+        let number = self.lent.make(call);
+        let wrong = with_answer(self.lent.wrong(&self.model, answer.value()), number, answer.number());
+        (answer, with_part(wrong, "proposal", self.lent.holds_proposal(proposal)))
     }
 
     /// Both sides are asked of a span.

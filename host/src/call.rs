@@ -1,4 +1,5 @@
-//! A call of the library on a recording, without the memory that is lent to it, the lists of several gaps among that.
+//! A call of the library on a recording, without the memory that is lent to it, which has the lists of several gaps and
+//! a proposal among it.
 use crate::inpaint::Gap;
 use crate::whole::Repair;
 
@@ -11,6 +12,7 @@ pub enum Call {
     Gaps { passes: u32 },
     Scan { rate: u32, max_gap_ms: f32 },
     Whole(Repair),
+    Proposed { threshold: f32 },
 }
 
 impl Call {

@@ -199,6 +199,21 @@ mod exports {
             work_n: usize,
             value: *mut usize,
         ) -> u32;
+        pub fn cathar_declip_proposed(
+            samples: *mut u32,
+            n: usize,
+            marks: *mut u8,
+            marks_n: usize,
+            counts: *mut u16,
+            counts_n: usize,
+            journal: *mut u32,
+            journal_n: usize,
+            used: *mut usize,
+            threshold: f32,
+            proposal: *const u32,
+            proposal_n: usize,
+            value: *mut usize,
+        ) -> u32;
         pub fn cathar_crackle_begin(total: usize, sensitivity: f32, state: *mut u32, state_n: usize) -> u32;
         pub fn cathar_crackle_begin_old_start(total: usize, sensitivity: f32, state: *mut u32, state_n: usize) -> u32;
         pub fn cathar_crackle_piece(
@@ -641,6 +656,41 @@ pub fn dequantize_cosparse(
             iterations,
             work.as_mut_ptr(),
             work.len(),
+            value,
+        )
+    }
+}
+
+/// Takes a proposal for the samples whose magnitude is at or above the threshold, where every word of it keeps to the
+/// rule. Answers 0, with how many samples it names in `value`, or the number of the refusal, with the place there for
+/// 7 and 15 and 0 for the others.
+// The arguments are those of the C function.
+#[allow(clippy::too_many_arguments)]
+pub fn declip_proposed(
+    samples: &mut [u32],
+    marks: &mut [u8],
+    counts: &mut [u16],
+    journal: &mut [u32],
+    used: &mut usize,
+    threshold: f32,
+    proposal: &[u32],
+    value: &mut usize,
+) -> u32 {
+    // As above.
+    unsafe {
+        exports::cathar_declip_proposed(
+            samples.as_mut_ptr(),
+            samples.len(),
+            marks.as_mut_ptr(),
+            marks.len(),
+            counts.as_mut_ptr(),
+            counts.len(),
+            journal.as_mut_ptr(),
+            journal.len(),
+            used,
+            threshold,
+            proposal.as_ptr(),
+            proposal.len(),
             value,
         )
     }

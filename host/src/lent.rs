@@ -123,6 +123,11 @@ fn list(words: &[u32]) -> Part<u32> {
     Part::new(words, 0x5a5a_a5a5)
 }
 
+/// A proposal. Around it stands 65,536, which could be one's word, so that a call that reads it is found out.
+fn proposal(words: &[u32]) -> Part<u32> {
+    Part::new(words, 0x4780_0000)
+}
+
 /// Counts. What stands around them is no block's.
 pub(crate) fn counts(counts: &[u16]) -> Part<u16> {
     Part::new(counts, 0x5a5a)
@@ -130,7 +135,7 @@ pub(crate) fn counts(counts: &[u16]) -> Part<u16> {
 
 /// A recording; two numbers that a call hands back, of which most calls have one or none; what the question hands
 /// back; the two workspaces, of which a call has one or none; the order that the repair of a gap hands back, the list
-/// that a scan is lent for orders, and the lists of several gaps.
+/// that a scan is lent for orders, the lists of several gaps, and a proposal.
 pub struct Lent {
     pub(crate) samples: Part<u32>,
     pub(crate) marks: Part<u8>,
@@ -144,11 +149,12 @@ pub struct Lent {
     pub(crate) order: Part<u32>,
     pub(crate) orders: Part<u32>,
     pub(crate) several: Several,
+    pub(crate) proposal: Part<u32>,
 }
 
 impl Lent {
-    /// The same words as the recording has, no workspace, and empty lists. Around the journal stands 1, which could be
-    /// an entry's place, m or mark, so that a call that takes it for the journal's is found out too.
+    /// The same words as the recording has, no workspace, empty lists and an empty proposal. Around the journal stands 1,
+    /// which could be an entry's place, m or mark, so that a call that takes it for the journal's is found out too.
     pub fn new(recording: &Recording) -> Lent {
         Lent {
             samples: Part::new(&recording.samples, 0x5a5a_5a5a),
@@ -163,6 +169,7 @@ impl Lent {
             order: Part::new(&[ORDER_BEFORE], 0xa5a5_a5a5),
             orders: list(&[]),
             several: Several::new(&Lists::default()),
+            proposal: proposal(&[]),
         }
     }
 
@@ -179,6 +186,16 @@ impl Lent {
     /// From here on a list of these words is lent to a scan for its orders.
     pub fn lend_orders(&mut self, of: &[u32]) {
         self.orders = list(of);
+    }
+
+    /// From here on this proposal is lent.
+    pub fn lend_proposal(&mut self, words: &[u32]) {
+        self.proposal = proposal(words);
+    }
+
+    /// Whether the proposal has these words, and the guards around it stand.
+    pub fn holds_proposal(&self, words: &[u32]) -> bool {
+        self.proposal.holds(patterns(words))
     }
 
     /// Whether this order was handed back, and the guards around it stand.
@@ -255,6 +272,10 @@ impl Lent {
                 cathar::inpaint_auto(samples, marks, counts, journal, used, rate, ms, work, orders, value, other)
             }
             Call::Whole(repair) => self.repair(repair),
+            Call::Proposed { threshold } => {
+                let proposal = self.proposal.lent();
+                cathar::declip_proposed(samples, marks, counts, journal, used, threshold, proposal, value)
+            }
         }
     }
 

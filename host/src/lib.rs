@@ -1,7 +1,7 @@
 //! The functions of the static library, and what the tests hold them to: Rust's own operations for the float leaves, a
-//! model for the recording, one for the question whether a span was measured, one for the bus's frames and one for the
-//! crackle detector, for the samples that a repair writes the original Rust, and for the order of a gap's model a
-//! prediction step of the host's.
+//! model for the recording, one for the question whether a span was measured, one for the bus's frames, one for the
+//! crackle detector and one for declip by a proposal, for the samples that a repair writes the original Rust, and for
+//! the order of a gap's model a prediction step of the host's.
 pub mod both;
 pub mod call;
 pub mod cathar;
@@ -16,6 +16,8 @@ pub mod lent;
 pub mod machine;
 pub mod original;
 pub mod prediction;
+pub mod proposals;
+pub mod proposed;
 pub mod question;
 pub mod recording;
 pub mod room;

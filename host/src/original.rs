@@ -3,7 +3,7 @@
 //! the same and has to give the same, bit for bit; two NaN count as equal.
 use crate::float::{word32, word64};
 use crate::wrong;
-use original::ask::{patterns, read_list, Ask, RATE};
+use original::ask::{each_projected, patterns, read_list, Ask, RATE};
 use original::declip::{declip_with_method, DeclipMethod};
 use std::cell::{Cell, RefCell};
 use std::env;
@@ -112,6 +112,12 @@ pub fn inpaint_auto(samples: &[f32], rate: u32, max_gap_ms: f32) -> Vec<f32> {
 pub fn declip(samples: &[f32], threshold: f32) -> Vec<f32> {
     let after = declip_with_method(samples, threshold, DeclipMethod::Cubic);
     left(after, Kind::Declip, [pattern(threshold), 0, 0], samples)
+}
+
+/// What `project_gamma` makes of as many candidates as there are samples.
+pub fn project_gamma(candidates: &[f32], samples: &[f32], threshold: f32) -> Vec<f32> {
+    let after = each_projected(candidates, samples, threshold);
+    left(after, Kind::Gamma, [pattern(threshold), 0, 0], &[candidates, samples].concat())
 }
 
 pub fn decrackle(samples: &[f32], sensitivity: f32) -> Vec<f32> {

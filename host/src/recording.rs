@@ -1,7 +1,7 @@
 //! A recording as document 01 has it: samples, marks, journal and used, and what opening, undo and the end of a repair
-//! make of them; and of document 02 the second opening, of request P2, the counts, of request P5, and mark 7, of
-//! request P7. It is written from the documents' text alone, and to be seen right rather than to be fast, so that the
-//! library can be held to it.
+//! make of them; and of document 02 the second opening, of request P2, the counts, of request P5, mark 7, of request
+//! P7, and mark 8, of request P9. It is written from the documents' text alone, and to be seen right rather than to be
+//! fast, so that the library can be held to it.
 
 /// The most samples of a recording that is not turned away.
 pub const MOST_SAMPLES: usize = 1_048_576;
@@ -19,7 +19,7 @@ pub enum Answer {
     Accepted(usize),
     /// Refused, by the number in the document's table.
     Refused(u32),
-    /// Refusals 7 and 8 carry the sample's place.
+    /// Refusals 7, 8 and 15 carry the sample's place.
     RefusedAt(u32, usize),
 }
 
@@ -76,7 +76,7 @@ impl Clause {
             Clause::PlacePastEnd => "a place is not below the samples",
             Clause::PlacesDoNotRise => "places do not strictly rise",
             Clause::OldMarkTooLarge => "an old mark exceeds 255",
-            Clause::NoSuchMark => "the set mark is not 1 to 5 or 7",
+            Clause::NoSuchMark => "the set mark is not 1 to 5, 7 or 8",
         }
     }
 
@@ -108,7 +108,7 @@ struct Named {
 pub struct Recording {
     /// Each the pattern of an f32.
     pub samples: Vec<u32>,
-    /// One for each sample: 0 is measured, 1 to 5 and 7 say which repair made it, and 6 is not received.
+    /// One for each sample: 0 is measured, 1 to 5, 7 and 8 say which repair made it, and 6 is not received.
     pub marks: Vec<u8>,
     /// One for each block of samples: how many of its marks are not 0.
     pub counts: Vec<u16>,
@@ -129,9 +129,10 @@ pub fn in_range(word: u32) -> bool {
     x.is_finite() && x.abs() <= 65536.0
 }
 
-/// Whether a mark is that of a repair: 1 to 5, and by request P7 "refusal 11 now allows a set mark of 7".
+/// Whether a mark is that of a repair: 1 to 5, by request P7 "refusal 11 now allows a set mark of 7", and by request P9
+/// "refusal 11 now allows 8".
 pub fn is_made(mark: u8) -> bool {
-    matches!(mark, 1..=5 | 7)
+    matches!(mark, 1..=5 | 7 | 8)
 }
 
 /// How many blocks so many samples make.

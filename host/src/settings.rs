@@ -7,8 +7,8 @@ use crate::whole::{Repair, Start};
 pub const NO_THRESHOLDS: [f32; 8] = [0.0, -0.0, -1.0, -1e-45, f32::MIN, f32::INFINITY, f32::NEG_INFINITY, f32::NAN];
 
 /// Thresholds that are next to nothing, and those that only the loudest samples reach, or none.
-const TINY: [f32; 3] = [1e-45, f32::MIN_POSITIVE, 1e-30];
-const HUGE: [f32; 4] = [65536.0, 65536.01, 1e30, f32::MAX];
+pub const TINY: [f32; 3] = [1e-45, f32::MIN_POSITIVE, 1e-30];
+pub const HUGE: [f32; 4] = [65536.0, 65536.01, 1e30, f32::MAX];
 
 /// Sensitivities at the ends 1 and 10, next to them, and past them.
 pub const SENSITIVITIES: [f32; 16] = [
@@ -97,15 +97,18 @@ fn magnitude(draw: &mut Draw, samples: &[u32]) -> f32 {
     }
 }
 
-/// The threshold is mostly a sample's magnitude, or one step above or below it.
-pub fn declip(draw: &mut Draw, samples: &[u32]) -> Repair {
-    let threshold = match draw.below(RARELY) {
+/// A threshold is mostly a sample's magnitude, or one step above or below it.
+pub fn threshold(draw: &mut Draw, samples: &[u32]) -> f32 {
+    match draw.below(RARELY) {
         0 => one_of(draw, &NO_THRESHOLDS),
         1 => one_of(draw, &TINY),
         2 => one_of(draw, &HUGE),
         _ => f32::from_bits(magnitude(draw, samples).to_bits() + draw.below(3) as u32 - 1),
-    };
-    Repair::Declip { threshold }
+    }
+}
+
+pub fn declip(draw: &mut Draw, samples: &[u32]) -> Repair {
+    Repair::Declip { threshold: threshold(draw, samples) }
 }
 
 /// Any sensitivity, rarely one that is not allowed.

@@ -19,6 +19,7 @@ mod held;
 mod leaves;
 mod opening;
 mod orders;
+mod proposed;
 mod question;
 mod received;
 mod recording;
@@ -107,7 +108,7 @@ pub enum Finds {
 }
 
 /// All of them.
-pub const TABLES: [&[Table]; 16] = [
+pub const TABLES: [&[Table]; 17] = [
     leaves::TABLES,
     recording::TABLES,
     received::TABLES,
@@ -117,6 +118,7 @@ pub const TABLES: [&[Table]; 16] = [
     orders::TABLES,
     several::TABLES,
     whole::TABLES,
+    proposed::TABLES,
     sequences::TABLES,
     counts::TABLES,
     question::TABLES,

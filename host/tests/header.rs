@@ -13,7 +13,7 @@ use std::path::Path;
 use std::process::{Command, Stdio};
 
 /// How many functions there are.
-const EXPORTS: usize = 20;
+const EXPORTS: usize = 21;
 
 fn compiles(compiler: &str, standard: &str, language: &str) {
     let header = file("include/cathar.h");
@@ -275,7 +275,7 @@ fn as_exported() {
     assert_eq!(exports.len(), EXPORTS);
     assert_eq!(declared_in_header(), exports, "the header, and what is exported");
     assert_eq!(declared("host/src/cathar.rs"), exports, "the declarations of this package, and what is exported");
-    for example in ["examples/repair.rs", "examples/gaps.rs", "examples/crackle.rs"] {
+    for example in ["examples/repair.rs", "examples/gaps.rs", "examples/crackle.rs", "examples/propose.rs"] {
         assert!(declared(example).is_subset(&exports), "the declarations of {example}");
     }
 }

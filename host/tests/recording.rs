@@ -217,11 +217,12 @@ fn quiet() {
     assert_eq!(model.undo(), Answer::Refused(10));
 }
 
-/// Refusal 11 by the set mark alone: 1 to 5 are taken back, by request P7 also 7, and no other is.
+/// Refusal 11 by the set mark alone: 1 to 5 are taken back, by request P7 also 7, by request P9 also 8, and no other:
+/// not 0, 6 or 9.
 #[test]
 fn set_marks() {
     limits::set_marks(&mut |mut model, set| {
-        let allowed = [1, 2, 3, 4, 5, 7].contains(&set);
+        let allowed = [1, 2, 3, 4, 5, 7, 8].contains(&set);
         let (before, mut lent) = (model.clone(), Lent::new(&model));
         let answer = if allowed { Answer::Accepted(1) } else { Answer::Refused(11) };
         assert_eq!(model.undo(), answer, "the model's undo of set mark {set}");

@@ -109,7 +109,8 @@ fn play(counts: &mut Counts, draw: &mut Draw, group: &Group) {
     counts.sequences.take(&ended, &wrong);
 }
 
-/// Both sides make the survivors alone, on a fresh copy of the raw recording. What is then not the same.
+/// Both sides make the survivors alone, on a fresh copy of the raw recording: "Demand 3's replay takes the proposal as
+/// part of the repair." What is then not the same.
 fn replay(count: &mut Count<Step>, draw: &mut Draw, history: &History) -> Wrong {
     let mut fresh = History::new(any::unopened(draw, history.raw(), history.opening));
     made(count, draw, &mut fresh, history.opening);

@@ -1,6 +1,6 @@
 //! What the original, or Rust itself, is asked by another process: a call with its settings and its samples, or many
 //! values of one float operation. All of it goes through a pipe as 64-bit numbers, lowest byte first.
-use crate::declip::{declip_with_method, DeclipMethod};
+use crate::declip::{declip_with_method, projected, DeclipMethod};
 use crate::decrackle::decrackle;
 use crate::dequant::{dequantize, dequantize_cosparse};
 use crate::inpaint::{inpaint_auto, inpaint_gap};
@@ -18,6 +18,8 @@ pub enum Kind {
     Auto,
     /// The pattern of the threshold.
     Declip,
+    /// The pattern of the threshold. Of the patterns the first half are candidates, and the others the samples.
+    Gamma,
     /// The pattern of the sensitivity.
     Decrackle,
     /// Bits, and the pattern of the strength.
@@ -30,10 +32,11 @@ pub enum Kind {
     Round,
 }
 
-const KINDS: [Kind; 9] = [
+const KINDS: [Kind; 10] = [
     Kind::Gap,
     Kind::Auto,
     Kind::Declip,
+    Kind::Gamma,
     Kind::Decrackle,
     Kind::Dequantize,
     Kind::Cosparse,
@@ -59,6 +62,10 @@ impl Ask {
             Kind::Gap => self.repaired(|s| inpaint_gap(s, a as usize, b as usize, c as u32)),
             Kind::Auto => self.repaired(|s| inpaint_auto(s, a as u32, real(b))),
             Kind::Declip => self.repaired(|s| declip_with_method(s, real(a), DeclipMethod::Cubic)),
+            Kind::Gamma => self.repaired(|s| {
+                let (candidates, observed) = s.split_at(s.len() / 2);
+                each_projected(candidates, observed, real(a))
+            }),
             Kind::Decrackle => self.repaired(|s| decrackle(s, RATE, real(a))),
             Kind::Dequantize => self.repaired(|s| dequantize(s, RATE, a as u32, real(b))),
             Kind::Cosparse => self.repaired(|s| dequantize_cosparse(s, RATE, a as u32, real(b), c as u32)),
@@ -105,6 +112,11 @@ impl Ask {
         let settings = [read_number(from)?, read_number(from)?, read_number(from)?];
         Ok(Some(Ask { kind, settings, patterns: read_list(from)? }))
     }
+}
+
+/// What `project_gamma` makes of each candidate for its sample.
+pub fn each_projected(candidates: &[f32], observed: &[f32], threshold: f32) -> Vec<f32> {
+    candidates.iter().zip(observed).map(|(candidate, observed)| projected(*candidate, *observed, threshold)).collect()
 }
 
 /// The samples' patterns.

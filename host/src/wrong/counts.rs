@@ -50,7 +50,7 @@ macro_rules! of_recounts {
                 "the counts move as the marks do, and no block is counted",
                 |lent, call| recounting(lent, call, Made::moved_by_marks),
             ),
-            library!(concat!($call, "_counts_made_only"), "only the marks 1 to 5 and 7 are counted", |lent, call| {
+            library!(concat!($call, "_counts_made_only"), "only the marks of repairs are counted", |lent, call| {
                 recounting(lent, call, |made| made.by_marks(is_made))
             }),
             library!(concat!($call, "_counts_without_6"), "mark 6 is not counted", |lent, call| {
@@ -219,6 +219,15 @@ macro_rules! of_work {
     };
 }
 
+/// What a call makes of mark 8, which one repair alone sets.
+macro_rules! of_mark_8 {
+    ($call:literal) => {
+        &[library!(concat!($call, "_counts_without_8"), "mark 8 is not counted", |lent, call| {
+            recounting(lent, call, |made| made.by_marks(|mark| mark != 0 && mark != 8))
+        })]
+    };
+}
+
 /// What a repair that names no sample makes of the counts.
 macro_rules! of_naming_none {
     ($call:literal) => {
@@ -262,6 +271,7 @@ pub(super) const TABLES: &[Table] = &[
     table("recording", "undos", of_recounts!("undo")),
     table("recording", "undos", of_refusals!("undo")),
     table("recording", "undos", of_values!("undo")),
+    table("recording", "undos", of_mark_8!("undo")),
     table("inpaint", "repairs", of_recounts!("gap")),
     table("inpaint", "repairs", of_refusals!("gap")),
     table("inpaint", "repairs", of_values!("gap")),
@@ -297,6 +307,11 @@ pub(super) const TABLES: &[Table] = &[
     table("whole", "cosparse", of_values!("cosparse")),
     table("whole", "cosparse", of_work!("cosparse")),
     table("whole", "cosparse", of_naming_none!("cosparse")),
+    table("proposed", "proposals", of_recounts!("proposed")),
+    table("proposed", "proposals", of_refusals!("proposed")),
+    table("proposed", "proposals", of_values!("proposed")),
+    table("proposed", "proposals", of_naming_none!("proposed")),
+    table("proposed", "proposals", of_mark_8!("proposed")),
     table("sequences", "all_calls", OF_SEQUENCES),
 ];
 

@@ -132,11 +132,14 @@ const ON_REACHED: &[Standin] = &[
     asked!("question_6_is_measured", "mark 6 does not stand in the way", |lent, span| {
         saying(lent, span, |marks, _, span| of(marks, span).iter().all(|mark| [0, NOT_RECEIVED].contains(mark)))
     }),
-    asked!("question_made_is_measured", "marks 1 to 5 and 7 do not stand in the way", |lent, span| {
+    asked!("question_made_is_measured", "marks 1 to 5, 7 and 8 do not stand in the way", |lent, span| {
         saying(lent, span, |marks, _, span| !of(marks, span).iter().any(|mark| *mark != 0 && !is_made(*mark)))
     }),
     asked!("question_7_is_measured", "mark 7 does not stand in the way", |lent, span| {
         saying(lent, span, |marks, _, span| of(marks, span).iter().all(|mark| [0, 7].contains(mark)))
+    }),
+    asked!("question_8_is_measured", "mark 8 does not stand in the way", |lent, span| {
+        saying(lent, span, |marks, _, span| of(marks, span).iter().all(|mark| [0, 8].contains(mark)))
     }),
     asked!("question_blocks_of_255", "a block has 255 samples", |lent, span| {
         saying(lent, span, |marks, counts, span| by_blocks_of(marks, counts, span, 255))

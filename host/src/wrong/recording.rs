@@ -446,6 +446,11 @@ const UNDO_REFUSALS: &[Standin] = &[
         how: Library(|lent, _| undo_by(lent, Rules { old_mark: |mark| mark <= 6, ..RULES })),
     },
     Standin {
+        name: "undo_refuses_old_mark_8",
+        says: "an old mark has to be 0 to 7",
+        how: Library(|lent, _| undo_by(lent, Rules { old_mark: |mark| mark <= 7, ..RULES })),
+    },
+    Standin {
         name: "undo_reads_old_mark_as_byte",
         says: "an old mark of any size is read as a byte",
         how: Library(|lent, _| undo_by(lent, Rules { old_mark: |_| true, ..RULES })),
@@ -458,17 +463,17 @@ const UNDO_REFUSALS: &[Standin] = &[
     Standin {
         name: "undo_allows_set_mark_0",
         says: "the set mark may be 0",
-        how: Library(|lent, _| undo_by(lent, Rules { set_mark: |mark| matches!(mark, 0..=5 | 7), ..RULES })),
+        how: Library(|lent, _| undo_by(lent, Rules { set_mark: |mark| matches!(mark, 0..=5 | 7..=8), ..RULES })),
     },
     Standin {
         name: "undo_allows_set_mark_6",
         says: "the set mark may be 6",
-        how: Library(|lent, _| undo_by(lent, Rules { set_mark: |mark| matches!(mark, 1..=7), ..RULES })),
+        how: Library(|lent, _| undo_by(lent, Rules { set_mark: |mark| matches!(mark, 1..=8), ..RULES })),
     },
     Standin {
-        name: "undo_allows_set_mark_8",
-        says: "the set mark may be 8",
-        how: Library(|lent, _| undo_by(lent, Rules { set_mark: |mark| matches!(mark, 1..=5 | 7..=8), ..RULES })),
+        name: "undo_allows_set_mark_9",
+        says: "the set mark may be 9",
+        how: Library(|lent, _| undo_by(lent, Rules { set_mark: |mark| matches!(mark, 1..=5 | 7..=9), ..RULES })),
     },
     Standin {
         name: "undo_allows_set_mark_from_7",
@@ -478,27 +483,37 @@ const UNDO_REFUSALS: &[Standin] = &[
     Standin {
         name: "undo_refuses_set_mark_7",
         says: "the set mark 7 is malformed",
-        how: Library(|lent, _| undo_by(lent, Rules { set_mark: |mark| matches!(mark, 1..=5), ..RULES })),
+        how: Library(|lent, _| undo_by(lent, Rules { set_mark: |mark| matches!(mark, 1..=5 | 8), ..RULES })),
+    },
+    Standin {
+        name: "undo_refuses_set_mark_8",
+        says: "the set mark 8 is malformed",
+        how: Library(|lent, _| undo_by(lent, Rules { set_mark: |mark| matches!(mark, 1..=5 | 7), ..RULES })),
+    },
+    Standin {
+        name: "undo_takes_set_mark_9_for_8",
+        says: "the set mark may be 9, and 8 is malformed",
+        how: Library(|lent, _| undo_by(lent, Rules { set_mark: |mark| matches!(mark, 1..=5 | 7 | 9), ..RULES })),
     },
     Standin {
         name: "undo_takes_set_mark_6_for_7",
         says: "the set mark may be 6, and 7 is malformed",
-        how: Library(|lent, _| undo_by(lent, Rules { set_mark: |mark| matches!(mark, 1..=6), ..RULES })),
+        how: Library(|lent, _| undo_by(lent, Rules { set_mark: |mark| matches!(mark, 1..=6 | 8), ..RULES })),
     },
     Standin {
         name: "undo_refuses_set_mark_5",
         says: "the set mark 5 is malformed",
-        how: Library(|lent, _| undo_by(lent, Rules { set_mark: |mark| matches!(mark, 1..=4 | 7), ..RULES })),
+        how: Library(|lent, _| undo_by(lent, Rules { set_mark: |mark| matches!(mark, 1..=4 | 7..=8), ..RULES })),
     },
     Standin {
         name: "undo_refuses_set_mark_4",
         says: "the set mark 4 is malformed",
-        how: Library(|lent, _| undo_by(lent, Rules { set_mark: |mark| matches!(mark, 1..=3 | 5 | 7), ..RULES })),
+        how: Library(|lent, _| undo_by(lent, Rules { set_mark: |mark| matches!(mark, 1..=3 | 5 | 7..=8), ..RULES })),
     },
     Standin {
         name: "undo_refuses_set_mark_1",
         says: "the set mark 1 is malformed",
-        how: Library(|lent, _| undo_by(lent, Rules { set_mark: |mark| matches!(mark, 2..=5 | 7), ..RULES })),
+        how: Library(|lent, _| undo_by(lent, Rules { set_mark: |mark| matches!(mark, 2..=5 | 7..=8), ..RULES })),
     },
     Standin {
         name: "undo_reads_set_mark_as_byte",
@@ -507,8 +522,8 @@ const UNDO_REFUSALS: &[Standin] = &[
     },
     Standin {
         name: "undo_reads_set_mark_as_digits",
-        says: "of a set mark the last three binary digits are read",
-        how: Library(|lent, _| undo_by(lent, Rules { set_mark: |mark| is_made(mark as u8 & 7), ..RULES })),
+        says: "of a set mark the last four binary digits are read",
+        how: Library(|lent, _| undo_by(lent, Rules { set_mark: |mark| is_made(mark as u8 & 15), ..RULES })),
     },
     Standin {
         name: "undo_from_journal_end",
@@ -715,7 +730,7 @@ const RULES: Rules = Rules {
     place: |place, n| place < n,
     rise: |one, next| one < next,
     old_mark: |mark| mark <= 255,
-    set_mark: |mark| matches!(mark, 1..=5 | 7),
+    set_mark: |mark| matches!(mark, 1..=5 | 7..=8),
 };
 
 /// An undo written by hand, by these rules. Where they allow too much, it reads and writes what stands around the

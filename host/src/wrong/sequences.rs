@@ -166,6 +166,31 @@ const OF_LIBRARY: &[Standin] = &[
         how: Library(undo_refuses_set_mark_7),
     },
     Standin {
+        name: "seq_undo_refuses_set_mark_8",
+        says: "an undo is refused with 11 where the entry's mark is 8",
+        how: Library(undo_refuses_set_mark_8),
+    },
+    Standin {
+        name: "seq_undo_gives_3_for_8",
+        says: "undo gives back 3 for an old mark 8",
+        how: Library(|lent, call| altered(lent, call, undo_gives_3_for_8)),
+    },
+    Standin {
+        name: "seq_made_by_proposal_enters_mark_3",
+        says: "an entry has 3 for an old mark 8",
+        how: Library(|lent, call| altered(lent, call, made_by_proposal_enters_mark_3)),
+    },
+    Standin {
+        name: "seq_proposal_refuses_made",
+        says: "a proposal is refused by 15 at a sample that a repair made before",
+        how: Library(proposal_refuses_made),
+    },
+    Standin {
+        name: "seq_proposal_against_raw",
+        says: "a proposal that has other words than an earlier entry's old ones under the threshold is refused",
+        how: Library(proposal_against_raw),
+    },
+    Standin {
         name: "seq_undo_gives_4_for_7",
         says: "undo gives back 4 for an old mark 7",
         how: Library(|lent, call| altered(lent, call, undo_gives_4_for_7)),
@@ -304,6 +329,40 @@ const OF_BOTH_AT_ONCE: &[Standin] = &[
         name: "seq_both_decrackle_enters_4",
         says: "decrackle from the new start marks its samples 7, and enters 4",
         how: Alike(|_, before, after| enters_for(before, after, [4, 7])),
+    },
+    Standin {
+        name: "seq_both_proposal_sets_3",
+        says: "declip by a proposal sets mark 3",
+        how: Alike(|_, before, after| sets_for(before, after, [3, 8])),
+    },
+    Standin {
+        name: "seq_both_declip_sets_8",
+        says: "cubic declip sets mark 8",
+        how: Alike(|_, before, after| sets_for(before, after, [8, 3])),
+    },
+    Standin {
+        name: "seq_both_proposal_marks_3",
+        says: "declip by a proposal marks its samples 3, and enters 8",
+        how: Alike(|_, before, after| marks_for(before, after, [3, 8])),
+    },
+    Standin {
+        name: "seq_both_proposal_enters_3",
+        says: "declip by a proposal marks its samples 8, and enters 3",
+        how: Alike(|_, before, after| enters_for(before, after, [3, 8])),
+    },
+    Standin {
+        name: "seq_both_refused_proposal_changes_mark",
+        says: "a proposal changes the first mark where it is refused or names nothing",
+        how: Alike(refused_proposal_changes_mark),
+    },
+    Standin {
+        name: "seq_both_proposal_changes_under",
+        says: "a proposal changes a measured sample under the threshold",
+        how: Alike(|call, before, after| {
+            if matches!(call, Call::Proposed { .. }) {
+                measured_changed(call, before, after);
+            }
+        }),
     },
     Standin {
         name: "seq_both_missing_keeps_6",
@@ -498,6 +557,21 @@ const OF_ACCOUNT: &[Standin] = &[
     Standin {
         name: "seq_account_start_new",
         says: "in the account decrackle from the old start is that from the mean",
+        how: Account,
+    },
+    Standin {
+        name: "seq_account_threshold_higher",
+        says: "in the account the threshold of a proposal is twice as high",
+        how: Account,
+    },
+    Standin {
+        name: "seq_account_proposal_as_left",
+        says: "in the account a proposal becomes the samples as a later repair leaves them",
+        how: Account,
+    },
+    Standin {
+        name: "seq_account_proposal_is_first",
+        says: "in the account every proposal is the first one",
         how: Account,
     },
     Standin { name: "seq_account_raw_marks_0", says: "in the account all raw marks are 0", how: Account },
@@ -699,7 +773,7 @@ fn later_does_not_fill_journal(lent: &mut Lent, call: Call) -> u32 {
     let before = lent.recording();
     let number = lent.call(call);
     let used = lent.used.lent()[0];
-    let is_single = matches!(call, Call::Gap { .. } | Call::Whole(_));
+    let is_single = matches!(call, Call::Gap { .. } | Call::Whole(_) | Call::Proposed { .. });
     if is_single && before.used > 0 && used > before.used && used == before.journal.len() {
         lent.put(&before);
         lent.numbers[0].lend()[0] = 0;
@@ -812,6 +886,12 @@ fn marks_one_more(_: Call, before: &Recording, after: &mut Recording) {
 
 fn refused_gap_changes_mark(call: Call, before: &Recording, after: &mut Recording) {
     if matches!(call, Call::Gap { .. }) && after.used == before.used {
+        after.marks.iter_mut().take(1).for_each(|mark| *mark ^= 1);
+    }
+}
+
+fn refused_proposal_changes_mark(call: Call, before: &Recording, after: &mut Recording) {
+    if matches!(call, Call::Proposed { .. }) && after.used == before.used {
         after.marks.iter_mut().take(1).for_each(|mark| *mark ^= 1);
     }
 }
@@ -934,11 +1014,24 @@ fn undo_gives_4_for_7(call: Call, before: &Recording, after: &mut Recording) {
     undo_gives(call, before, after, [4, 7]);
 }
 
-fn made_by_mean_enters_mark_4(_: Call, before: &Recording, after: &mut Recording) {
+fn undo_gives_3_for_8(call: Call, before: &Recording, after: &mut Recording) {
+    undo_gives(call, before, after, [3, 8]);
+}
+
+/// An entry that a call has made has the one mark for the other as an old one.
+fn enters_old(before: &Recording, after: &mut Recording, [given, old]: [u32; 2]) {
     for at in named(before, after) {
-        let old = &mut after.journal[at + 2];
-        *old = if *old == 7 { 4 } else { *old };
+        let entered = &mut after.journal[at + 2];
+        *entered = if *entered == old { given } else { *entered };
     }
+}
+
+fn made_by_mean_enters_mark_4(_: Call, before: &Recording, after: &mut Recording) {
+    enters_old(before, after, [4, 7]);
+}
+
+fn made_by_proposal_enters_mark_3(_: Call, before: &Recording, after: &mut Recording) {
+    enters_old(before, after, [3, 8]);
 }
 
 fn undo_gives_missing_word(call: Call, before: &Recording, after: &mut Recording) {
@@ -970,6 +1063,41 @@ fn undo_refuses_old_mark_6(lent: &mut Lent, call: Call) -> u32 {
 
 fn undo_refuses_set_mark_7(lent: &mut Lent, call: Call) -> u32 {
     undo_refuses(lent, call, |before, _| before.journal[before.used - 1] == 7)
+}
+
+fn undo_refuses_set_mark_8(lent: &mut Lent, call: Call) -> u32 {
+    undo_refuses(lent, call, |before, _| before.journal[before.used - 1] == 8)
+}
+
+/// The library makes the call, and a proposal that it takes is refused by 15 at the first place that is so. The
+/// recording before the call is told.
+fn proposal_refuses(lent: &mut Lent, call: Call, so: impl Fn(&Recording, &[u32], usize) -> bool) -> u32 {
+    let (before, proposal) = (lent.recording(), lent.proposal.lent().to_vec());
+    let number = lent.call(call);
+    let first = (0..before.samples.len()).find(|place| number == 0 && so(&before, &proposal, *place));
+    if let (Call::Proposed { .. }, Some(place)) = (call, first) {
+        lent.put(&before);
+        lent.numbers[0].lend()[0] = place;
+        return 15;
+    }
+    number
+}
+
+fn proposal_refuses_made(lent: &mut Lent, call: Call) -> u32 {
+    proposal_refuses(lent, call, |before, proposal, place| {
+        is_made(before.marks[place]) && proposal[place] != before.samples[place]
+    })
+}
+
+fn proposal_against_raw(lent: &mut Lent, call: Call) -> u32 {
+    let threshold = match call {
+        Call::Proposed { threshold } => threshold,
+        _ => return lent.call(call),
+    };
+    proposal_refuses(lent, call, |before, proposal, place| {
+        let raw = raw_word(before, place);
+        f32::from_bits(before.samples[place]).abs() < threshold && raw.map_or(false, |raw| raw != proposal[place])
+    })
 }
 
 fn whole_refuses_mark_6(lent: &mut Lent, call: Call) -> u32 {

@@ -59,19 +59,19 @@ fn is_end(number: u32) -> bool {
 }
 
 /// The recording is left like this, and this is answered.
-fn answers(lent: &mut Lent, recording: &Recording, answer: Answer) -> u32 {
+pub(super) fn answers(lent: &mut Lent, recording: &Recording, answer: Answer) -> u32 {
     lent.put(recording);
     set_value(lent, answer.value());
     answer.number()
 }
 
 /// The value that the last call handed back.
-fn value(lent: &Lent) -> usize {
+pub(super) fn value(lent: &Lent) -> usize {
     lent.numbers[0].lent()[0]
 }
 
 /// The call hands back this value.
-fn set_value(lent: &mut Lent, value: usize) {
+pub(super) fn set_value(lent: &mut Lent, value: usize) {
     lent.numbers[0].lend()[0] = value;
 }
 

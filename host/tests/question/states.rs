@@ -7,6 +7,7 @@ use cathar_host::count::Class;
 use cathar_host::damage;
 use cathar_host::draw::Draw;
 use cathar_host::inpaint::{Gap, Scan};
+use cathar_host::proposals;
 use cathar_host::recording::{entry_words, Answer, Recording, BLOCK, NOT_RECEIVED};
 use cathar_host::room;
 use cathar_host::settings;
@@ -58,6 +59,11 @@ impl Reached {
         matches!(self.call, Call::Whole(Repair::Decrackle { start, .. }) if start == from) && self.named > 0
     }
 
+    /// Whether it is a proposal that named a sample.
+    fn is_by_proposal(&self) -> bool {
+        matches!(self.call, Call::Proposed { .. }) && self.named > 0
+    }
+
     /// Whether it is a list of gaps of which one was repaired.
     fn is_by_list(&self) -> bool {
         matches!(self.call, Call::Gaps { .. }) && self.named > 0
@@ -74,6 +80,7 @@ pub const CLASSES: &[Class<Reached>] = &[
     Class { name: "naming a sample by a list of gaps", least: 200, holds: Reached::is_by_list },
     Class { name: "naming a sample by decrackle", least: 20, holds: |r| r.is_decrackle(Start::Mean) },
     Class { name: "and from the old start", least: 50, holds: |r| r.is_decrackle(Start::Old) },
+    Class { name: "naming a sample by a proposal", least: 100, holds: Reached::is_by_proposal },
     Class { name: "undone", least: 800, holds: |r| r.after() == After::Undo },
     Class { name: "refused", least: 100, holds: |r| r.number != 0 },
     Class { name: "accepted, naming none", least: 50, holds: |r| r.number == 0 && r.after() == After::Nothing },
@@ -117,7 +124,7 @@ fn run(draw: &mut Draw, n: usize) -> Gap {
 /// Any call: mostly the repair of a gap, now and then one that names most samples, and one in four times an undo.
 pub fn call(draw: &mut Draw, on: &Recording) -> Call {
     let samples = &on.samples;
-    match draw.below(48) {
+    match draw.below(51) {
         0..=11 => Call::Undo,
         12 => opening(draw),
         13..=16 => Call::Scan { rate: settings::USUAL.0, max_gap_ms: settings::USUAL.1 },
@@ -127,8 +134,15 @@ pub fn call(draw: &mut Draw, on: &Recording) -> Call {
         25 => Call::Whole(settings::dequantize(draw, samples)),
         26 => Call::Whole(settings::cosparse(draw, samples)),
         27..=30 => Call::Gaps { passes: 1 },
+        31..=33 => Call::Proposed { threshold: settings::threshold(draw, samples) },
         _ => Call::Gap { gap: run(draw, samples.len()), passes: 1 },
     }
+}
+
+/// Both sides are handed what the original makes of candidates for the samples as they stand.
+fn propose(draw: &mut Draw, both: &mut Both, threshold: f32) -> (Answer, Wrong) {
+    let proposal = proposals::proposal(draw, &both.model.samples, threshold);
+    both.declip_proposed(threshold, &proposal)
 }
 
 /// Both sides make the call.
@@ -163,6 +177,7 @@ pub fn make(draw: &mut Draw, both: &mut Both, call: Call) -> (Reached, Wrong) {
             of_scan(both.inpaint_auto((rate, max_gap_ms), room::work(draw, SCAN_WORK), orders))
         }
         Call::Whole(repair) => of_answer(both.repair(repair, room::words(draw, needed(n)))),
+        Call::Proposed { threshold } => of_answer(propose(draw, both, threshold)),
     };
     (Reached { n, call, number, named }, wrong)
 }

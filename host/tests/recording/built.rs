@@ -81,7 +81,7 @@ fn journal_length(draw: &mut Draw, repairs: &[Repair]) -> usize {
 
 /// Any mark, and samples that lie close or far apart. A few times a new word is not in range.
 fn repair(draw: &mut Draw, n: usize) -> Repair {
-    let mark = [1, 2, 3, 4, 5, 7][draw.below(6) as usize];
+    let mark = [1, 2, 3, 4, 5, 7, 8][draw.below(7) as usize];
     let spread = [1, 2, 4, 100][draw.below(4) as usize];
     let places: Vec<usize> = (0..n).filter(|_| draw.below(spread) == 0).collect();
     let any_word = draw.below(16) == 0;

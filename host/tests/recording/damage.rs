@@ -56,7 +56,7 @@ impl Damage {
             Damage::Place => (sample, places(draw, &recording, sample)),
             Damage::OldMark => (sample + 2, vec![0, 255, 256, 257, 511, 0x0001_0000, u32::MAX]),
             Damage::M => (start + 3 * m, ms(m as u32, n)),
-            Damage::SetMark => (start + 3 * m + 1, vec![0, 1, 4, 5, 6, 7, 8, 9, 255, 256, 257, 263, u32::MAX]),
+            Damage::SetMark => (start + 3 * m + 1, vec![0, 1, 5, 6, 7, 8, 9, 10, 255, 256, 257, 264, u32::MAX]),
             _ => (sample + 1, vec![0, 1, u32::MAX]),
         };
         recording.journal[at] = one_of(draw, &choices);

@@ -18,8 +18,8 @@ pub fn small(put: &mut dyn FnMut(Recording)) {
 }
 
 /// Set marks: 0 to 9, and some whose last binary digits are those of a mark that is allowed.
-const SET_MARKS: [u32; 20] =
-    [0, 1, 2, 3, 4, 5, 6, 7, 8, 9, 15, 16, 23, 255, 256, 257, 263, 0x0700_0000, 0x8000_0007, u32::MAX];
+const SET_MARKS: [u32; 21] =
+    [0, 1, 2, 3, 4, 5, 6, 7, 8, 9, 15, 23, 24, 255, 257, 263, 264, 0x0700_0000, 0x0800_0000, 0x8000_0008, u32::MAX];
 
 /// Hands on recordings with one entry, which is well-formed but for the mark that it set; and that mark.
 pub fn set_marks(put: &mut dyn FnMut(Recording, u32)) {

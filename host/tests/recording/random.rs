@@ -49,7 +49,7 @@ fn word(draw: &mut Draw, n: u32) -> u32 {
         // Numbers m for which 3m+2 is a little past 2 ^ 32.
         3 => 1_431_655_764 + draw.below(4) as u32,
         4..=6 => (n + draw.below(3) as u32).saturating_sub(1),
-        _ => draw.below(9) as u32,
+        _ => draw.below(10) as u32,
     }
 }
 
@@ -59,7 +59,7 @@ fn outline(draw: &mut Draw, words: &mut [u32], n: u32) {
     let end = words.len();
     let m = 1 + draw.below((end as u64 - 2) / 3) as usize;
     words[end - 2] = m as u32;
-    words[end - 1] = draw.below(10) as u32;
+    words[end - 1] = draw.below(11) as u32;
     let mut place = draw.below(2) as u32;
     for sample in words[end - 2 - 3 * m..end - 2].chunks_mut(3) {
         sample[0] = place;

@@ -2,7 +2,7 @@
 //! to past the end.
 use cathar_host::recording::Recording;
 
-const WORDS: [u32; 11] = [0, 1, 2, 3, 5, 6, 7, 8, 255, 256, u32::MAX];
+const WORDS: [u32; 11] = [0, 1, 2, 5, 6, 7, 8, 9, 255, 256, u32::MAX];
 const LONGEST: u32 = 5;
 const SAMPLES: [u32; 2] = [0x3f80_0000, 0xffff_ffff];
 const MARKS: [u8; 2] = [4, 255];

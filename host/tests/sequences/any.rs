@@ -1,9 +1,11 @@
 //! Any recording, and any call on a recording.
-use super::calls::{Call, Spans};
+use super::calls::{Call, Proposal, Spans};
 use cathar_host::damage::{self, DROPOUTS, ZEROS};
 use cathar_host::draw::Draw;
 use cathar_host::frames::{self, Rooms, FRAME_WORDS};
 use cathar_host::inpaint::{qualified, Gap, MOST_GAPS};
+use cathar_host::proposals::{self, candidates, Among, Damage};
+use cathar_host::proposed::is_allowed;
 use cathar_host::recording::{entry_words, in_range, Recording, NOT_RECEIVED};
 use cathar_host::room::{self, Room};
 use cathar_host::settings::{self, NO_SCANS, UNLIMITED, USUAL};
@@ -156,12 +158,13 @@ fn journal(draw: &mut Draw, n: usize, repairs: usize) -> usize {
 
 /// Any call: mostly a repair, and one in six times an undo.
 pub fn call(draw: &mut Draw, on: &Recording) -> Call {
-    match draw.below(102) {
+    match draw.below(112) {
         0 => opening(draw),
         1..=16 => Call::Undo,
         17..=40 => gap(draw, &on.samples),
         41..=56 => scan(draw, &on.samples),
         57..=62 => list(draw, &on.samples),
+        63..=72 => proposed(draw, &on.samples),
         _ => whole(draw, &on.samples),
     }
 }
@@ -259,4 +262,24 @@ fn whole(draw: &mut Draw, samples: &[u32]) -> Call {
     let all = [settings::declip, decrackles[0], decrackles[1], settings::dequantize, settings::cosparse];
     let repair = all[draw.below(5) as usize](draw, samples);
     Call::Whole { repair, work: Room::any(draw).of(draw, needed(samples.len())) }
+}
+
+/// What the original makes of any candidates for the samples as they stand; one time in four the words are damaged, or
+/// it has another length.
+fn proposed(draw: &mut Draw, samples: &[u32]) -> Call {
+    let threshold = settings::threshold(draw, samples);
+    let among = if once_in(draw, 8) { Among::OrAny } else { Among::OrNan };
+    let candidates = candidates(draw, samples, threshold, among);
+    let mut words = proposals::projected(&candidates, samples, threshold);
+    match draw.below(20) {
+        0..=3 if is_allowed(threshold) => {
+            proposals::damaged(draw, samples, threshold, &mut words, 3);
+        }
+        4 => {
+            let damage = Damage::OF_LENGTH[draw.below(3) as usize];
+            damage.done(draw, samples, threshold, &mut words);
+        }
+        _ => {}
+    }
+    Call::Proposed { threshold, proposal: Proposal::new(words) }
 }

@@ -8,6 +8,9 @@ use cathar_host::settings::OfScan;
 use cathar_host::whole::{needed, Repair, Start};
 use std::fmt;
 
+/// How many words of a proposal are written out.
+const SHOWN: usize = 16;
+
 /// The gaps of a list, in their order: one more than may be is the most.
 #[derive(Clone, Copy, PartialEq)]
 pub struct Spans {
@@ -34,8 +37,30 @@ impl fmt::Debug for Spans {
     }
 }
 
+/// The words of a proposal. They are kept to the end of the test, so that a call can be copied as it is.
+#[derive(Clone, Copy, PartialEq)]
+pub struct Proposal(&'static [u32]);
+
+impl Proposal {
+    /// These words.
+    pub fn new(words: Vec<u32>) -> Proposal {
+        Proposal(Box::leak(words.into_boxed_slice()))
+    }
+
+    pub fn words(self) -> &'static [u32] {
+        self.0
+    }
+}
+
+impl fmt::Debug for Proposal {
+    fn fmt(&self, formatter: &mut fmt::Formatter) -> fmt::Result {
+        write!(formatter, "{} words", self.0.len())?;
+        self.0.iter().take(SHOWN).try_for_each(|word| write!(formatter, " {word:08x}"))
+    }
+}
+
 /// Any call but those of the float leaves, which have no recording. `work` is how long the workspace is, and `answers`
-/// how many places the lists for the answers have.
+/// how many places the lists for the answers have. A proposal is a part of its call.
 // A call is copied as it is, with the gaps of a list in it.
 #[allow(clippy::large_enum_variant)]
 #[derive(Clone, Copy, Debug, PartialEq)]
@@ -47,6 +72,7 @@ pub enum Call {
     Gaps { spans: Spans, answers: usize, passes: u32, work: usize },
     Scan { settings: OfScan, work: usize },
     Whole { repair: Repair, work: usize },
+    Proposed { threshold: f32, proposal: Proposal },
 }
 
 /// A call that is a single repair, with just enough workspace, and how many samples it named: at least one.
@@ -81,7 +107,7 @@ impl Call {
     }
 
     /// The mark that a single repair sets, by the documents' table: "1 gap by model, 2 gap by straight line, 3 cubic
-    /// declip, 4 decrackle, 5 dequantize (either form)", and 7 decrackle from the mean.
+    /// declip, 4 decrackle, 5 dequantize (either form)", 7 decrackle from the mean, and 8 declip by a proposal.
     pub fn mark(self) -> u8 {
         match self {
             Call::Gap { gap, .. } if gap.is_line() => 2,
@@ -90,6 +116,7 @@ impl Call {
             Call::Whole { repair: Repair::Decrackle { start: Start::Old, .. }, .. } => 4,
             Call::Whole { repair: Repair::Dequantize { .. } | Repair::Cosparse { .. }, .. } => 5,
             Call::Whole { repair: Repair::Decrackle { start: Start::Mean, .. }, .. } => 7,
+            Call::Proposed { .. } => 8,
             _ => panic!("no single repair: {self:?}"),
         }
     }
@@ -125,6 +152,10 @@ impl Call {
             Call::Whole { repair, work } => {
                 let (answer, wrong) = both.repair(repair, room::words(draw, work));
                 (of_repair(answer, || Call::Whole { repair, work: needed(n) }), wrong)
+            }
+            Call::Proposed { threshold, proposal } => {
+                let (answer, wrong) = both.declip_proposed(threshold, proposal.words());
+                (of_repair(answer, || self), wrong)
             }
         }
     }

@@ -20,6 +20,7 @@ enum Kind {
     DecrackleOldStart,
     Dequantize,
     Cosparse,
+    Proposed,
 }
 
 /// The kind of a call: a gap is by model or by line, and each function over the whole recording is a kind.
@@ -37,6 +38,7 @@ fn kind(call: Call) -> Kind {
         Call::Whole { repair: Repair::Decrackle { start: Start::Old, .. }, .. } => Kind::DecrackleOldStart,
         Call::Whole { repair: Repair::Dequantize { .. }, .. } => Kind::Dequantize,
         Call::Whole { repair: Repair::Cosparse { .. }, .. } => Kind::Cosparse,
+        Call::Proposed { .. } => Kind::Proposed,
     }
 }
 
@@ -96,6 +98,11 @@ impl Step {
         self.undone.and_then(|survivor| survivor.of).map_or(false, |(several, _)| several == of)
     }
 
+    /// Whether it is a proposal that was undone.
+    fn undoes_proposal(&self) -> bool {
+        self.undone.map_or(false, |survivor| kind(survivor.call) == Kind::Proposed)
+    }
+
     /// Whether a list has a gap that was refused by this number.
     fn lists_refused(&self, number: u32) -> bool {
         self.is(Kind::List) && self.outcome.refused.contains(&number)
@@ -129,15 +136,31 @@ pub const CALLS: &[Class<Step>] = &[
     Class { name: "decrackle from the old start", least: 3_000, holds: |s| s.names_by(Kind::DecrackleOldStart) },
     Class { name: "dequantize", least: 4_000, holds: |s| s.names_by(Kind::Dequantize) },
     Class { name: "dequantize_cosparse", least: 3_000, holds: |s| s.names_by(Kind::Cosparse) },
+    Class { name: "a proposal", least: 2_000, holds: |s| s.names_by(Kind::Proposed) },
+    Class {
+        name: "a proposal, naming none",
+        least: 300,
+        holds: |s| s.is(Kind::Proposed) && s.number() == 0 && !s.names(),
+    },
     Class { name: "accepted, naming none", least: 8_000, holds: |s| s.is_whole() && s.number() == 0 && !s.names() },
     Class { name: "a gap over samples that a repair made", least: 8_000, holds: |s| s.is_gap() && s.over },
     Class { name: "a list over samples that a repair made", least: 500, holds: |s| s.is(Kind::List) && s.over },
     Class { name: "a scan over samples that a repair made", least: 150, holds: |s| s.is(Kind::Scan) && s.over },
     Class { name: "another over samples that a repair made", least: 10_000, holds: |s| s.is_whole() && s.over },
+    Class {
+        name: "a proposal over samples that a repair made",
+        least: 1_000,
+        holds: |s| s.is(Kind::Proposed) && s.over,
+    },
     Class { name: "a gap over samples not received", least: 1_000, holds: |s| s.is_gap() && s.over_missing },
     Class { name: "a list over samples not received", least: 100, holds: |s| s.is(Kind::List) && s.over_missing },
     Class { name: "a scan over samples not received", least: 150, holds: |s| s.is(Kind::Scan) && s.over_missing },
     Class { name: "another over samples not received", least: 500, holds: |s| s.is_whole() && s.over_missing },
+    Class {
+        name: "a proposal over samples not received",
+        least: 50,
+        holds: |s| s.is(Kind::Proposed) && s.over_missing,
+    },
     Class { name: "naming a sample, after an undo", least: 15_000, holds: |s| s.names() && s.after_undo },
     Class { name: "filling the journal", least: 250, holds: Step::fills_journal },
     Class { name: "naming one of 4,000 samples or more", least: 80, holds: |s| s.names() && s.samples >= 4_000 },
@@ -146,6 +169,7 @@ pub const CALLS: &[Class<Step>] = &[
     Class { name: "undone, bringing back a mark 6", least: 500, holds: Step::brings_back_missing },
     Class { name: "undone, a run of a scan", least: 400, holds: |s| s.undoes(Several::Scan) },
     Class { name: "undone, a gap of a list", least: 400, holds: |s| s.undoes(Several::List) },
+    Class { name: "undone, a proposal", least: 300, holds: Step::undoes_proposal },
     Class { name: "a list answered 4", least: 300, holds: |s| s.number() == 4 && s.is(Kind::List) },
     Class { name: "of 65 gaps", least: 30, holds: |s| s.number() == 4 && s.is_list(|gaps| gaps == 65) },
     Class { name: "a scan answered 4", least: 1_000, holds: |s| s.number() == 4 && s.is(Kind::Scan) },
@@ -168,6 +192,10 @@ pub const CALLS: &[Class<Step>] = &[
     Class { name: "a gap answered 9", least: 3_000, holds: |s| s.number() == 9 && s.is_gap() },
     Class { name: "a scan answered 9", least: 400, holds: |s| s.number() == 9 && s.is(Kind::Scan) },
     Class { name: "a repair of all samples answered 9", least: 5_000, holds: |s| s.number() == 9 && s.is_whole() },
+    Class { name: "a proposal answered 4", least: 100, holds: |s| s.number() == 4 && s.is(Kind::Proposed) },
+    Class { name: "a proposal answered 7", least: 500, holds: |s| s.number() == 7 && s.is(Kind::Proposed) },
+    Class { name: "a proposal answered 15", least: 500, holds: |s| s.number() == 15 },
+    Class { name: "a proposal answered 9", least: 300, holds: |s| s.number() == 9 && s.is(Kind::Proposed) },
     Class { name: "an undo answered 10", least: 7_000, holds: |s| s.number() == 10 },
 ];
 
@@ -181,11 +209,14 @@ pub const REPLAYED: &[Class<Step>] = &[
     Class { name: "decrackle from the old start", least: 1_800, holds: |s| s.names_by(Kind::DecrackleOldStart) },
     Class { name: "dequantize", least: 2_000, holds: |s| s.names_by(Kind::Dequantize) },
     Class { name: "dequantize_cosparse", least: 1_800, holds: |s| s.names_by(Kind::Cosparse) },
+    Class { name: "proposals", least: 1_000, holds: |s| s.names_by(Kind::Proposed) },
+    Class { name: "proposals over earlier ones", least: 500, holds: |s| s.names_by(Kind::Proposed) && s.over },
 ];
 
 /// What the undos at the end have to be: one for each survivor, and one more in each sequence.
 pub const UNDONE: &[Class<Step>] = &[
     Class { name: "undone", least: 15_000, holds: |s| s.undone.is_some() },
+    Class { name: "a proposal", least: 1_000, holds: Step::undoes_proposal },
     Class { name: "bringing back a mark 6", least: 1_000, holds: Step::brings_back_missing },
     Class { name: "answered 10", least: 10_000, holds: |s| s.number() == 10 },
 ];

@@ -1,5 +1,5 @@
 //! Slips in what a history keeps account of: what the stand-ins for the account do.
-use super::calls::{Call, Outcome};
+use super::calls::{Call, Outcome, Proposal};
 use super::history::{History, Several, Survivor};
 use cathar_host::recording::NOT_RECEIVED;
 use cathar_host::whole::{floats, Repair, Start};
@@ -47,6 +47,9 @@ fn named(name: &str) -> Alters {
         "seq_account_strength_halved" => |history, _, outcome, _| each_joined(history, outcome, strength_halved),
         "seq_account_start_old" => |history, _, outcome, _| each_joined(history, outcome, start_old),
         "seq_account_start_new" => |history, _, outcome, _| each_joined(history, outcome, start_new),
+        "seq_account_threshold_higher" => |history, _, outcome, _| each_joined(history, outcome, threshold_higher),
+        "seq_account_proposal_as_left" => proposal_as_left,
+        "seq_account_proposal_is_first" => proposal_is_first,
         "seq_account_raw_marks_0" => |history, _, _, _| history.raw_marks.fill(0),
         "seq_account_raw_marks_of_nan" => raw_marks_of_nan,
         "seq_account_replay_opens_as_measured" => |history, _, _, _| history.opening = Call::Open,
@@ -121,7 +124,7 @@ fn open_keeps_survivors(history: &mut History, call: Call, _: &Outcome, _: Optio
 }
 
 fn refused_survives(history: &mut History, call: Call, outcome: &Outcome, _: Option<Survivor>) {
-    if outcome.number != 0 && matches!(call, Call::Gap { .. } | Call::Whole { .. }) {
+    if outcome.number != 0 && matches!(call, Call::Gap { .. } | Call::Whole { .. } | Call::Proposed { .. }) {
         history.survivors.push(Survivor { call, m: 1, of: None, over: false, over_missing: false });
     }
 }
@@ -165,6 +168,34 @@ fn start_old(survivor: &mut Survivor, _: usize) {
 
 fn start_new(survivor: &mut Survivor, _: usize) {
     starts(survivor, Start::Mean);
+}
+
+/// The threshold of a survivor that is a proposal is twice as high.
+fn threshold_higher(survivor: &mut Survivor, _: usize) {
+    if let Call::Proposed { threshold, .. } = &mut survivor.call {
+        *threshold *= 2.0;
+    }
+}
+
+/// Once something else has been made, the proposal of a survivor becomes the samples as they are by then.
+fn proposal_as_left(history: &mut History, _: Call, outcome: &Outcome, _: Option<Survivor>) {
+    let left = &history.both.model.samples;
+    let earlier = history.survivors.len() - outcome.named.len();
+    for survivor in history.survivors.iter_mut().take(earlier).filter(|_| !outcome.named.is_empty()) {
+        if let Call::Proposed { proposal, .. } = &mut survivor.call {
+            *proposal = Proposal::new(left.clone());
+        }
+    }
+}
+
+/// Every survivor that is a proposal has the words of the first of them.
+fn proposal_is_first(history: &mut History, _: Call, _: &Outcome, _: Option<Survivor>) {
+    let mut first = None;
+    for survivor in &mut history.survivors {
+        if let Call::Proposed { proposal, .. } = &mut survivor.call {
+            *proposal = *first.get_or_insert(*proposal);
+        }
+    }
 }
 
 fn raw_marks_of_nan(history: &mut History, call: Call, _: &Outcome, _: Option<Survivor>) {
