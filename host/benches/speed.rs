@@ -155,6 +155,8 @@ fn main() {
     for (name, repair) in WHOLE {
         by_samples(name, Task::Whole(repair));
     }
+    by_samples("proposal, clipped runs named", Task::Proposed { throughout: false });
+    by_samples("proposal, all samples named", Task::Proposed { throughout: true });
     by_samples("undo of dequantize", Task::Undo);
     pieces();
     list();

@@ -1,6 +1,6 @@
 //! What is timed: each task by the original and by the library, in turn, on the same samples.
 use super::clock::thread_time;
-use super::inputs;
+use super::inputs::{self, CLIP};
 use cathar_host::call::Call;
 use cathar_host::cathar;
 use cathar_host::crackle::STATE_WORDS;
@@ -41,6 +41,9 @@ pub enum Task {
     Scan,
     /// A repair over the whole recording. The original does not know decrackle from the mean.
     Whole(Repair),
+    /// A proposal for a worn recording, of which no more than its clipped runs are named, or for one that is beyond the
+    /// threshold throughout. The original has no such call.
+    Proposed { throughout: bool },
     /// The flags of a recording that comes in pieces of so many samples, from this start. In the original's place the
     /// host works them out on the whole recording.
     Pieces { len: usize, start: Start },
@@ -101,6 +104,7 @@ impl Task {
             Task::List { len } => list(&inputs::tone(draw, n), len),
             Task::Scan => scan(&inputs::with_dropouts(draw, n)),
             Task::Whole(repair) => whole(&inputs::worn(draw, n), repair),
+            Task::Proposed { throughout } => proposed(&inputs::worn(draw, n), throughout),
             Task::Pieces { len, start } => pieces(&inputs::worn(draw, n), len, start),
             Task::Undo => undo(&inputs::worn(draw, n)),
             Task::Questions { len } => questions(&opened(&vec![0.0; n], 0), len),
@@ -168,6 +172,16 @@ fn whole(samples: &[f32], repair: Repair) -> Times {
     let after = || repair.after(samples);
     let times = both(samples, samples.len(), after, |lent| lent.lend_words(&work), Call::Whole(repair));
     Times { original: times.original.filter(|_| repair.is_of_original()), ..times }
+}
+
+/// A proposal, which is what the original makes of candidates that are half as loud again. That is made before it.
+fn proposed(samples: &[f32], throughout: bool) -> Times {
+    let samples: Vec<f32> = samples.iter().map(|x| if throughout { x + 2.0 * CLIP.copysign(*x) } else { *x }).collect();
+    let candidates: Vec<f32> = samples.iter().map(|x| 1.5 * x).collect();
+    let made = original::project_gamma(&candidates, &samples, CLIP);
+    let (proposal, call) = (words(&made), Call::Proposed { threshold: CLIP });
+    let times = both(&samples, samples.len(), || made.clone(), |lent| lent.lend_proposal(&proposal), call);
+    Times { original: None, ..times }
 }
 
 /// The flags in pieces, with room for one piece, and the flags on the whole. Both have to be the same, and some set.
