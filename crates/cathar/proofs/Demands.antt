@@ -25,7 +25,7 @@ use Rattle.recording.specs.declared.Answer.the-variants.{Done, Refused}
 use Rattle.recording.proofs.Journal.{all-zero}
 use Rattle.recording.proofs.History as history
 use Rattle.recording.proofs.Asking as asking
-use Rattle.recording.proofs.Single.{did-keeps, above-zero, accepted-as-ruled}
+use Rattle.recording.proofs.Single.{above-zero, accepted-as-ruled}
 use Rattle.inpaint.specs.Gap.{gapPlan, gapRepair}
 use Rattle.inpaint.specs.Auto.{limit, scannable, automatic}
 use Rattle.inpaint.specs.Runs.{Stretch, runsOf, gapCalls, runAnswers, firstRefusal}
@@ -38,7 +38,6 @@ use Rattle.declip.specs.Declip as declips
 use Rattle.decrackle.specs.Decrackle as decrackles
 use Rattle.dequant.specs.Dequant as dequants
 use Rattle.declip.specs.Declip.{declipped, declipRepair, declipPlan}
-use Rattle.decrackle.specs.declared.Start.{Start}
 use Rattle.decrackle.specs.Decrackle.{markFor, decrackled, decrackleRepair, decracklePlan}
 use Rattle.dequant.specs.Dequant.{dequantized, dequantizeRepair, dequantizePlan, cosparseRepair, cosparsePlan}
 use Rattle.dequant.specs.Dequant.{cosparse as sparse}
@@ -58,51 +57,9 @@ use Rattle.cathar.specs.Demands.{eachOf, Opened, EntriesAreSurvivors, Co
 use Rattle.cathar.proofs.Refusals.{first-among, among-more, six-to-nine, opened-keeps, whole-number, gap-number, undo-number}
 use Rattle.cathar.proofs.Refusals.{scan-number, scannable-zero, proposed-number, opening-number}
 use Rattle.cathar.proofs.Spans.{gaps-rules, gaps-number, gaps-keep}
+use Rattle.cathar.proofs.Alone.{gap-did, declip-did, decrackle-did, dequantize-did, cosparse-did, proposed-did, undo-did, alone, alone-keeps}
 
 -- ---- A call is its rules
-
--- each repair is performed by its plan
-pub gap-did : (start len passes room : ℕ) (s : State)
-    → gapRepair start len passes room s ≡ single.did (single.repair (gapPlan start len passes room)) s
-unfolding gapRepair single.did
-gap-did start len passes room s = refl
-
-declip-did : (threshold : Float) (room : ℕ) (s : State)
-    → declipRepair threshold room s ≡ single.did (single.repair (declipPlan threshold room)) s
-unfolding declipRepair single.did
-declip-did threshold room s = refl
-
-decrackle-did : (start : Start) (sensitivity : Float) (room : ℕ) (s : State)
-    → decrackleRepair start sensitivity room s ≡ single.did (single.repair (decracklePlan start sensitivity room)) s
-unfolding decrackleRepair single.did
-decrackle-did start sensitivity room s = refl
-
-dequantize-did : (bits : ℕ) (strength : Float) (room : ℕ) (s : State)
-    → dequantizeRepair bits strength room s ≡ single.did (single.repair (dequantizePlan bits strength room)) s
-unfolding dequantizeRepair single.did
-dequantize-did bits strength room s = refl
-
-cosparse-did : (bits : ℕ) (strength : Float) (iterations room : ℕ) (s : State)
-    → cosparseRepair bits strength iterations room s ≡ single.did (single.repair (cosparsePlan bits strength iterations room)) s
-unfolding cosparseRepair single.did
-cosparse-did bits strength iterations room s = refl
-
-proposed-did : (threshold : Float) (proposal : List ℕ) (s : State)
-    → proposedRepair threshold proposal s ≡ single.did (single.repair (proposedPlan threshold proposal)) s
-unfolding proposedRepair single.did
-proposed-did threshold proposal s = refl
-
-pub undo-did : (s : State) → undone s ≡ single.did single.undo s
-unfolding single.did
-undo-did s = refl
-
--- so a call that is performed as one single call ends as that does, and where it is refused it changes nothing
-alone : (c : single.Call) (s : State) (e : Ended) → e ≡ single.did c s → e .after ≡ single.run (c ∷ []) s
-unfolding single.run
-alone c s e h = ap (λ (end : Ended). end .after) h
-
-pub alone-keeps : (c : single.Call) (s : State) (e : Ended) → e ≡ single.did c s → 0 < number (e .answer) → e .after ≡ s
-alone-keeps c s e h = rw h (did-keeps c s .keeps)
 
 scan-rules : (rate : ℕ) (millis : Float) (work : List Float) (s : State)
     → automatic rate millis work s .after ≡ single.run (scanned rate millis work s) s

@@ -1,5 +1,6 @@
 pub mod Exports
 pub mod Refusals
 pub mod Spans
+pub mod Alone
 pub mod Demands
 pub mod Several

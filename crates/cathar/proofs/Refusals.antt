@@ -208,7 +208,10 @@ taken-number threshold proposal s =
       | inr other ↦ rw other refl
       | inl same ↦ elim (unanswered-by threshold 0 (s .samples) proposal) [
         | inr n ↦ rw (same, n .0, n .2) refl
-        | inl g ↦ rw (same, g .0, g .1) (ranged-number s declipProposed (named threshold (s .samples) proposal) (taken-ranged threshold (s .samples) proposal 0 (rw (same, taken) (g .1))))
+        | inl g ↦
+            let right : taken threshold (s .samples) proposal ≡ Done 0 = rw (same, taken) (g .1) in
+            rw (same, g .0, g .1)
+            (ranged-number s declipProposed (named threshold (s .samples) proposal) (taken-ranged threshold (s .samples) proposal 0 right))
       ]
     ]
 

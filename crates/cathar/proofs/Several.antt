@@ -23,7 +23,8 @@ use Rattle.splice.proofs.InTurn.{taken-list, cut-anywhere, list-is-its-repairs}
 use Rattle.cathar.specs.Calls.{Call, gap, gaps, undo, ran}
 use Rattle.cathar.specs.Demands.{after, Opened}
 use Rattle.cathar.specs.Several.{singly, GapsAreSingleCalls, AllRefused, UndoTakesBackOneSpan}
-use Rattle.cathar.proofs.Demands.{gap-did, undo-did, alone-keeps, accepted-by, opened-any}
+use Rattle.cathar.proofs.Alone.{gap-did, undo-did, alone-keeps}
+use Rattle.cathar.proofs.Demands.{accepted-by, opened-any}
 
 -- ---- Single calls in turn
 

@@ -17,7 +17,8 @@ answered-above-requires c κs = search needs
 returns-2 : tie.Need-returns-2
 returns-2 c =
     let kept = c .before .before in
-    answers-above _ _ _ _ (kept .before .keeps-bits .ensures) (not-false _ (kept .if1 .left)) _ (c .before .answered-above .ensures) (not-true _ (c .if2 .taken))
+    answers-above _ _ _ _ (kept .before .keeps-bits .ensures) (not-false _ (kept .if1 .left)) _ (c .before .answered-above .ensures)
+    (not-true _ (c .if2 .taken))
 
 answered-below-requires : tie.Need-answered-below-requires
 answered-below-requires c κs = search needs
