@@ -36,6 +36,24 @@ use Rattle.proposed.specs.Inner.{checked, clippedPlaces}
 
 -- ---- One sample, and the word that answers it
 
+-- A sample on a side, and whether its answer is in range and there, too: what the rule asks of both sides alike, by any test of a side.
+module _ (side : Float → Bool) (w p : ℕ) (x : Float) (ex : x ≡ ofBits binary32 w) where
+  abbrev Asked : Bool → Type 0
+  Asked b = b ≡ not (side (float w)) || (inRange p && side (float p))
+
+  pub side-not : side x ≡ false → Asked true
+  unfolding float
+  side-not h = rw (← ex, h) refl
+
+  module _ (b : Bool) (eb : b ≡ inRange p) (h : side x ≡ true) where
+    pub side-out : b ≡ false → Asked false
+    unfolding float
+    side-out k = rw (← ex, ← eb, h, k) refl
+
+    pub side-in : (y : Float) → y ≡ ofBits binary32 p → b ≡ true → Asked (side y)
+    unfolding float
+    side-in y ey k = rw (← ex, ← ey, ← eb, h, k) refl
+
 module _ (threshold : Float) (w p : ℕ) where
   -- by whether the sample is clipped
   pub bits-beyond : (b : Bool) → b ≡ clipped threshold w → b ≡ true → true ≡ keepsBits threshold w p
@@ -43,34 +61,6 @@ module _ (threshold : Float) (w p : ℕ) where
 
   pub bits-under : (b : Bool) → b ≡ clipped threshold w → b ≡ false → eqb p w ≡ keepsBits threshold w p
   bits-under b e h = rw (sym e ∙ h) refl
-
-  -- by which side it is on, and whether its answer is in range
-  module _ (x : Float) (ex : x ≡ ofBits binary32 w) where
-    pub above-not : le threshold x ≡ false → true ≡ answeredAbove threshold w p
-    unfolding float
-    above-not h = rw (← ex, h) refl
-
-    pub below-not : le x (neg threshold) ≡ false → true ≡ answeredBelow threshold w p
-    unfolding float
-    below-not h = rw (← ex, h) refl
-
-    module _ (b : Bool) (eb : b ≡ inRange p) where
-      pub above-out : le threshold x ≡ true → b ≡ false → false ≡ answeredAbove threshold w p
-      unfolding float
-      above-out h k = rw (← ex, ← eb, h, k) refl
-
-      pub below-out : le x (neg threshold) ≡ true → b ≡ false → false ≡ answeredBelow threshold w p
-      unfolding float
-      below-out h k = rw (← ex, ← eb, h, k) refl
-
-      module _ (y : Float) (ey : y ≡ ofBits binary32 p) where
-        pub above-in : le threshold x ≡ true → b ≡ true → le threshold y ≡ answeredAbove threshold w p
-        unfolding float
-        above-in h k = rw (← ex, ← ey, ← eb, h, k) refl
-
-        pub below-in : le x (neg threshold) ≡ true → b ≡ true → le y (neg threshold) ≡ answeredBelow threshold w p
-        unfolding float
-        below-in h k = rw (← ex, ← ey, ← eb, h, k) refl
 
   -- by the three tests, one after the other
   pub answers-bits : (a : Bool) → a ≡ keepsBits threshold w p → a ≡ false → false ≡ answers threshold w p

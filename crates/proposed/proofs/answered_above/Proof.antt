@@ -1,6 +1,7 @@
 -- `proposed::answered_above` meets its contract: a sample at or above the threshold has an answer in range there, too. Assumes nothing.
 use borrow.Author.Needs.{needs}
-use Rattle.proposed.proofs.Laws.{above-in, above-out, above-not}
+use lib.Ieee.{le}
+use Rattle.proposed.proofs.Laws.{side-in, side-out, side-not}
 use Rattle.proposed.proofs.answered_above.Statement.{statement}
 use Rattle.proposed.proofs.answered_above.Tie as tie
 
@@ -17,15 +18,16 @@ returns : tie.Need-returns
 returns c =
     let met = c .before in
     let asked = met .before .before in
-    above-in _ _ _ _ (asked .before .f32-of-word .ensures) _ (met .before .in-range .ensures) _ (c .f32-of-word2 .ensures) (asked .if1 .taken) (met .if2 .taken)
+    side-in (le _) _ _ _ (asked .before .f32-of-word .ensures) _ (met .before .in-range .ensures) (asked .if1 .taken) _ (c .f32-of-word2 .ensures)
+    (met .if2 .taken)
 
 returns-2 : tie.Need-returns-2
 returns-2 c =
     let asked = c .before .before in
-    above-out _ _ _ _ (asked .before .f32-of-word .ensures) _ (c .before .in-range .ensures) (asked .if1 .taken) (c .if2 .left)
+    side-out (le _) _ _ _ (asked .before .f32-of-word .ensures) _ (c .before .in-range .ensures) (asked .if1 .taken) (c .if2 .left)
 
 returns-3 : tie.Need-returns-3
-returns-3 c = above-not _ _ _ _ (c .before .f32-of-word .ensures) (c .if1 .left)
+returns-3 c = side-not (le _) _ _ _ (c .before .f32-of-word .ensures) (c .if1 .left)
 
 pub answered-above-spec : {M : Type 1} → statement M
 answered-above-spec =
