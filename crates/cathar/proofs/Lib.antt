@@ -4,3 +4,4 @@ pub mod Spans
 pub mod Alone
 pub mod Demands
 pub mod Several
+pub mod EitherOrder

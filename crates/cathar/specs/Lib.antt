@@ -3,4 +3,5 @@ pub mod Calls
 pub mod Refusals
 pub mod Demands
 pub mod Several
+pub mod EitherOrder
 pub mod Table

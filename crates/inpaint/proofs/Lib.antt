@@ -7,4 +7,5 @@ pub mod Scans
 pub mod Rooms
 pub mod Unheld
 pub mod Orders
+pub mod Reach
 pub mod MadeByModel

@@ -2,6 +2,7 @@ pub mod Gap
 pub mod Auto
 pub mod Runs
 pub mod Order
+pub mod Reach
 pub mod Dropouts
 pub mod Unheld
 pub mod Consequences

@@ -119,7 +119,7 @@ pub length-recounted : (marks is counts : List ℕ) → length (recounted marks 
 length-recounted marks is counts = rw recounted-put (length-put (valued (countOf marks) (map blockOf is)) counts)
 
 -- the block of a sample among these is among their blocks
-block-among : (j : ℕ) (is : List ℕ) → Among j is → Among (blockOf j) (map blockOf is)
+pub block-among : (j : ℕ) (is : List ℕ) → Among j is → Among (blockOf j) (map blockOf is)
 block-among j [] none = absurd none
 block-among j (i ∷ is) (inl e) = inl (ap blockOf e)
 block-among j (i ∷ is) (inr a) = inr (block-among j is a)

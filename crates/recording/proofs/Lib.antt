@@ -10,3 +10,4 @@ pub mod UndoCommit
 pub mod Performing
 pub mod History
 pub mod Single
+pub mod TwoCommits

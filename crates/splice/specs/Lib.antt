@@ -1,2 +1,3 @@
 pub mod Several
 pub mod Consequences
+pub mod EitherOrder
