@@ -1,6 +1,6 @@
 -- Two gaps in either order and several in any, as calls, as specs/EitherOrder.antt states it: what the crate `splice` proves of the rules.
 -- Assumes nothing.
-use mathlib.Core.Path.{_≡_, refl, sym, ap, _∙_}
+use mathlib.Core.Path.{_≡_, sym, ap, _∙_}
 use mathlib.Core.Bool.{false}
 use mathlib.Core.List.{List, [], _∷_}
 use Prim.Native.Nat.{ℕ}
@@ -10,10 +10,11 @@ use Rattle.recording.specs.Answers.{number, value}
 use Rattle.recording.specs.Recording.{State}
 use Rattle.recording.specs.declared.Answer.{Answer}
 use Rattle.splice.specs.Several.{spans, AnswerLists, listsWrong, Several, inTurn, gapsRepair}
-use Rattle.splice.specs.EitherOrder.{AllAccepted, AlikeButJournal}
+use Rattle.splice.specs.AnyOrder.{AllAccepted}
 use Rattle.splice.proofs.Laws.{as-long, spans-count}
 use Rattle.splice.proofs.InTurn.{taken-list}
-use Rattle.splice.proofs.EitherOrder.{either-order, any-order}
+use Rattle.splice.proofs.EitherOrder.{either-order}
+use Rattle.splice.proofs.AnyOrder.{any-order}
 use Rattle.cathar.specs.EitherOrder.{sized, EitherOrderOfCalls, AnyOrderOfCalls}
 
 pub either-order-of-calls : EitherOrderOfCalls

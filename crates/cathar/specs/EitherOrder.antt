@@ -10,7 +10,8 @@ use lib.Ieee.{Float}
 use Rattle.recording.specs.Recording.{State}
 use Rattle.inpaint.specs.Runs.{Stretch}
 use Rattle.splice.specs.Several.{spans, AnswerLists, listsWrong}
-use Rattle.splice.specs.EitherOrder.{Apart, Given, Fitting, orderOf, AlikeButJournal, gapEntry, SwappedEntries, AllApart}
+use Rattle.splice.specs.EitherOrder.{Apart, Given, Fitting, orderOf, AlikeButJournal, gapEntry, SwappedEntries}
+use Rattle.splice.specs.AnyOrder.{AllApart, shared, aloneAnswers}
 use Rattle.cathar.specs.Calls.{Call, gap, gaps, ran, answersOf}
 
 -- what the call on a gap is lent beside the recording: the count of passes, and a workspace
@@ -48,7 +49,8 @@ EitherOrderOfCalls =
     → Fitting (length (s .samples)) g (sized a') → Fitting (length (s .samples)) h (sized b')
     → CallsOtherOrder g a a' h b b' s
 
--- several gaps in one call, all accepted, and the same gaps in a list of another order
+-- Several gaps in one call, all accepted, and the same gaps in a list of another order, with other lists for the answers: all are accepted
+-- there too, and each has in its place what its call alone answers.
 abbrev pub AnyOrderOfCalls : Type 0
 AnyOrderOfCalls =
     (starts lens starts' lens' : List ℕ) (passes : ℕ) (work : List Float) (lists lists' : AnswerLists) (s : State)
@@ -56,4 +58,5 @@ AnyOrderOfCalls =
     → List·Permᴰ (spans starts lens) (spans starts' lens') → AllApart (length (s .samples)) (spans starts lens)
     → answersOf starts lens passes work lists s .numbers ≡ replicate (length starts) 0
     → (answersOf starts' lens' passes work lists' s .numbers ≡ replicate (length starts') 0)
+    × (answersOf starts' lens' passes work lists' s ≡ aloneAnswers (spans starts' lens') (shared passes work) s)
     × AlikeButJournal (ran (gaps starts lens passes work lists) s .after) (ran (gaps starts' lens' passes work lists') s .after)

@@ -1,28 +1,26 @@
 -- How far the repair of a gap reaches, as specs/Reach.antt states it. Assumes nothing.
 use mathlib.Core.Path.{_≡_, refl, sym, ap, _∙_}
 use mathlib.Core.Bool.{true, false, true≢false}
-use mathlib.Core.List.{List, [], _∷_, map}
+use mathlib.Core.List.{List, [], _∷_}
 use mathlib.Core.Logic.{_⊎_, inl, inr}
 use Prim.Native.Nat.{ℕ, _+_, _-_, _≤_, _<_, min}
 use native.Mathlib.Omega.{arith}
 use borrow.Author.Tests.{le-ltb, le-leb, lt-leb, leb-true, leb-false, eqb-false}
-use lib.Dec.{ltb, leb, eqb}
+use lib.Dec.{leb, eqb}
 use lib.ListN.{length, getD, take, drop}
 use lib.Seq.{sets, length-sets, getD-take, getD-drop, ext-getD}
-use lib.Ieee.{Float}
-use Rattle.leaves.specs.Arithmetic.{float}
 use Rattle.leaves.proofs.Choice.{truth, EitherWay}
 use Rattle.leaves.proofs.Lists.{read-before, read-after, read-within}
 use Rattle.leaves.proofs.Numbers.{lt-or-ge}
 use Rattle.leaves.proofs.Parts.{part-length}
-use Rattle.recording.specs.Recording.{State, Ended, Placed, places, Plan, refuse, change, span, performed, called}
+use Rattle.recording.specs.Recording.{State, places, Plan, refuse, change, span, performed, called}
 use Rattle.recording.specs.Consequences.{Among}
 use Rattle.recording.proofs.Entering.{Ending, unnamed, turned-away, enters, ending, enters-ends, after-elsewhere}
 use Rattle.inpaint.specs.Gap.{gapWrong, byLine, context, from, to, windowSize, window, needed, knownBefore, knownBehind, allReadable}
 use Rattle.inpaint.specs.Gap.{leftOf, rightOf, line, model, repaired, gapPlan, gapRepair}
 use Rattle.inpaint.specs.Order.{fillOrder}
 use Rattle.inpaint.specs.Reach.{SameWindow, WindowDecides, WindowDecidesOrder, RoomThatFits, GapAlone}
-use Rattle.inpaint.proofs.window.Laws.{Right, gap-right, right-gap, context-most}
+use Rattle.inpaint.proofs.window.Laws.{gap-right, right-gap}
 use Rattle.inpaint.proofs.fill.Laws.{numbers}
 use Rattle.inpaint.proofs.Plans.{gap-has-no-say, fill-order-same}
 use Rattle.inpaint.proofs.Lawful.{plan-holds, gap-lawful}

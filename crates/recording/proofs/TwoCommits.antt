@@ -108,6 +108,22 @@ saved-same words marks words' marks' (i ∷ is) same =
     (ap (λ (ts : List Saved). record { place = i; word = getD words i 0; mark = getD marks i 0 } ∷ ts)
     (saved-same words marks words' marks' is (λ j a. same j (inr a))))
 
+-- a commit stores its entry
+stored-entry : (s : State) (mark : ℕ) (cs : List Placed)
+    → committed s mark cs .journal ≡ sets (s .journal) (s .used) (entry s mark (places cs))
+unfolding committed
+stored-entry s mark cs = refl
+
+-- words that are stored behind it
+pub then-stored : (s : State) (mark : ℕ) (cs : List Placed) (words : List ℕ)
+    → sets (committed s mark cs .journal) (committed s mark cs .used) words
+    ≡ sets (s .journal) (s .used) (entry s mark (places cs) ++ words)
+unfolding committed
+then-stored s mark cs words = rw size (stored-behind (s .journal) (entry s mark (places cs)) words (s .used))
+  where
+    size : s .used + entrySize (length cs) ≡ s .used + length (entry s mark (places cs))
+    size = ap (λ (k : ℕ). s .used + k) (sym (length-entry s mark (places cs) ∙ ap entrySize (length-places cs)))
+
 -- ---- Two commits
 
 module _ (s : State) (mark mark' : ℕ) (cs ds : List Placed) (apart : Disjoint (places cs) (places ds)) where
@@ -122,16 +138,10 @@ module _ (s : State) (mark mark' : ℕ) (cs ds : List Placed) (apart : Disjoint 
   -- the journal has the one and then the other
   pub both-entries : committed (committed s mark cs) mark' ds .journal
       ≡ sets (s .journal) (s .used) (entry s mark (places cs) ++ entry s mark' (places ds))
-  unfolding committed
   both-entries =
-      ap (sets (sets (s .journal) (s .used) first) (s .used + entrySize (length cs))) entry-later
-      ∙ rw size (stored-behind (s .journal) first (entry s mark' (places ds)) (s .used))
-    where
-      first : List ℕ
-      first = entry s mark (places cs)
-
-      size : s .used + entrySize (length cs) ≡ s .used + length first
-      size = ap (λ (k : ℕ). s .used + k) (sym (length-entry s mark (places cs) ∙ ap entrySize (length-places cs)))
+      stored-entry (committed s mark cs) mark' ds
+      ∙ ap (sets (committed s mark cs .journal) (committed s mark cs .used)) entry-later
+      ∙ then-stored s mark cs (entry s mark' (places ds))
 
   pub both-used : committed (committed s mark cs) mark' ds .used
       ≡ s .used + length (entry s mark (places cs) ++ entry s mark' (places ds))

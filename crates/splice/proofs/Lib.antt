@@ -2,3 +2,4 @@
 pub mod Laws
 pub mod InTurn
 pub mod EitherOrder
+pub mod AnyOrder

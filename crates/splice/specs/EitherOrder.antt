@@ -1,20 +1,18 @@
 -- Two gaps, either order: request P13 of document 02, whose sentences the comments quote. "Splicers ask whether it matters which gap they
 -- repair first. Show that it doesn't for two model gaps when neither gap touches the other's window, both calls are accepted in one order,
--- and the workspace fits each". Definitions, and then two statements, which are proved as `either-order` and `any-order` of
--- proofs/EitherOrder.antt, which nobody has to read. What does the work is stated in specs/Reach.antt of the crate `inpaint`. Nothing here is
+-- and the workspace fits each". Definitions, and then the statement, which is proved as `either-order` of proofs/EitherOrder.antt, which
+-- nobody has to read. What does the work is stated in specs/Reach.antt of the crate `inpaint`. Nothing here is
 -- special to the model: of a gap by a straight line, whose window is its neighbours, the same holds.
 use Prim.Native.Nat.{ℕ, _+_, _≤_, _<_}
 use mathlib.Core.Path.{_≡_}
-use mathlib.Core.List.{List, [], _∷_, _++_, List·Permᴰ}
-use lib.ListN.{length, replicate}
+use mathlib.Core.List.{List, [], _++_}
+use lib.ListN.{length}
 use lib.Seq.{sets}
-use lib.Ieee.{Float}
 use Rattle.recording.specs.Answers.{number}
 use Rattle.recording.specs.Recording.{State, Ended, places, Plan, refuse, change, entry}
 use Rattle.inpaint.specs.Gap.{from, to, needed, gapPlan, gapRepair}
 use Rattle.inpaint.specs.Runs.{Stretch}
 use Rattle.inpaint.specs.Order.{gapOrder}
-use Rattle.splice.specs.Several.{inTurn}
 
 -- ---- The premises
 
@@ -96,25 +94,3 @@ EitherOrder =
     → Accepted (repairOf g a s) → Accepted (afterFirst g a h b s)
     → Fitting (length (s .samples)) g a' → Fitting (length (s .samples)) h b'
     → OtherOrder g a a' h b b' s
-
--- ---- A list of gaps
-
--- "neither gap touches the other's window", of one gap and each of a list, and of each two of a list
-abbrev pub ApartFrom : ℕ → Stretch → List Stretch → Type 0
-ApartFrom n g [] = Unit {0}
-ApartFrom n g (h ∷ hs) = Apart n g h × ApartFrom n g hs
-
-abbrev pub AllApart : ℕ → List Stretch → Type 0
-AllApart n [] = Unit {0}
-AllApart n (g ∷ gs) = ApartFrom n g gs × AllApart n gs
-
--- all spans of a list are accepted
-abbrev pub AllAccepted : ℕ → List Stretch → List Float → State → Type 0
-AllAccepted passes gs work s = inTurn passes gs work s .lists .numbers ≡ replicate (length gs) 0
-
--- in any other order, which is a permutation of the list, they are accepted too, with equal samples, marks, block counts and used
-abbrev pub AnyOrder : Type 0
-AnyOrder =
-    (passes : ℕ) (gs hs : List Stretch) (work : List Float) (s : State) → List·Permᴰ gs hs → AllApart (length (s .samples)) gs
-    → AllAccepted passes gs work s
-    → AllAccepted passes hs work s × AlikeButJournal (inTurn passes gs work s .after) (inTurn passes hs work s .after)

@@ -1,3 +1,4 @@
 pub mod Several
 pub mod Consequences
 pub mod EitherOrder
+pub mod AnyOrder
