@@ -241,6 +241,10 @@ uint32_t cathar_measured(const uint8_t *marks, size_t n, const uint16_t *counts,
  * order receives the highest order that the model used: how far it got. All coefficients behind it are +0. An order
  * below p, which is min(max(len, 32), 128), says that the model broke off early, and 0 that it did so at once, as where
  * all that is read is silent or next to it. A straight line and every refusal give 0, too; what it held has no say.
+ * Two gaps may be repaired in either order where neither has a sample in the other's window (that of a straight line is
+ * the gap and its neighbours), both calls are accepted in one order, and the workspace fits each: in the other order
+ * both are accepted too, with the same value and order each, and samples, marks, counts and used are the same. Only the
+ * two entries of the journal change places, and with them which repair cathar_undo takes back first.
  * Refusals: 1, 14, 2, 3, 5, 6, 7, 8, 9. */
 uint32_t cathar_inpaint_gap(uint32_t *samples, size_t n, uint8_t *marks, size_t marks_n,
                             uint16_t *counts, size_t counts_n, uint32_t *journal, size_t journal_n, size_t *used,
@@ -279,7 +283,8 @@ static inline size_t cathar_longest_gap_work(size_t n, size_t longest)
  * CATHAR_MOST_GAPS at most: gap k is the lens[k] samples from starts[k] on. The gaps are repaired in the order given,
  * each on what the ones before it left of recording and workspace, and a refused one does not end the list. They may
  * overlap, touch and repeat. So samples, marks, counts, journal, used, work and all answers are those of single calls
- * in turn.
+ * in turn. Where no gap of a list has a sample in the window of another, and all are accepted, any order of them gives
+ * the same samples, marks, counts and used, each gap its own answer, and the journal the entries in that order.
  * numbers, values and orders are lists as long as these, of any contents. Gap k has its answer in place k of them:
  * numbers[k] receives CATHAR_ACCEPTED or the number of the gap's refusal, and values[k] and orders[k] what
  * cathar_inpaint_gap would hand back in value and order.

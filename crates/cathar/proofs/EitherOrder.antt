@@ -15,6 +15,7 @@ use Rattle.splice.proofs.Laws.{as-long, spans-count}
 use Rattle.splice.proofs.InTurn.{taken-list}
 use Rattle.splice.proofs.EitherOrder.{either-order}
 use Rattle.splice.proofs.AnyOrder.{any-order}
+use Rattle.cathar.specs.Calls.{doubles}
 use Rattle.cathar.specs.EitherOrder.{sized, EitherOrderOfCalls, AnyOrderOfCalls}
 
 pub either-order-of-calls : EitherOrderOfCalls
@@ -47,8 +48,13 @@ any-order-of-calls starts lens starts' lens' passes work lists lists' s taken ta
     let all : AllAccepted passes (spans starts lens) work s =
     sym (ap (λ (c : Several). c .lists .numbers) one) ∙ accepted
     ∙ sym (ap (λ (k : ℕ). replicate k 0) (count starts lens passes work lists s taken)) in
-    let o = any-order passes (spans starts lens) (spans starts' lens') work s order apart all in (
-      ap (λ (c : Several). c .lists .numbers) other ∙ o .0
-          ∙ ap (λ (k : ℕ). replicate k 0) (count starts' lens' passes work lists' s taken'),
-      rw (one, other) (o .1),
-    )
+    let o = any-order passes (spans starts lens) (spans starts' lens') work s order apart all in
+    record {
+      accepted =
+          ap (λ (c : Several). c .lists .numbers) other ∙ o .accepted
+          ∙ ap (λ (k : ℕ). replicate k 0) (count starts' lens' passes work lists' s taken');
+      answers = ap (λ (c : Several). c .lists) other ∙ o .answers;
+      alike = rw (one, other) (o .alike);
+      work-alike = rw (one, other) (ap doubles (o .work-alike));
+      journal = ap (λ (c : Several). c .after .journal) other ∙ o .journal;
+    }

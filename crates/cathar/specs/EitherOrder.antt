@@ -6,12 +6,13 @@ use mathlib.Core.Path.{_≡_}
 use mathlib.Core.Bool.{false}
 use mathlib.Core.List.{List, List·Permᴰ}
 use lib.ListN.{length, replicate}
+use lib.Seq.{sets}
 use lib.Ieee.{Float}
 use Rattle.recording.specs.Recording.{State}
 use Rattle.inpaint.specs.Runs.{Stretch}
 use Rattle.splice.specs.Several.{spans, AnswerLists, listsWrong}
 use Rattle.splice.specs.EitherOrder.{Apart, Given, Fitting, orderOf, AlikeButJournal, gapEntry, SwappedEntries}
-use Rattle.splice.specs.AnyOrder.{AllApart, shared, aloneAnswers}
+use Rattle.splice.specs.AnyOrder.{AllApart, shared, aloneAnswers, aloneEntries}
 use Rattle.cathar.specs.Calls.{Call, gap, gaps, ran, answersOf}
 
 -- what the call on a gap is lent beside the recording: the count of passes, and a workspace
@@ -50,13 +51,20 @@ EitherOrderOfCalls =
     → CallsOtherOrder g a a' h b b' s
 
 -- Several gaps in one call, all accepted, and the same gaps in a list of another order, with other lists for the answers: all are accepted
--- there too, and each has in its place what its call alone answers.
+-- there too, each has in its place what its call alone answers, the journal has the entries in the list's order, and all else is the same.
+pub record CallsAnotherOrder (starts lens starts' lens' : List ℕ) (passes : ℕ) (work : List Float) (lists lists' : AnswerLists) (s : State)
+    : Type 0 where
+  pub accepted : answersOf starts' lens' passes work lists' s .numbers ≡ replicate (length starts') 0
+  pub answers : answersOf starts' lens' passes work lists' s ≡ aloneAnswers (spans starts' lens') (shared passes work) s
+  pub alike : AlikeButJournal (ran (gaps starts lens passes work lists) s .after) (ran (gaps starts' lens' passes work lists') s .after)
+  pub work-alike : ran (gaps starts' lens' passes work lists') s .work ≡ ran (gaps starts lens passes work lists) s .work
+  pub journal : ran (gaps starts' lens' passes work lists') s .after .journal
+      ≡ sets (s .journal) (s .used) (aloneEntries (spans starts' lens') (shared passes work) s)
+
 abbrev pub AnyOrderOfCalls : Type 0
 AnyOrderOfCalls =
     (starts lens starts' lens' : List ℕ) (passes : ℕ) (work : List Float) (lists lists' : AnswerLists) (s : State)
     → listsWrong starts lens lists ≡ false → listsWrong starts' lens' lists' ≡ false
     → List·Permᴰ (spans starts lens) (spans starts' lens') → AllApart (length (s .samples)) (spans starts lens)
     → answersOf starts lens passes work lists s .numbers ≡ replicate (length starts) 0
-    → (answersOf starts' lens' passes work lists' s .numbers ≡ replicate (length starts') 0)
-    × (answersOf starts' lens' passes work lists' s ≡ aloneAnswers (spans starts' lens') (shared passes work) s)
-    × AlikeButJournal (ran (gaps starts lens passes work lists) s .after) (ran (gaps starts' lens' passes work lists') s .after)
+    → CallsAnotherOrder starts lens starts' lens' passes work lists lists' s

@@ -1,13 +1,15 @@
 -- A list of gaps in any order, as specs/AnyOrder.antt states it. Assumes nothing.
 use mathlib.Core.Path.{_≡_, refl, sym, ap, subst, _∙_}
 use mathlib.Core.List.{List, [], _∷_, _++_, map, flatten, List·Permᴰ, List·Permᴰ·nil, List·Permᴰ·cons, List·Permᴰ·swap, List·Permᴰ·trans}
-use Prim.Native.Nat.{ℕ}
-use lib.ListN.{length, getD, drop}
-use lib.Seq.{sets}
+use Prim.Native.Nat.{ℕ, zero, suc}
+use native.Mathlib.Omega.{arith}
+use lib.ListN.{length, getD, drop, set, replicate}
+use lib.Seq.{sets, length-sets, set-set}
 use lib.Ieee.{Float}
 use Rattle.leaves.specs.Arithmetic.{nought}
+use Rattle.leaves.proofs.Parts.{store-before}
 use Rattle.recording.specs.Answers.{number, value}
-use Rattle.recording.specs.Recording.{State, Ended, ended, Plan, workAfter}
+use Rattle.recording.specs.Recording.{State, Ended, ended, Plan, cleared, workAfter}
 use Rattle.recording.specs.declared.Answer.the-variants.{Done}
 use Rattle.recording.proofs.TwoCommits as two
 use Rattle.recording.proofs.TwoCommits.{Like, like-enters, like-committed, like-itself, like-then}
@@ -215,6 +217,48 @@ all-enter (List·Permᴰ·trans d c) p r s apart e =
     let end = all-enter c p r s (all-permuted (length (s .samples)) d apart) (middle .0) in
     (end .0, like-then (middle .1) (end .1))
 
+-- ---- The workspace
+
+-- two parts of a workspace that are cleared, from one place on, may be cleared in either order
+cleared-either : {A : Type 0} (z : A) (a b k : ℕ) (w : List A)
+    → sets (sets w k (replicate b z)) k (replicate a z) ≡ sets (sets w k (replicate a z)) k (replicate b z)
+cleared-either z zero b k w = refl
+cleared-either z (suc a) zero k w = refl
+cleared-either {A = A} z (suc a) (suc b) k w =
+    ap (λ (v : List A). sets v (suc k) (replicate a z)) (again b) ∙ cleared-either z a b (suc k) (set w k z)
+    ∙ sym (ap (λ (v : List A). sets v (suc k) (replicate b z)) (again a))
+  where
+    again : (n : ℕ) → set (sets (set w k z) (suc k) (replicate n z)) k z ≡ sets (set w k z) (suc k) (replicate n z)
+    again n =
+        store-before (set w k z) (replicate n z) k (suc k) z (omega arith)
+        ∙ ap (λ (v : List A). sets v (suc k) (replicate n z)) (set-set w k z z)
+
+-- what gaps that are all accepted leave of it, in a recording of n samples
+abbrev pub clearedBy : ℕ → List Stretch → List Float → List Float
+clearedBy n [] work = work
+clearedBy n (g ∷ gs) work = clearedBy n gs (cleared nought (needed n (g .start) (g .len)) work)
+
+left-cleared : (p r : ℕ) (gs : List Stretch) (work : List Float) (s : State) → length work ≡ r → AllEnter p r gs s
+    → inTurn p gs work s .work ≡ clearedBy (length (s .samples)) gs work
+unfolding inTurn call kept
+left-cleared p r [] work s long e = refl
+left-cleared p r (g ∷ gs) work s long e =
+    let x = e .0 in
+    let ends = call-ends p r g work s long x in
+    let n = needed (length (s .samples)) (g .start) (g .len) in
+    ap (λ (d : Ended). inTurn p gs (workAfter nought n (d .answer) work) (d .after) .work) ends
+    ∙ left-cleared p r gs (cleared nought n work) (left x) (length-sets work 0 (replicate n nought) ∙ long) (e .1)
+    ∙ ap (λ (k : ℕ). clearedBy k gs (cleared nought n work)) (as-many x)
+
+cleared-permuted : (n : ℕ) {gs hs : List Stretch} → List·Permᴰ gs hs → (work : List Float) → clearedBy n hs work ≡ clearedBy n gs work
+cleared-permuted n List·Permᴰ·nil work = refl
+cleared-permuted n (List·Permᴰ·cons {a = g} {l₂ = hs} e d) work =
+    ap (λ (h : Stretch). clearedBy n hs (cleared nought (needed n (h .start) (h .len)) work)) (sym e) ∙ cleared-permuted n d _
+cleared-permuted n (List·Permᴰ·swap {a = g} {b = h} {l = l} e d) work =
+    rw (← e, ← d)
+    (ap (clearedBy n l) (cleared-either nought (needed n (g .start) (g .len)) (needed n (h .start) (h .len)) 0 work))
+cleared-permuted n (List·Permᴰ·trans d c) work = cleared-permuted n c work ∙ cleared-permuted n d work
+
 pub any-order : AnyOrder
 any-order passes gs hs work s order apart accepted =
     let r = length work in
@@ -227,5 +271,8 @@ any-order passes gs hs work s order apart accepted =
       accepted = other .0;
       answers = alone-answers passes r hs work s refl apart-too (f .0);
       alike = rw (one .1, other .1) (alike-of (f .1));
+      work-alike =
+          left-cleared passes r hs work s refl (f .0) ∙ cleared-permuted (length (s .samples)) order work
+          ∙ sym (left-cleared passes r gs work s refl e);
       journal = rw (other .1) (alone-entries passes r hs s apart-too (f .0));
     }

@@ -39,12 +39,14 @@ aloneAnswers gs a s =
 abbrev pub aloneEntries : List Stretch → Given → State → List ℕ
 aloneEntries gs a s = flatten (map (λ (g : Stretch). gapEntry g a s) gs)
 
--- In any other order, which is a permutation of the list, all are accepted too, with equal samples, marks, block counts and used. There,
--- as in the list's own order, each gap answers what it answers alone, and the journal has the entries in the order of the gaps.
+-- In any other order, which is a permutation of the list, all are accepted too, with equal samples, marks, block counts, used and
+-- workspace. There, as in the list's own order, each gap answers what it answers alone, and the journal has the entries in the order of the
+-- gaps.
 pub record AnotherOrder (passes : ℕ) (gs hs : List Stretch) (work : List Float) (s : State) : Type 0 where
   pub accepted : AllAccepted passes hs work s
   pub answers : inTurn passes hs work s .lists ≡ aloneAnswers hs (shared passes work) s
   pub alike : AlikeButJournal (inTurn passes gs work s .after) (inTurn passes hs work s .after)
+  pub work-alike : inTurn passes hs work s .work ≡ inTurn passes gs work s .work
   pub journal : inTurn passes hs work s .after .journal ≡ sets (s .journal) (s .used) (aloneEntries hs (shared passes work) s)
 
 abbrev pub AnyOrder : Type 0
