@@ -1,5 +1,5 @@
 -- What the plan of a gap does not depend on, that its repair is lawful, what a dropout run is, what a
--- scan comes to, what it never lacks, which runs it always had, and what it tells of its models.
+-- scan comes to, what it never lacks, which runs it always had, how far a gap's repair reaches, and what a scan tells of its models.
 pub mod Plans
 pub mod Lawful
 pub mod Dropouts

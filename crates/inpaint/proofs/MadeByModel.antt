@@ -14,7 +14,6 @@ use Rattle.recording.specs.Recording.{State, Ended, Plan, refuse, change, place
 use Rattle.recording.specs.Recording.{refused}
 use Rattle.recording.specs.Marks.{gapByModel, gapByLine}
 use Rattle.recording.specs.History.{repair, did, run}
-use Rattle.recording.specs.Consequences.{Among}
 use Rattle.recording.specs.declared.Reason.{Reason}
 use Rattle.recording.specs.declared.Answer.{Answer}
 use Rattle.recording.specs.declared.Answer.the-variants.{Done, Refused}
@@ -25,25 +24,17 @@ use Rattle.inpaint.specs.Auto.{limit, sourcePasses}
 use Rattle.inpaint.specs.Runs.{Stretch, runsOf, gapCalls}
 use Rattle.inpaint.specs.Order.{gapOrder}
 use Rattle.inpaint.specs.Consequences.{orderThere, MadeByModel, MarkedHasItsOrder}
-use Rattle.inpaint.proofs.Lawful.{plan-holds, gap-lawful}
-use Rattle.inpaint.proofs.Scans.{scan-is-its-runs, run-first, span-places}
+use Rattle.inpaint.proofs.Lawful.{gap-lawful}
+use Rattle.inpaint.proofs.Scans.{scan-is-its-runs, run-first}
 use Rattle.inpaint.proofs.Orders.{orders-at-runs}
+use Rattle.inpaint.proofs.Reach.{NamesWithin, names-within}
 
 -- ---- What a gap marks
 
--- of a plan: its places lie in the gap, and its mark says which way it was filled
-abbrev Says : ℕ → ℕ → ℕ → Plan → Type 0
-Says start len j (refuse why) = Unit {0}
-Says start len j (change mark cs) = Among j (places cs) → (start ≤ j) × (j < start + len)
-
+-- of a plan: its mark says which way the gap was filled
 abbrev MarkSays : ℕ → Plan → Type 0
 MarkSays len (refuse why) = Unit {0}
 MarkSays len (change mark cs) = mark ≡ (if byLine len then gapByLine else gapByModel)
-
-plan-places : (start len passes room j : ℕ) (samples : List ℕ) → Says start len j (gapPlan start len passes room samples)
-plan-places start len passes room j samples =
-    plan-holds (Says start len j) start len passes room samples (λ h. tt) (λ h. tt) (λ i. tt)
-    (λ mark ws m count inside among. let within = span-places j start ws among in (within .0, omega (arith, within .1, count)))
 
 module _ (start len passes : ℕ) (samples : List ℕ) where
   repaired-mark : MarkSays len (repaired passes samples start len)
@@ -89,7 +80,7 @@ gap-marks : (start len passes room j : ℕ) (s : State) → let e = gapRepair st
     (getD (e .after .marks) j 0 ≡ getD (s .marks) j 0) ⊎ Filled start len j e
 unfolding gapRepair did
 gap-marks start len passes room j s =
-    go (did (repair rule) s .answer) refl (rule (s .samples)) refl (plan-places start len passes room j (s .samples))
+    go (did (repair rule) s .answer) refl (rule (s .samples)) refl (names-within start len passes room j (s .samples))
     (plan-mark start len passes (s .samples) room)
   where
     rule : List ℕ → Plan
@@ -98,7 +89,7 @@ gap-marks start len passes room j s =
     end : Ended
     end = did (repair rule) s
 
-    go : (a : Answer) → did (repair rule) s .answer ≡ a → (p : Plan) → rule (s .samples) ≡ p → Says start len j p → MarkSays len p
+    go : (a : Answer) → did (repair rule) s .answer ≡ a → (p : Plan) → rule (s .samples) ≡ p → NamesWithin start len j p → MarkSays len p
         → (getD (end .after .marks) j 0 ≡ getD (s .marks) j 0) ⊎ Filled start len j end
     go (Refused why) e p plan there way =
         inl (ap (λ (t : State). getD (t .marks) j 0) (refusal-changes-nothing (repair rule) s why e))

@@ -1,7 +1,7 @@
 -- How far the repair of a gap reaches, as specs/Reach.antt states it. Assumes nothing.
 use mathlib.Core.Path.{_≡_, refl, sym, ap, _∙_}
 use mathlib.Core.Bool.{true, false, true≢false}
-use mathlib.Core.List.{List, [], _∷_}
+use mathlib.Core.List.{List}
 use mathlib.Core.Logic.{_⊎_, inl, inr}
 use Prim.Native.Nat.{ℕ, _+_, _-_, _≤_, _<_, min}
 use native.Mathlib.Omega.{arith}
@@ -13,7 +13,7 @@ use Rattle.leaves.proofs.Choice.{truth, EitherWay}
 use Rattle.leaves.proofs.Lists.{read-before, read-after, read-within}
 use Rattle.leaves.proofs.Numbers.{lt-or-ge}
 use Rattle.leaves.proofs.Parts.{part-length}
-use Rattle.recording.specs.Recording.{State, places, Plan, refuse, change, span, performed, called}
+use Rattle.recording.specs.Recording.{State, places, Plan, refuse, change, performed, called}
 use Rattle.recording.specs.Consequences.{Among}
 use Rattle.recording.proofs.Entering.{Ending, unnamed, turned-away, enters, ending, enters-ends, after-elsewhere}
 use Rattle.inpaint.specs.Gap.{gapWrong, byLine, context, from, to, windowSize, window, needed, knownBefore, knownBehind, allReadable}
@@ -24,6 +24,7 @@ use Rattle.inpaint.proofs.window.Laws.{gap-right, right-gap}
 use Rattle.inpaint.proofs.fill.Laws.{numbers}
 use Rattle.inpaint.proofs.Plans.{gap-has-no-say, fill-order-same}
 use Rattle.inpaint.proofs.Lawful.{plan-holds, gap-lawful}
+use Rattle.inpaint.proofs.Scans.{span-places}
 
 -- ---- Two recordings with the same window, the gap among it
 
@@ -111,8 +112,8 @@ module _ (start len : ℕ) (samples others : List ℕ) (ends : to (length others
         | inl last ↦ rw (last, le-leb _ _ (no-more (context len) (context-some len) ends (leb-true _ _ last))) refl
         | inr more ↦
             let on = leb-false _ _ more in
-            rw (more, lt-leb _ _ (one-more (context len) (context-some len) ends on), words (start + len) (low (context len)) (high (context len) (context-some len) on))
-            refl
+            let further = one-more (context len) (context-some len) ends on in
+            rw (more, lt-leb _ _ further, words (start + len) (low (context len)) (high (context len) (context-some len) on)) refl
       ]
     where
       no-more : (c : ℕ) → 1 ≤ c → min (length others) (start + len + c) ≡ min (length samples) (start + len + c)
@@ -252,22 +253,15 @@ room-that-fits start len passes room other samples fits fits-too = rw (le-ltb _ 
 
 -- ---- The gap alone is written
 
--- the places of a span
-among-span : (i start : ℕ) (ws : List ℕ) → Among i (places (span start ws)) → (start ≤ i) × (i < start + length ws)
-unfolding span
-among-span i start [] none = absurd none
-among-span i start (w ∷ ws) (inl here) = (omega arith, omega arith)
-among-span i start (w ∷ ws) (inr later) = let on = among-span i (start + 1) ws later in (omega (arith, on .0), omega (arith, on .1))
+-- of a plan: it names samples of its gap alone
+abbrev pub NamesWithin : ℕ → ℕ → ℕ → Plan → Type 0
+NamesWithin start len j (refuse why) = Unit {0}
+NamesWithin start len j (change mark cs) = Among j (places cs) → (start ≤ j) × (j < start + len)
 
--- a plan names samples of its gap alone
-abbrev pub NamesWithin : ℕ → ℕ → Plan → Type 0
-NamesWithin start len (refuse why) = Unit {0}
-NamesWithin start len (change mark cs) = (i : ℕ) → Among i (places cs) → (start ≤ i) × (i < start + len)
-
-pub names-within : (start len passes room : ℕ) (samples : List ℕ) → NamesWithin start len (gapPlan start len passes room samples)
-names-within start len passes room samples =
-    plan-holds (NamesWithin start len) start len passes room samples (λ h. tt) (λ h. tt) (λ i. tt)
-    (λ mark ws m count inside. λ i a. rw (← count) (among-span i start ws a))
+pub names-within : (start len passes room j : ℕ) (samples : List ℕ) → NamesWithin start len j (gapPlan start len passes room samples)
+names-within start len passes room j samples =
+    plan-holds (NamesWithin start len j) start len passes room samples (λ h. tt) (λ h. tt) (λ i. tt)
+    (λ mark ws m count inside among. let within = span-places j start ws among in (within .0, omega (arith, within .1, count)))
 
 pub gap-alone : GapAlone
 unfolding gapRepair called
@@ -283,6 +277,6 @@ gap-alone start len passes room s i out = go (ending s plan (gap-lawful start le
     go (unnamed mark p e) = rw e (refl, refl)
     go (turned-away why e) = rw e (refl, refl)
     go (enters mark cs p e) =
-        let within : NamesWithin start len (change mark cs) = rw p at (names-within start len passes room (s .samples)) in
+        let within : NamesWithin start len i (change mark cs) = rw p at (names-within start len passes room i (s .samples)) in
         let ends = ap (performed s) p ∙ enters-ends e in
-        rw ends (after-elsewhere s mark cs i (λ (a : Among i (places cs)). let w = within i a in out (w .0) (w .1)))
+        rw ends (after-elsewhere s mark cs i (λ (a : Among i (places cs)). let w = within a in out (w .0) (w .1)))

@@ -66,9 +66,9 @@ entered-ends {g} {a} {s} x = ap (performed s) (x .plan) ∙ enters-ends (x .ente
 -- it names samples of its gap alone, and leaves as many samples as there were
 module _ {g : Stretch} {a : Given} {s : State} (x : Entered g a s) where
   named : (i : ℕ) → Among i (places (x .cs)) → (g .start ≤ i) × (i < g .start + g .len)
-  named =
-      let within : NamesWithin (g .start) (g .len) (change (x .mark) (x .cs)) =
-      rw (x .plan) at (names-within (g .start) (g .len) (a .passes) (a .room) (s .samples)) in
+  named i =
+      let within : NamesWithin (g .start) (g .len) i (change (x .mark) (x .cs)) =
+      rw (x .plan) at (names-within (g .start) (g .len) (a .passes) (a .room) i (s .samples)) in
       within
 
   below : (i : ℕ) → Among i (places (x .cs)) → i < length (s .samples)
