@@ -139,7 +139,8 @@ pub fn list_by_library(before: &Recording, list: Listed) -> Way {
     way
 }
 
-/// Whether no two of these gaps are such that the one touches the other's window. What is not within n samples has none.
+/// Whether no two of these gaps are such that the one touches the other's window. What is not within n samples has
+/// none.
 pub fn are_apart(gaps: &[Gap], n: usize) -> bool {
     let within: Vec<Gap> = gaps.iter().copied().filter(|gap| !gap.is_outside(n)).collect();
     let keeps_out = |one: usize, other: usize| one == other || !within[one].touches(within[other], n);

@@ -73,8 +73,8 @@ impl Gap {
         self.start.saturating_sub(context)..(self.end() + context).min(n)
     }
 
-    /// How many samples on either side its repair looks at, where there are so many: the context c, and for the line one
-    /// neighbour.
+    /// How many samples on either side its repair looks at, where there are so many: the context c, and for the line
+    /// one neighbour.
     pub fn context(self) -> usize {
         if self.is_line() {
             1

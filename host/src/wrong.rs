@@ -1,9 +1,8 @@
 //! Wrong stand-ins, with which the comparisons are themselves tried. Each is wrong in one way: in what it leaves or
-//! answers in the place of the library, in one order of its gaps or in any, of the model, of both alike, of the host's own
+//! answers in the place of the library, in one order of gaps or in any, of the model, of both alike, of the host's own
 //! prediction step, of both and the host's own flags of a whole recording, or of the second process, or in what a test
-//! keeps account of. With none of
-//! them a comparison finds no difference; with any one of them it has to find one. `CATHAR_WRONG` names the one that
-//! stands in, and `host/wrong` runs each and says which are found.
+//! keeps account of. With none of them a comparison finds no difference; with any one of them it has to find one.
+//! `CATHAR_WRONG` names the one that stands in, and `host/wrong` runs each and says which are found.
 
 /// A stand-in for the library: its name, what is wrong with it, and what it does.
 macro_rules! library {

@@ -1,7 +1,7 @@
 //! Gaps repaired in one order and in another: where no gap touches another's window and all are accepted, each is
-//! answered the same, samples, marks, counts and used are left the same, and the journals differ only in the order of the
-//! entries (request P13 of document 02). Pairs by single calls, lists by one call. The one order is held to the model and
-//! the original. Beside that the smallest recordings that show what each premise is for.
+//! answered the same, samples, marks, counts and used are left the same, and the journals differ only in the order of
+//! the entries (request P13 of document 02). Pairs by single calls, lists by one call. The one order is held to the
+//! model and the original. Beside that the smallest recordings that show what each premise is for.
 //!
 //! `CATHAR_SEED` sets the seed.
 mod either_order {
@@ -46,16 +46,17 @@ fn lists_of_gaps() {
 }
 
 /// One gap touches the other's window by one sample, anywhere in it. Below 3 samples there is no such recording: of one
-/// sample there is one gap; and of two each gap leaves one sample that is known, so that every lag but r[0] is 0 and each
-/// result is the same zero, -0, whatever that sample is. The search over the words goes through these recordings too.
+/// sample there is one gap; and of two each gap leaves one sample that is known, so that every lag but r[0] is 0 and
+/// each result is the same zero, -0, whatever that sample is. The search over the words goes through these recordings
+/// too.
 #[test]
 fn smallest_of_all() {
     smallest::of_few_samples();
 }
 
-/// The gap is the last sample of the other's window, and the other that of its own. Two gaps so long with so many samples
-/// between them lie in no recording of fewer samples than these together, and what is before them or behind them moves
-/// no distance: all such recordings of fewer samples than the least are gone through.
+/// The gap is the last sample of the other's window, and the other that of its own. Two gaps so long with so many
+/// samples between them lie in no recording of fewer samples than these together, and what is before them or behind
+/// them moves no distance: all such recordings of fewer samples than the least are gone through.
 #[test]
 fn smallest_at_the_windows_end() {
     assert_eq!(smallest::fewest(Touch::BothByTheLast), 1_025);
@@ -70,8 +71,8 @@ fn smallest_of_one_window() {
     smallest::at_one_end();
 }
 
-/// Neither touches the other's window, and the journal has room for one of them alone. Nearer than in the least number of
-/// samples the gaps touch; and in a journal of fewer words both are refused in either order, and nothing is changed.
+/// Neither touches the other's window, and the journal has room for one of them alone. Nearer than in the least number
+/// of samples the gaps touch; and in a journal of fewer words both are refused in either order, and nothing is changed.
 #[test]
 fn smallest_where_one_is_refused() {
     assert_eq!(smallest::fewest(Touch::Neither), 1_026);

@@ -1,13 +1,15 @@
 //! Stand-ins for gaps that are repaired in another order. Most alter what the library has answered and left there, and
-//! the order that is held to the model stays right; those of both sides alike are wrong only in a repair behind another,
-//! so that the model has nothing to say.
+//! the order that is held to the model stays right; those of both sides alike are wrong only in a repair behind
+//! another, so that the model has nothing to say.
 use super::sequences::{altered, entries, named, reverse_entries};
 use super::How::{Alike, Other};
 use super::{Finds, Standin, Table};
 use crate::call::Call;
-use crate::either::Way;
+use crate::either::{Told, Way};
+use crate::inpaint::Gap;
 use crate::lent::Lent;
 use crate::recording::{counted, entry_words, Recording, BLOCK};
+use std::ops::Range;
 
 pub(super) const TABLES: &[Table] = &[
     Table { file: "either_order", test: "two_gaps", finds: Finds::Always, standins: OF_PAIRS },
@@ -426,12 +428,10 @@ const OF_LISTS: &[Standin] = &[
         way.left.marks[place] = before.marks[place];
     }),
     accepted!("either_list_counts_of_first", "only the blocks of the first gap are recounted", |before, way| {
-        let gap = way.gaps[0];
-        let right = way.left.counts.clone();
+        let blocks = blocks_of(way.gaps[0]);
+        let right = way.left.counts[blocks.clone()].to_vec();
         way.left.counts.clone_from(&before.counts);
-        for block in gap.start / BLOCK..(gap.end() - 1) / BLOCK + 1 {
-            way.left.counts[block] = right[block];
-        }
+        way.left.counts[blocks].copy_from_slice(&right);
     }),
     accepted!("either_list_counts_of_others", "the blocks of no gap are recounted too", |_, way| {
         way.left.counts = counted(&way.left.marks);
@@ -472,8 +472,13 @@ fn sides(way: &Way) -> [usize; 2] {
     }
 }
 
+/// The blocks of a gap's samples.
+fn blocks_of(gap: Gap) -> Range<usize> {
+    gap.start / BLOCK..(gap.end() - 1) / BLOCK + 1
+}
+
 /// What a gap is told that is refused by this number becomes what this makes of it.
-fn told_by(way: &mut Way, number: u32, alters: fn(&mut crate::either::Told)) {
+fn told_by(way: &mut Way, number: u32, alters: fn(&mut Told)) {
     way.told.iter_mut().filter(|told| told.number == number).for_each(alters);
 }
 
@@ -482,9 +487,8 @@ fn refuse_second(before: &Recording, way: &mut Way) {
     let gap = way.gaps[1];
     way.left.samples[gap.places()].copy_from_slice(&before.samples[gap.places()]);
     way.left.marks[gap.places()].copy_from_slice(&before.marks[gap.places()]);
-    for block in gap.start / BLOCK..(gap.end() - 1) / BLOCK + 1 {
-        way.left.counts[block] = before.counts[block];
-    }
+    let blocks = blocks_of(gap);
+    way.left.counts[blocks.clone()].copy_from_slice(&before.counts[blocks]);
     let (end, used) = (way.left.used, way.left.used - entry_words(gap.len));
     way.left.journal[used..end].copy_from_slice(&before.journal[used..end]);
     way.left.used = used;

@@ -143,8 +143,8 @@ pub fn spoil_window(draw: &mut Draw, samples: &mut [u32], gaps: &[Gap]) {
     }
 }
 
-/// How many journal words are free for these entries: just enough for all, more, one less, enough for the longest alone,
-/// one less than the shortest takes, or any fewer.
+/// How many journal words are free for these entries: just enough for all, more, one less, enough for the longest
+/// alone, one less than the shortest takes, or any fewer.
 pub fn free(draw: &mut Draw, entries: &[usize]) -> usize {
     let all: usize = entries.iter().sum();
     let [longest, shortest] = [entries.iter().max(), entries.iter().min()].map(|words| *words.expect("there are gaps"));

@@ -41,7 +41,7 @@ impl List {
     }
 
     /// The gaps from the left on.
-    fn from_left(&self) -> Vec<Gap> {
+    fn rising(&self) -> Vec<Gap> {
         let mut gaps = self.gaps.clone();
         gaps.sort_unstable_by_key(|gap| gap.start);
         gaps
@@ -50,7 +50,7 @@ impl List {
     /// Whether every gap is as near to the next as is allowed.
     fn is_closest(&self) -> bool {
         let is_closest = |two: &[Gap]| two[1].start - two[0].end() == two[0].context().max(two[1].context());
-        self.from_left().windows(2).all(is_closest)
+        self.rising().windows(2).all(is_closest)
     }
 
     fn lines(&self) -> usize {
@@ -58,7 +58,7 @@ impl List {
     }
 
     fn share_block(&self) -> bool {
-        self.from_left().windows(2).any(|two| (two[0].end() - 1) / BLOCK == two[1].start / BLOCK)
+        self.rising().windows(2).any(|two| (two[0].end() - 1) / BLOCK == two[1].start / BLOCK)
     }
 
     fn is_loud_in_gap(&self) -> bool {
@@ -80,8 +80,8 @@ pub type Lists = Count<List>;
 
 /// What the lists have to be, all of them together. Where nothing else is said, the premises hold.
 pub const CLASSES: &[Class<List>] = &[
-    Class { name: "lists, each in three orders", least: 3_000, holds: |_| true },
-    Class { name: "the premises hold", least: 2_500, holds: List::holds },
+    Class { name: "lists, each in three orders", least: 4_000, holds: |_| true },
+    Class { name: "the premises hold", least: 3_500, holds: List::holds },
     Class { name: "of two gaps", least: 200, holds: |l| l.has(2) },
     Class { name: "of three gaps", least: 200, holds: |l| l.has(3) },
     Class { name: "of four gaps", least: 200, holds: |l| l.has(4) },
@@ -89,12 +89,12 @@ pub const CLASSES: &[Class<List>] = &[
     Class { name: "of six gaps", least: 200, holds: |l| l.has(6) },
     Class { name: "of seven gaps", least: 200, holds: |l| l.has(7) },
     Class { name: "of eight gaps", least: 200, holds: |l| l.has(8) },
-    Class { name: "each at the closest", least: 200, holds: |l| l.holds() && l.is_closest() },
+    Class { name: "each at the closest", least: 1_000, holds: |l| l.holds() && l.is_closest() },
     Class { name: "one longer than 256", least: 50, holds: |l| l.holds() && l.gaps.iter().any(|gap| gap.len > 256) },
-    Class { name: "lines alone", least: 50, holds: |l| l.holds() && l.lines() == l.gaps.len() },
-    Class { name: "lines and models", least: 50, holds: |l| l.holds() && (1..l.gaps.len()).contains(&l.lines()) },
-    Class { name: "two lines in one block", least: 50, holds: |l| l.holds() && l.share_block() },
-    Class { name: "out of range in a gap", least: 200, holds: |l| l.holds() && l.is_loud_in_gap() },
+    Class { name: "lines alone", least: 100, holds: |l| l.holds() && l.lines() == l.gaps.len() },
+    Class { name: "lines and models", least: 100, holds: |l| l.holds() && (1..l.gaps.len()).contains(&l.lines()) },
+    Class { name: "two lines in one block", least: 100, holds: |l| l.holds() && l.share_block() },
+    Class { name: "out of range in a gap", least: 500, holds: |l| l.holds() && l.is_loud_in_gap() },
     Class {
         name: "journal just enough",
         least: 500,
@@ -102,7 +102,7 @@ pub const CLASSES: &[Class<List>] = &[
     },
     Class { name: "journal with words in use", least: 500, holds: |l| l.holds() && l.before.used > 0 },
     Class { name: "of several lengths", least: 500, holds: |l| l.holds() && l.has_several(|told| told.value) },
-    Class { name: "of several orders", least: 100, holds: |l| l.holds() && l.has_several(|told| told.order as usize) },
+    Class { name: "of several orders", least: 500, holds: |l| l.holds() && l.has_several(|told| told.order as usize) },
     Class { name: "from the left on, in another order", least: 20, holds: |l| l.others.iter().any(|o| rises(l, o)) },
     Class { name: "a gap answered 5, and none 9", least: 20, holds: |l| l.has_refused(5) },
     Class { name: "a gap answered 6, and none 9", least: 20, holds: |l| l.has_refused(6) },
@@ -113,11 +113,11 @@ pub const CLASSES: &[Class<List>] = &[
 /// Whether the premises hold and the gaps come from the left on in this order, but not in the one given.
 fn rises(list: &List, order: &[usize]) -> bool {
     let ordered: Vec<Gap> = order.iter().map(|place| list.gaps[*place]).collect();
-    list.holds() && ordered == list.from_left() && ordered != list.gaps
+    list.holds() && ordered == list.rising() && ordered != list.gaps
 }
 
-/// A list of these gaps in the order given, reversed and in any other, with so many journal words free in all and so many
-/// doubles.
+/// A list of these gaps in the order given, reversed and in any other, with so many journal words free in all and so
+/// many doubles.
 pub fn make(count: &mut Lists, draw: &mut Draw, before: Recording, gaps: Vec<Gap>, doubles: usize) {
     let (passes, work) = (lay::passes(draw), room::work(draw, doubles));
     let given: Vec<usize> = (0..gaps.len()).collect();

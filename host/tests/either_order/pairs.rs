@@ -83,6 +83,12 @@ impl Pair {
         self.lie(so) && !self.are_apart() && self.told.iter().flatten().all(|told| told.number == 0)
     }
 
+    /// Whether it comes to the same that neither touches the other's window and that no fewer samples lie between them
+    /// than the larger context has: what is before them or behind them has no say.
+    fn is_by_distance(&self) -> bool {
+        !self.are_within() || self.are_apart() == self.lie(|between, left, right| between >= left.max(right))
+    }
+
     /// Whether so many of the gaps go by line.
     fn has_lines(&self, count: usize) -> bool {
         self.gaps.iter().filter(|gap| gap.is_line()).count() == count
@@ -158,46 +164,46 @@ pub type Pairs = Count<Pair>;
 
 /// What the pairs have to be, all of them together. Where nothing else is said, the premises hold.
 pub const CLASSES: &[Class<Pair>] = &[
-    Class { name: "pairs", least: 25_000, holds: |_| true },
-    Class { name: "the premises hold", least: 15_000, holds: Pair::holds },
-    Class { name: "the left one first", least: 5_000, holds: |p| p.holds() && p.gaps == p.sides() },
-    Class { name: "the right one first", least: 5_000, holds: |p| p.holds() && p.gaps != p.sides() },
-    Class { name: "two by model", least: 10_000, holds: |p| p.holds() && p.has_lines(0) },
-    Class { name: "one longer than 256", least: 300, holds: |p| p.has_gap(|g| g.len > 256 && !g.is_line()) },
+    Class { name: "pairs", least: 30_000, holds: |_| true },
+    Class { name: "the premises hold", least: 20_000, holds: Pair::holds },
+    Class { name: "the left one first", least: 9_000, holds: |p| p.holds() && p.gaps == p.sides() },
+    Class { name: "the right one first", least: 9_000, holds: |p| p.holds() && p.gaps != p.sides() },
+    Class { name: "two by model", least: 15_000, holds: |p| p.holds() && p.has_lines(0) },
+    Class { name: "one longer than 256", least: 200, holds: |p| p.has_gap(|g| g.len > 256 && !g.is_line()) },
     Class { name: "one longer than 1,000", least: 4, holds: |p| p.has_gap(|g| g.len > 1_000 && !g.is_line()) },
     Class {
         name: "one by model, of 1,999, in 10,000 samples",
-        least: 2,
+        least: 1,
         holds: |p| p.has_gap(|g| g.len == 1_999) && p.n() == 10_000,
     },
     Class { name: "a line, then by model", least: 300, holds: |p| p.has_lines(1) && p.holds() && p.gaps[0].is_line() },
     Class { name: "by model, then a line", least: 300, holds: |p| p.has_lines(1) && p.holds() && !p.gaps[0].is_line() },
-    Class { name: "two lines", least: 500, holds: |p| p.holds() && p.has_lines(2) },
+    Class { name: "two lines", least: 1_000, holds: |p| p.holds() && p.has_lines(2) },
     Class {
         name: "two lines, one sample between",
-        least: 300,
+        least: 500,
         holds: |p| p.has_lines(2) && p.holds_where(|d, _, _| d == 1),
     },
-    Class { name: "two lines in one block", least: 300, holds: |p| p.holds() && p.share_block() },
+    Class { name: "two lines in one block", least: 500, holds: |p| p.holds() && p.share_block() },
     Class {
         name: "at the closest, by both windows",
-        least: 3_000,
+        least: 12_000,
         holds: |p| p.holds_where(|d, l, r| d == l && d == r),
     },
     Class {
         name: "right one begins where left's window ends",
-        least: 50,
+        least: 200,
         holds: |p| p.holds_where(|d, l, r| d == l && l > r),
     },
     Class {
         name: "left one ends where right's window begins",
-        least: 50,
+        least: 200,
         holds: |p| p.holds_where(|d, l, r| d == r && r > l),
     },
     Class { name: "one farther", least: 300, holds: |p| p.holds_where(|d, l, r| d == l.max(r) + 1) },
     Class { name: "much farther", least: 500, holds: |p| p.holds_where(|d, l, r| d > l.max(r) + 40) },
-    Class { name: "begins at a block's edge", least: 300, holds: |p| p.has_gap(|g| g.start % BLOCK == 0) },
-    Class { name: "ends at a block's edge", least: 300, holds: |p| p.has_gap(|g| g.end() % BLOCK == 0) },
+    Class { name: "begins at a block's edge", least: 3_000, holds: |p| p.has_gap(|g| g.start % BLOCK == 0) },
+    Class { name: "ends at a block's edge", least: 1_500, holds: |p| p.has_gap(|g| g.end() % BLOCK == 0) },
     Class { name: "begins with a block's last sample", least: 100, holds: |p| p.has_gap(|g| g.start % BLOCK == 255) },
     Class { name: "ends with a block's first sample", least: 100, holds: |p| p.has_gap(|g| g.end() % BLOCK == 1) },
     Class { name: "over several blocks", least: 500, holds: |p| p.has_gap(|g| Pair::blocks(g).len() > 1) },
@@ -215,8 +221,8 @@ pub const CLASSES: &[Class<Pair>] = &[
     Class { name: "a window up to the end", least: 500, holds: |p| p.ends(|rest, c| rest == c) },
     Class { name: "a window one before the end", least: 500, holds: |p| p.ends(|rest, c| rest == c + 1) },
     Class { name: "of fewer than 1,100 samples", least: 100, holds: |p| p.holds() && p.n() < 1_100 },
-    Class { name: "of more than 9,000 samples", least: 500, holds: |p| p.holds() && p.n() > 9_000 },
-    Class { name: "of 10,000 samples", least: 300, holds: |p| p.holds() && p.n() == 10_000 },
+    Class { name: "of more than 9,000 samples", least: 1_000, holds: |p| p.holds() && p.n() > 9_000 },
+    Class { name: "of 10,000 samples", least: 1_000, holds: |p| p.holds() && p.n() == 10_000 },
     Class { name: "out of range in one gap", least: 500, holds: |p| p.holds() && p.loud_gaps() == 1 },
     Class { name: "out of range in both gaps", least: 500, holds: |p| p.holds() && p.loud_gaps() == 2 },
     Class { name: "out of range outside both windows", least: 500, holds: |p| p.holds() && p.is_loud_outside() },
@@ -225,25 +231,25 @@ pub const CLASSES: &[Class<Pair>] = &[
         least: 300,
         holds: |p| p.holds() && p.loud_gaps() > 0 && p.is_loud_outside(),
     },
-    Class { name: "journal just enough", least: 3_000, holds: |p| p.holds() && p.free() == p.entries() },
-    Class { name: "journal longer", least: 3_000, holds: |p| p.holds() && p.free() > p.entries() },
+    Class { name: "journal just enough", least: 5_000, holds: |p| p.holds() && p.free() == p.entries() },
+    Class { name: "journal longer", least: 5_000, holds: |p| p.holds() && p.free() > p.entries() },
     Class { name: "journal with words in use", least: 3_000, holds: |p| p.holds() && p.before.used > 0 },
     Class { name: "workspaces exact", least: 1_000, holds: |p| p.holds() && p.has_exact_work() },
-    Class { name: "leaving a wrong count of a block", least: 1_000, holds: |p| p.holds() && p.has_wrong_count },
-    Class { name: "of two lengths", least: 5_000, holds: |p| p.holds() && p.gaps[0].len != p.gaps[1].len },
-    Class { name: "of two orders", least: 500, holds: |p| p.holds() && p.orders()[0] != p.orders()[1] },
-    Class { name: "order 0, by model", least: 100, holds: |p| p.has_lines(0) && p.holds() && p.orders() == [0; 2] },
+    Class { name: "leaving a wrong count of a block", least: 4_000, holds: |p| p.holds() && p.has_wrong_count },
+    Class { name: "of two lengths", least: 10_000, holds: |p| p.holds() && p.gaps[0].len != p.gaps[1].len },
+    Class { name: "of two orders", least: 2_000, holds: |p| p.holds() && p.orders()[0] != p.orders()[1] },
+    Class { name: "order 0, by model", least: 1_000, holds: |p| p.has_lines(0) && p.holds() && p.orders() == [0; 2] },
     Class { name: "apart, answered 5 in either order", least: 300, holds: |p| p.is_refused_twice(5) },
     Class { name: "apart, answered 6 in either order", least: 300, holds: |p| p.are_apart() && p.is_refused_twice(6) },
     Class { name: "apart, answered 7 in either order", least: 300, holds: |p| p.are_apart() && p.is_refused_twice(7) },
     Class { name: "apart, answered 8 in either order", least: 100, holds: |p| p.are_apart() && p.is_refused_twice(8) },
-    Class { name: "apart, room for one alone, first come", least: 500, holds: Pair::is_crowded },
+    Class { name: "apart, room for one alone, first come", least: 1_000, holds: Pair::is_crowded },
     Class {
         name: "apart, one word short of both",
-        least: 300,
+        least: 400,
         holds: |p| p.is_crowded() && p.free() + 1 == p.entries(),
     },
-    Class { name: "apart, one first come, and other samples", least: 300, holds: |p| p.is_crowded() && p.differs },
+    Class { name: "apart, one first come, and other samples", least: 1_000, holds: |p| p.is_crowded() && p.differs },
     Class {
         name: "apart, one has room and the other never",
         least: 100,
@@ -254,36 +260,40 @@ pub const CLASSES: &[Class<Pair>] = &[
         least: 100,
         holds: |p| p.are_apart() && p.numbers(0) == [9; 2] && p.numbers(1) == [9; 2],
     },
-    Class { name: "one nearer than both windows", least: 500, holds: |p| p.touch(|d, l, r| d + 1 == l && d + 1 == r) },
+    Class {
+        name: "one nearer than both windows",
+        least: 1_500,
+        holds: |p| p.touch(|d, l, r| d + 1 == l && d + 1 == r),
+    },
     Class {
         name: "one nearer than both, and other samples",
-        least: 100,
+        least: 1_000,
         holds: |p| p.touch(|d, l, r| d + 1 == l && d + 1 == r) && p.differs,
     },
     Class {
         name: "one nearer than left's window alone",
-        least: 20,
+        least: 100,
         holds: |p| p.touch(|d, l, r| d + 1 == l && d >= r),
     },
     Class {
         name: "one nearer than left's, and other samples",
-        least: 10,
+        least: 50,
         holds: |p| p.touch(|d, l, r| d + 1 == l && d >= r) && p.differs,
     },
     Class {
         name: "one nearer than right's window alone",
-        least: 20,
+        least: 100,
         holds: |p| p.touch(|d, l, r| d + 1 == r && d >= l),
     },
     Class {
         name: "one nearer than right's, and other samples",
-        least: 10,
+        least: 50,
         holds: |p| p.touch(|d, l, r| d + 1 == r && d >= l) && p.differs,
     },
-    Class { name: "two lines side by side", least: 50, holds: |p| p.has_lines(2) && p.touch(|d, _, _| d == 0) },
+    Class { name: "two lines side by side", least: 200, holds: |p| p.has_lines(2) && p.touch(|d, _, _| d == 0) },
     Class {
         name: "two lines side by side, and other samples",
-        least: 50,
+        least: 200,
         holds: |p| p.has_lines(2) && p.touch(|d, _, _| d == 0) && p.differs,
     },
     Class {
@@ -308,5 +318,8 @@ pub fn make(count: &mut Pairs, before: Recording, turns: [Turn; 2]) {
         has_wrong_count: one.left.has_wrong_count(),
         before,
     };
+    if !pair.is_by_distance() {
+        wrong.push("windows and distance");
+    }
     count.take(&pair, &wrong);
 }

@@ -5,7 +5,6 @@ use cathar_host::either::{by_library, Turn, Way};
 use cathar_host::inpaint::Gap;
 use cathar_host::original;
 use cathar_host::recording::Recording;
-use std::fmt::Write;
 
 /// What the samples are that are not 0.
 const WORDS: [f32; 2] = [1.0, 0.5];
@@ -101,25 +100,32 @@ impl Found {
         }
     }
 
-    /// The recording, and the first place that differs so, in one line.
+    /// The numbers of the answers in each order.
+    fn numbers(&self) -> [Vec<u32>; 2] {
+        [0, 1].map(|way: usize| self.ways[way].told.iter().map(|told| told.number).collect())
+    }
+
+    /// The recording, the answers in each order, and the first two places that differ so, in one line.
     fn line(&self, differ: Differ) -> String {
         let [one, other] = self.gaps.map(|gap| format!("[{}, {})", gap.start, gap.end()));
-        let mut text = format!("{} samples, gaps {one} and {other}; not 0:", self.samples.len());
-        for (place, x) in self.samples.iter().enumerate().filter(|(_, x)| x.to_bits() != 0) {
-            write!(text, " {place}:{x}").expect("a String takes all");
-        }
-        let places = self.places(differ);
-        let [told, told_other] = [0, 1].map(|way: usize| self.ways[way].told.iter().map(|told| told.number));
-        write!(text, "; numbers {:?} and {:?}", told.collect::<Vec<u32>>(), told_other.collect::<Vec<u32>>())
-            .expect("a String takes all");
-        let at = |way: usize, place: usize| self.ways[way].left.samples[place];
-        for place in places.iter().take(2) {
-            let [ours, theirs] = [at(0, *place), at(1, *place)];
-            let numbers = [ours, theirs].map(f32::from_bits);
-            write!(text, "; place {place}: {ours:08x} ({:?}) and {theirs:08x} ({:?})", numbers[0], numbers[1])
-                .expect("a String takes all");
-        }
-        format!("{text}; {} places differ", places.len())
+        let not_0 = self.samples.iter().enumerate().filter(|(_, x)| **x != 0.0);
+        let not_0: Vec<String> = not_0.map(|(place, x)| format!("{place}:{x}")).collect();
+        let (places, [told, told_other]) = (self.places(differ), self.numbers());
+        let shown: Vec<String> = places.iter().take(2).map(|place| self.at(*place)).collect();
+        format!(
+            "{} samples, gaps {one} and {other}; not 0: {}; answers {told:?} and {told_other:?}; {}; {} places differ",
+            self.samples.len(),
+            if not_0.is_empty() { String::from("none") } else { not_0.join(" ") },
+            shown.join("; "),
+            places.len()
+        )
+    }
+
+    /// What each order leaves at a place.
+    fn at(&self, place: usize) -> String {
+        let [one, other] = [0, 1].map(|way: usize| self.ways[way].left.samples[place]);
+        let [x, y] = [one, other].map(f32::from_bits);
+        format!("place {place}: {one:08x} ({x:?}) and {other:08x} ({y:?})")
     }
 }
 
@@ -141,8 +147,8 @@ fn choices(of: &[usize], many: usize, put: &mut dyn FnMut(&[usize]) -> bool) -> 
     more(of, many, &mut Vec::new(), put)
 }
 
-/// Goes through the recordings of n samples of which so many are not 0, at any of these places, and are one of the words.
-/// The first in which the two orders differ so, and how many were gone through.
+/// Goes through the recordings of n samples of which so many are not 0, at any of these places, and are one of the
+/// words. The first in which the two orders differ so, and how many were gone through.
 fn search(
     n: usize,
     gaps: [Gap; 2],
@@ -170,8 +176,8 @@ fn search(
     (tried, found)
 }
 
-/// With fewer samples that are not 0 than these no recording of the search differs even in a word. Prints the first that
-/// does, and sees that the original differs likewise.
+/// With fewer samples that are not 0 than these no recording of the search differs even in a word. Prints the first
+/// that does, and sees that the original differs likewise.
 fn search_up_to(n: usize, gaps: [Gap; 2], journal: usize, places: &[usize], many: usize, differ: Differ) -> Found {
     let mut tried = 0;
     for fewer in 0..many {
@@ -235,8 +241,8 @@ fn beside([left, right]: [Gap; 2], many: usize) -> Vec<usize> {
     places
 }
 
-/// Two gaps of one sample, each the last of the other's window, in the fewest samples. One sample that is not 0 may be at
-/// any place, and several at the 32 nearest to either gap, which are all that the equations of a result have.
+/// Two gaps of one sample, each the last of the other's window, in the fewest samples. One sample that is not 0 may be
+/// at any place, and several at the 32 nearest to either gap, which are all that the equations of a result have.
 pub fn at_both_ends() {
     let (n, gaps) = (1_025, [Gap { start: 0, len: 1 }, Gap { start: 1_024, len: 1 }]);
     let all: Vec<usize> = (0..n).collect();
@@ -248,9 +254,9 @@ pub fn at_both_ends() {
     assert_eq!(found.places(WORD).len(), found.places(NUMBER).len());
 }
 
-/// A gap of 257 samples, whose window is larger than that of the other, of one sample: the least that is so. The other is
-/// the last sample of that window; and it is as near as its own window allows, in the fewest samples. With two samples that
-/// are not 0 they differ in the sign of a zero, and with three in a number.
+/// A gap of 257 samples, whose window is larger than that of the other, of one sample: the least that is so. The other
+/// is the last sample of that window; and it is as near as its own window allows, in the fewest samples. With two
+/// samples that are not 0 they differ in the sign of a zero, and with three in a number.
 pub fn at_one_end() {
     for n in [1_282, 1_285] {
         for swapped in [false, true] {
@@ -265,9 +271,9 @@ pub fn at_one_end() {
     }
 }
 
-/// Two gaps of one sample, as near as is allowed, in the fewest samples, and a journal with room for one entry: 5 words.
-/// With silence alone they differ in the sign of two zeros, and with one sample that is not 0 in a number. With a shorter
-/// journal both are refused.
+/// Two gaps of one sample, as near as is allowed, in the fewest samples, and a journal with room for one entry: 5
+/// words. With silence alone they differ in the sign of two zeros, and with one sample that is not 0 in a number. With
+/// a shorter journal both are refused.
 pub fn of_a_short_journal() {
     let (n, gaps) = (1_026, [Gap { start: 0, len: 1 }, Gap { start: 1_025, len: 1 }]);
     let places = beside(gaps, 8);
@@ -275,7 +281,7 @@ pub fn of_a_short_journal() {
         let found = search_up_to(n, gaps, 5, &places, many, differ);
         for journal in 0..=10 {
             let other = Found::new(found.samples.clone(), gaps, journal);
-            let numbers: Vec<u32> = other.ways.iter().flat_map(|way| way.told.iter().map(|told| told.number)).collect();
+            let numbers = other.numbers().concat();
             let expected = if journal < 5 {
                 [9, 9, 9, 9]
             } else if journal < 10 {

@@ -193,7 +193,8 @@ fn over(count: &mut Pairs, draw: &mut Draw, turn: u64) {
     make(count, draw, samples, &[gap, other], Room::Exact);
 }
 
-/// Where these gaps lie, as many of them as have room, each as far behind the one before as is said or somewhat farther.
+/// Where these gaps lie, as many of them as have room, each as far behind the one before as is said or somewhat
+/// farther.
 fn laid(draw: &mut Draw, lens: &[usize], distance: Distance) -> (usize, Vec<Gap>) {
     let mut distances: Vec<usize> = lens.windows(2).map(|two| distance.of(draw, [two[0], two[1]])).collect();
     let mut gaps = lens.len();
