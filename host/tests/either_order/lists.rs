@@ -57,6 +57,11 @@ impl List {
         self.gaps.iter().filter(|gap| gap.is_line()).count()
     }
 
+    /// Whether a gap that goes by the model has a context above 1024.
+    fn has_long(&self) -> bool {
+        self.gaps.iter().any(|gap| gap.context() > 1_024)
+    }
+
     fn share_block(&self) -> bool {
         self.rising().windows(2).any(|two| (two[0].end() - 1) / BLOCK == two[1].start / BLOCK)
     }
@@ -90,7 +95,7 @@ pub const CLASSES: &[Class<List>] = &[
     Class { name: "of seven gaps", least: 200, holds: |l| l.has(7) },
     Class { name: "of eight gaps", least: 200, holds: |l| l.has(8) },
     Class { name: "each at the closest", least: 1_000, holds: |l| l.holds() && l.is_closest() },
-    Class { name: "one longer than 256", least: 50, holds: |l| l.holds() && l.gaps.iter().any(|gap| gap.len > 256) },
+    Class { name: "by model, one longer than 256", least: 50, holds: |l| l.holds() && l.has_long() },
     Class { name: "lines alone", least: 100, holds: |l| l.holds() && l.lines() == l.gaps.len() },
     Class { name: "lines and models", least: 100, holds: |l| l.holds() && (1..l.gaps.len()).contains(&l.lines()) },
     Class { name: "two lines in one block", least: 100, holds: |l| l.holds() && l.share_block() },

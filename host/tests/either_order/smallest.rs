@@ -176,8 +176,8 @@ fn search(
     (tried, found)
 }
 
-/// With fewer samples that are not 0 than these no recording of the search differs even in a word. Prints the first
-/// that does, and sees that the original differs likewise.
+/// The first recording of the search that differs so with so many samples that are not 0. With fewer none does. It is
+/// printed, and the original has to give the same in each order.
 fn search_up_to(n: usize, gaps: [Gap; 2], journal: usize, places: &[usize], many: usize, differ: Differ) -> Found {
     let mut tried = 0;
     for fewer in 0..many {
