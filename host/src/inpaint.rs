@@ -73,6 +73,28 @@ impl Gap {
         self.start.saturating_sub(context)..(self.end() + context).min(n)
     }
 
+    /// How many samples on either side its repair looks at, where there are so many: the context c, and for the line
+    /// one neighbour.
+    pub fn context(self) -> usize {
+        if self.is_line() {
+            1
+        } else {
+            (4 * self.len).max(1024)
+        }
+    }
+
+    /// All that its repair looks at, the gap itself among it: the window, and for the line the gap and "the neighbours
+    /// that exist". For a gap that is not outside.
+    pub fn near(self, n: usize) -> Range<usize> {
+        self.start.saturating_sub(self.context())..(self.end() + self.context()).min(n)
+    }
+
+    /// Whether a sample of it lies in the other's window. For gaps that are not outside.
+    pub fn touches(self, other: Gap, n: usize) -> bool {
+        let near = other.near(n);
+        self.start < near.end && near.start < self.end()
+    }
+
     /// "p is len held to 32..128."
     pub fn most_order(self) -> usize {
         self.len.clamp(32, 128)
@@ -91,9 +113,8 @@ impl Gap {
     /// The places that its repair reads, ascending: for the line "the neighbours that exist", and else
     /// everything in the window outside the gap. For a gap that is not outside.
     pub fn read(self, n: usize) -> impl Iterator<Item = usize> {
-        let Gap { start, len } = self;
-        let near = if self.is_line() { start.saturating_sub(1)..(start + len + 1).min(n) } else { self.window(n) };
-        (near.start..start).chain(start + len..near.end)
+        let near = self.near(n);
+        (near.start..self.start).chain(self.end()..near.end)
     }
 
     /// Its window of these samples, widened. For a gap that is not outside.

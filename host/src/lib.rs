@@ -9,6 +9,7 @@ pub mod count;
 pub mod crackle;
 pub mod damage;
 pub mod draw;
+pub mod either;
 pub mod float;
 pub mod frames;
 pub mod inpaint;

@@ -1,8 +1,8 @@
 //! Wrong stand-ins, with which the comparisons are themselves tried. Each is wrong in one way: in what it leaves or
-//! answers in the place of the library, of the model, of both alike, of the host's own prediction step, of both and the
-//! host's own flags of a whole recording, or of the second process, or in what a test keeps account of. With none of
-//! them a comparison finds no difference; with any one of them it has to find one. `CATHAR_WRONG` names the one that
-//! stands in, and `host/wrong` runs each and says which are found.
+//! answers in the place of the library, in one order of gaps or in any, of the model, of both alike, of the host's own
+//! prediction step, of both and the host's own flags of a whole recording, or of the second process, or in what a test
+//! keeps account of. With none of them a comparison finds no difference; with any one of them it has to find one.
+//! `CATHAR_WRONG` names the one that stands in, and `host/wrong` runs each and says which are found.
 
 /// A stand-in for the library: its name, what is wrong with it, and what it does.
 macro_rules! library {
@@ -13,6 +13,7 @@ macro_rules! library {
 
 mod counts;
 mod crackle;
+mod either;
 mod frames;
 mod gaps;
 mod held;
@@ -32,6 +33,7 @@ mod whole;
 use crate::call::Call;
 use crate::cathar;
 use crate::crackle::{self as model_of_crackle, Areas};
+use crate::either::Way;
 use crate::frames::{self as model_of_frames, Read, Rooms};
 use crate::lent::crackle::Crackle;
 use crate::lent::frames::Frames;
@@ -60,6 +62,9 @@ enum How {
     Alike(Alters),
     /// In what the test of sequences keeps account of, which has a function of this name.
     Account,
+    /// In the library's, where it repairs gaps in the other order: it alters what was answered and left. It is told the
+    /// recording before them.
+    Other(fn(&Recording, &mut Way)),
     /// In the place of the library's reader of frames: it reads, at times by the library's own, and gives the answer.
     Reader(fn(&mut Frames) -> u32),
     /// In the place of both readers alike.
@@ -108,7 +113,7 @@ pub enum Finds {
 }
 
 /// All of them.
-pub const TABLES: [&[Table]; 17] = [
+pub const TABLES: [&[Table]; 18] = [
     leaves::TABLES,
     recording::TABLES,
     received::TABLES,
@@ -117,6 +122,7 @@ pub const TABLES: [&[Table]; 17] = [
     held::TABLES,
     orders::TABLES,
     several::TABLES,
+    either::TABLES,
     whole::TABLES,
     proposed::TABLES,
     sequences::TABLES,
@@ -185,6 +191,13 @@ pub(crate) fn model<A>(model: &mut Recording, call: Call, make: impl FnOnce(&mut
             answer
         }
         _ => make(model),
+    }
+}
+
+/// What the library answered and left where it repaired gaps in the other order, or what stands in for that.
+pub(crate) fn other_way(before: &Recording, way: &mut Way) {
+    if let Some(How::Other(alters)) = how() {
+        alters(before, way);
     }
 }
 
