@@ -2,14 +2,15 @@
 use mathlib.Core.Path.{_≡_, refl, sym, ap, _∙_}
 use mathlib.Core.Bool.{false}
 use mathlib.Core.List.{List}
-use mathlib.Core.Logic.{inl, inr}
-use Prim.Native.Nat.{ℕ, _+_, _-_, _≤_, _<_, min}
+use mathlib.Core.Logic.{_⊎_, inl, inr}
+use Prim.Native.Nat.{ℕ, _+_, _-_, _≤_, _<_, max, min}
 use native.Mathlib.Omega.{arith}
 use borrow.Author.Tests.{ltb-false}
 use lib.Dec.{ltb}
 use lib.ListN.{length}
 use Rattle.leaves.specs.Choice.{if_then_else_}
 use Rattle.leaves.proofs.Choice.{truth}
+use Rattle.leaves.proofs.Numbers.{lt-or-ge}
 use Rattle.recording.specs.Recording.{State, Ended, ended, Placed, places, Plan, refuse, change, entry, committed, performed, called}
 use Rattle.recording.specs.Consequences.{Among}
 use Rattle.recording.specs.declared.Reason.{Reason}
@@ -30,7 +31,7 @@ use Rattle.inpaint.proofs.Orders.{order-of-every-count}
 use Rattle.inpaint.proofs.Rooms.{accepted-names-the-gap}
 use Rattle.inpaint.proofs.Reach.{window-decides, window-decides-order, room-that-fits, NamesWithin, names-within}
 use Rattle.splice.specs.EitherOrder.{Touches, Apart, Given, Fitting, repairOf, orderOf, Accepted, afterFirst}
-use Rattle.splice.specs.EitherOrder.{AlikeButJournal, entryOf, gapEntry, SwappedEntries, OtherOrder, EitherOrder}
+use Rattle.splice.specs.EitherOrder.{AlikeButJournal, entryOf, gapEntry, SwappedEntries, OtherOrder, EitherOrder, ApartByDistance}
 
 -- ---- A repair that is accepted
 
@@ -267,3 +268,35 @@ either-order g a a' h b b' s apart first second fits-g fits-h =
     let x = accepted-enters g a s first in
     let y = accepted-enters h b (left x) (rw (entered-ends x) at second) in
     other-order x y apart a' b' fits-g fits-h
+
+-- ---- How near is that
+
+-- of gaps of l samples at s and of m at t, with the contexts c and d
+module _ (n s l t m c d : ℕ) (some : 1 ≤ l) (behind : s + l ≤ t) (more : 1 ≤ m) (inside : t + m ≤ n) where
+  -- the first's window ends before the second, and that of the second begins behind the first
+  far-enough : ((i : ℕ) → s ≤ i → i < s + l → t - d ≤ i → i < min n (t + m + d) → ⊥)
+      → ((i : ℕ) → t ≤ i → i < t + m → s - c ≤ i → i < min n (s + l + c) → ⊥) → max c d ≤ t - (s + l)
+  far-enough first second = go (lt-or-ge (t - (s + l)) c) (lt-or-ge (t - (s + l)) d)
+    where
+      go : (t - (s + l) < c) ⊎ (c ≤ t - (s + l)) → (t - (s + l) < d) ⊎ (d ≤ t - (s + l)) → max c d ≤ t - (s + l)
+      go (inl near) k = absurd (second t (omega arith) (omega arith) (omega arith) (omega arith))
+      go (inr far) (inl near) = absurd (first (s + l - 1) (omega arith) (omega arith) (omega arith) (omega arith))
+      go (inr far) (inr far-too) = omega arith
+
+  first-clear : max c d ≤ t - (s + l) → (i : ℕ) → i < s + l → t - d ≤ i → ⊥
+  first-clear far i low high = omega arith
+
+  second-clear : max c d ≤ t - (s + l) → (i : ℕ) → t ≤ i → i < min n (s + l + c) → ⊥
+  second-clear far i low high = omega arith
+
+pub apart-by-distance : ApartByDistance
+apart-by-distance n g h some behind more inside = (
+  λ apart. far-enough n (g .start) (g .len) (h .start) (h .len) (context (g .len)) (context (h .len)) some behind more inside
+      (λ i a b c d. apart .0 (i, a, b, c, d)) (λ i a b c d. apart .1 (i, a, b, c, d)),
+  λ far. (
+    λ touch. first-clear n (g .start) (g .len) (h .start) (h .len) (context (g .len)) (context (h .len)) some behind more inside far
+        (touch .0) (touch .2) (touch .3),
+    λ touch. second-clear n (g .start) (g .len) (h .start) (h .len) (context (g .len)) (context (h .len)) some behind more inside far
+        (touch .0) (touch .1) (touch .4),
+  ),
+)

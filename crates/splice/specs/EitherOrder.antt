@@ -1,16 +1,16 @@
 -- Two gaps, either order: request P13 of document 02, whose sentences the comments quote. "Splicers ask whether it matters which gap they
 -- repair first. Show that it doesn't for two model gaps when neither gap touches the other's window, both calls are accepted in one order,
--- and the workspace fits each". Definitions, and then the statement, which is proved as `either-order` of proofs/EitherOrder.antt, which
--- nobody has to read. What does the work is stated in specs/Reach.antt of the crate `inpaint`. Nothing here is
+-- and the workspace fits each". Definitions, and then two statements, which are proved as `either-order` and `apart-by-distance` of
+-- proofs/EitherOrder.antt, which nobody has to read. What does the work is stated in specs/Reach.antt of the crate `inpaint`. Nothing here is
 -- special to the model: of a gap by a straight line, whose window is its neighbours, the same holds.
-use Prim.Native.Nat.{ℕ, _+_, _≤_, _<_}
+use Prim.Native.Nat.{ℕ, _+_, _-_, _≤_, _<_, max}
 use mathlib.Core.Path.{_≡_}
 use mathlib.Core.List.{List, [], _++_}
 use lib.ListN.{length}
 use lib.Seq.{sets}
 use Rattle.recording.specs.Answers.{number}
 use Rattle.recording.specs.Recording.{State, Ended, places, Plan, refuse, change, entry}
-use Rattle.inpaint.specs.Gap.{from, to, needed, gapPlan, gapRepair}
+use Rattle.inpaint.specs.Gap.{context, from, to, needed, gapPlan, gapRepair}
 use Rattle.inpaint.specs.Runs.{Stretch}
 use Rattle.inpaint.specs.Order.{gapOrder}
 
@@ -94,3 +94,14 @@ EitherOrder =
     → Accepted (repairOf g a s) → Accepted (afterFirst g a h b s)
     → Fitting (length (s .samples)) g a' → Fitting (length (s .samples)) h b'
     → OtherOrder g a a' h b b' s
+
+-- ---- How near is that
+
+-- Of two gaps within a recording, g before h, neither touches the other's window exactly where no fewer samples lie between them than the
+-- larger of their contexts has: "The window runs from max(0, start−c) to min(n, start+len+c)."
+abbrev pub ApartByDistance : Type 0
+ApartByDistance =
+    (n : ℕ) (g h : Stretch) → 1 ≤ g .len → g .start + g .len ≤ h .start → 1 ≤ h .len → h .start + h .len ≤ n
+    → let between = h .start - (g .start + g .len) in
+    let larger = max (context (g .len)) (context (h .len)) in
+    (Apart n g h → larger ≤ between) × (larger ≤ between → Apart n g h)

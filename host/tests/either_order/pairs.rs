@@ -303,11 +303,23 @@ pub const CLASSES: &[Class<Pair>] = &[
     },
 ];
 
+/// The call for the same gap in the other order: with another number of passes, and where the workspace is long enough
+/// with another one that is.
+fn again(turn: &Turn, n: usize) -> Turn {
+    let mut work = turn.work.clone();
+    if !turn.gap.is_outside(n) && turn.gap.needed(n) <= work.len() {
+        let longer = if turn.gap.needed(n) == work.len() { 3 } else { 0 };
+        work.resize(turn.gap.needed(n) + longer, 0x7ff8_0000_0000_0001);
+    }
+    Turn { gap: turn.gap, passes: turn.passes ^ 1, work }
+}
+
 /// Both gaps in the one order and in the other.
 pub fn make(count: &mut Pairs, before: Recording, turns: [Turn; 2]) {
     let [first, second] = &turns;
     let one = by_both(&before, &[first, second]);
-    let other = by_library(&before, &[second, first]);
+    let [first_again, second_again] = [first, second].map(|turn| again(turn, before.samples.len()));
+    let other = by_library(&before, &[&second_again, &first_again]);
     let mut wrong = broken(&before, &one, &other, &[1, 0]);
     wrong.extend(one.wrong.iter().chain(&other.wrong));
     let pair = Pair {
