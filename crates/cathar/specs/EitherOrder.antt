@@ -27,7 +27,7 @@ callOn g a = gap (g .start) (g .len) (a .passes) (a .work)
 abbrev pub sized : Lent → Given
 sized a = record { passes = a .passes; room = length (a .work) }
 
--- the call on h, when the call on g has been made
+-- the recording after the call on a gap
 abbrev pub afterCall : Stretch → Lent → State → State
 afterCall g a s = ran (callOn g a) s .after
 
