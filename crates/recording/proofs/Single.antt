@@ -13,7 +13,7 @@ use Rattle.recording.specs.History.{Call, repair, undo, did}
 use Rattle.recording.specs.Consequences.{RefusalChangesNothing, MadeOf, AcceptedAsRuled}
 use Rattle.recording.specs.declared.Reason.{Reason}
 use Rattle.recording.specs.declared.Reason.the-variants.{Counts, TooMany, Used, Setting, Gap, Workspace, Read}
-use Rattle.recording.specs.declared.Reason.the-variants.{Result, Room, Nothing, Malformed, Frames, Pieces, Blocks, Proposal}
+use Rattle.recording.specs.declared.Reason.the-variants.{Result, Room, Nothing, Malformed, Frames, Pieces, Blocks, Proposal, Version, Stored}
 use Rattle.recording.specs.declared.Answer.{Answer}
 use Rattle.recording.specs.declared.Answer.the-variants.{Done, Refused}
 use Rattle.leaves.proofs.Choice.{picks}
@@ -74,6 +74,8 @@ above-zero why = elim why [
   | Pieces ↦ omega arith
   | Blocks ↦ omega arith
   | Proposal place ↦ omega arith
+  | Version ↦ omega arith
+  | Stored ↦ omega arith
 ]
 
 pub refusal-changes-nothing : RefusalChangesNothing

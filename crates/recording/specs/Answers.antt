@@ -2,7 +2,7 @@
 use Prim.Native.Nat.{ℕ}
 use Rattle.recording.specs.declared.Reason.{Reason}
 use Rattle.recording.specs.declared.Reason.the-variants.{Counts, TooMany, Used, Setting, Gap, Workspace, Read}
-use Rattle.recording.specs.declared.Reason.the-variants.{Result, Room, Nothing, Malformed, Frames, Pieces, Blocks, Proposal}
+use Rattle.recording.specs.declared.Reason.the-variants.{Result, Room, Nothing, Malformed, Frames, Pieces, Blocks, Proposal, Version, Stored}
 use Rattle.recording.specs.declared.Answer.{Answer}
 use Rattle.recording.specs.declared.Answer.the-variants.{Done, Refused}
 use Rattle.recording.specs.declared.Verdict.{Verdict}
@@ -25,6 +25,8 @@ reasonNumber Frames = 12
 reasonNumber Pieces = 13
 reasonNumber Blocks = 14
 reasonNumber (Proposal place) = 15
+reasonNumber Version = 17
+reasonNumber Stored = 18
 
 -- "the reason carries the sample's place for 7 and 8", and request P9 has 15 "with place 0" or "with the lowest place"; for the others 0
 -- stands there
@@ -44,6 +46,8 @@ reasonPlace Frames = 0
 reasonPlace Pieces = 0
 reasonPlace Blocks = 0
 reasonPlace (Proposal place) = place
+reasonPlace Version = 0
+reasonPlace Stored = 0
 
 -- 0 for an acceptance, and else the number of the refusal
 abbrev pub number : Answer → ℕ

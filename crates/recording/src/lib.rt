@@ -46,6 +46,10 @@ pub enum Reason {
     Blocks,
     // 15: the proposal has another length than the recording, with place 0, or breaks its rule at this place.
     Proposal(usize),
+    // 17: the version of the stored settings is not known.
+    Version,
+    // 18: the stored settings are malformed, without a version among it, or one of them is not allowed.
+    Stored,
 }
 
 // How a call ends: accepted, with the number of samples that it named or took back, or refused.

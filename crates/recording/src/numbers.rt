@@ -25,6 +25,8 @@ fn reason_number(why: Reason) -> u32
         Reason::Pieces => 13,
         Reason::Blocks => 14,
         Reason::Proposal(_) => 15,
+        Reason::Version => 17,
+        Reason::Stored => 18,
     }
 }
 
@@ -48,6 +50,8 @@ fn reason_place(why: Reason) -> usize
         Reason::Frames => 0,
         Reason::Pieces => 0,
         Reason::Blocks => 0,
+        Reason::Version => 0,
+        Reason::Stored => 0,
     }
 }
 

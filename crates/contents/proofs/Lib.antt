@@ -1,0 +1,3 @@
+-- Laws of a contents table: what its rows tell, and what follows from its rules.
+pub mod Rows
+pub mod Consequences
