@@ -152,7 +152,7 @@ loop-again c =
     let stored = c .before .before .before .write-row .ensures in (
       omega arith,
       omega arith,
-      as-long (turn .loop .bytes) _ (encoded (turn .loop .k + 1 ∷ turn .loop .at ∷ getD lens (turn .loop .k) 0 ∷ [])) (turn .loop .row) stored ∙ turn .loop .inv .2,
+      as-long (turn .loop .bytes) _ (encoded ((turn .loop .k + 1) ∷ (turn .loop .at) ∷ (getD lens (turn .loop .k) 0) ∷ [])) (turn .loop .row) stored ∙ turn .loop .inv .2,
       later-below [] [] [] lens 0 (turn .loop .k + 1) (turn .loop .at) (turn .loop .k) more (turn .loop .inv .3),
       row-more _ _ _ lens (turn .loop .row) (turn .loop .k + 1) (turn .loop .at) (turn .loop .k) more stored (turn .loop .inv .4),
     )
