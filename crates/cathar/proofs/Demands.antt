@@ -61,18 +61,18 @@ use Rattle.cathar.proofs.Alone.{gap-did, declip-did, decrackle-did, deq
 
 -- ---- A call is its rules
 
-scan-rules : (rate : ℕ) (millis : Float) (work : List Float) (s : State)
-    → automatic rate millis work s .after ≡ single.run (scanned rate millis work s) s
-scan-rules rate millis work s = go (scannable rate millis s) refl
+scan-rules : (rate : ℕ) (millis : Float) (held : ℕ) (work : List Float) (s : State)
+    → automatic rate millis held work s .after ≡ single.run (scanned rate millis held work s) s
+scan-rules rate millis held work s = go (scannable rate millis held s) refl
   where
-    go : (a : Answer) → scannable rate millis s ≡ a → automatic rate millis work s .after ≡ single.run (scanned rate millis work s) s
-    go (Done m) e = rw (e, scanned) (scan-is-its-runs rate millis work s (scannable-zero rate millis s m e))
-    go (Refused why) e = rw (e, scanned) (unfold single.run in refused-scan rate millis work s why e)
+    go : (a : Answer) → scannable rate millis held s ≡ a → automatic rate millis held work s .after ≡ single.run (scanned rate millis held work s) s
+    go (Done m) e = rw (e, scanned) (scan-is-its-runs rate millis held work s (scannable-zero rate millis held s m e))
+    go (Refused why) e = rw (e, scanned) (unfold single.run in refused-scan rate millis held work s why e)
 
 pub call-is-its-rules : CallIsItsRules
 call-is-its-rules (gap start len passes work) s = alone _ s _ (gap-did start len passes (length work) s)
 call-is-its-rules (gaps starts lens passes work lists) s = gaps-rules starts lens passes work lists s
-call-is-its-rules (scan rate millis work) s = scan-rules rate millis work s
+call-is-its-rules (scan rate millis held work) s = scan-rules rate millis held work s
 call-is-its-rules (declip threshold work) s = alone _ s _ (declip-did threshold (length work) s)
 call-is-its-rules (decrackle start sensitivity work) s = alone _ s _ (decrackle-did start sensitivity (length work) s)
 call-is-its-rules (dequantize bits strength work) s = alone _ s _ (dequantize-did bits strength (length work) s)
@@ -86,7 +86,7 @@ call-is-its-rules undo s = alone _ s _ (undo-did s)
 abbrev own : Call → State → ℕ
 own (gap start len passes work) s = number (gapRepair start len passes (length work) s .answer)
 own (gaps starts lens passes work lists) s = number (gapsRepair starts lens passes work lists s .answer)
-own (scan rate millis work) s = number (scannable rate millis s)
+own (scan rate millis held work) s = number (scannable rate millis held s)
 own (declip threshold work) s = number (declipRepair threshold (length work) s .answer)
 own (decrackle start sensitivity work) s = number (decrackleRepair start sensitivity (length work) s .answer)
 own (dequantize bits strength work) s = number (dequantizeRepair bits strength (length work) s .answer)
@@ -99,7 +99,7 @@ by-lines : (c : Call) (s : State) → own c s ≡ turnedAway c s
 unfolding turnedAway declipRepair declipPlan decrackleRepair decracklePlan dequantizeRepair dequantizePlan cosparseRepair cosparsePlan
 by-lines (gap start len passes work) s = gap-number start len passes (length work) s
 by-lines (gaps starts lens passes work lists) s = gaps-number starts lens passes work lists s
-by-lines (scan rate millis work) s = scan-number rate millis s
+by-lines (scan rate millis held work) s = scan-number rate millis held s
 by-lines (declip threshold work) s = whole-number (declips.allowed threshold) (length work) marks.cubicDeclip (declipped threshold) s
 by-lines (decrackle start sensitivity work) s =
     whole-number (decrackles.allowed sensitivity) (length work) (markFor start) (decrackled start sensitivity) s
@@ -116,34 +116,34 @@ no-runs k zero e = e
 no-runs k (suc line) e = rw (ne-eqb (suc line) 0 (λ (z : suc line ≡ 0). omega arith)) e
 
 -- a scan that is turned away gives the number of that refusal
-refused-number : (rate : ℕ) (millis : Float) (work : List Float) (s : State) (why : Reason) → scannable rate millis s ≡ Refused why
-    → automatic rate millis work s .refused ≡ reasonNumber why
+refused-number : (rate : ℕ) (millis : Float) (held : ℕ) (work : List Float) (s : State) (why : Reason) → scannable rate millis held s ≡ Refused why
+    → automatic rate millis held work s .refused ≡ reasonNumber why
 unfolding automatic
-refused-number rate millis work s why e = rw (e, automatic) refl
+refused-number rate millis held work s why e = rw (e, automatic) refl
 
-scan-given : (rate : ℕ) (millis : Float) (work : List Float) (s : State)
-    → automatic rate millis work s .refused
-    ≡ (let k = turnedAway (scan rate millis work) s in if eqb k 0 then firstRefusal (runAnswers rate millis work s) else k)
-scan-given rate millis work s = go (scannable rate millis s) refl
+scan-given : (rate : ℕ) (millis : Float) (held : ℕ) (work : List Float) (s : State)
+    → automatic rate millis held work s .refused
+    ≡ (let k = turnedAway (scan rate millis held work) s in if eqb k 0 then firstRefusal (runAnswers rate millis held work s) else k)
+scan-given rate millis held work s = go (scannable rate millis held s) refl
   where
-    line : number (scannable rate millis s) ≡ turnedAway (scan rate millis work) s
-    line = by-lines (scan rate millis work) s
+    line : number (scannable rate millis held s) ≡ turnedAway (scan rate millis held work) s
+    line = by-lines (scan rate millis held work) s
 
-    go : (a : Answer) → scannable rate millis s ≡ a
-        → automatic rate millis work s .refused
-        ≡ (let k = turnedAway (scan rate millis work) s in if eqb k 0 then firstRefusal (runAnswers rate millis work s) else k)
+    go : (a : Answer) → scannable rate millis held s ≡ a
+        → automatic rate millis held work s .refused
+        ≡ (let k = turnedAway (scan rate millis held work) s in if eqb k 0 then firstRefusal (runAnswers rate millis held work s) else k)
     go (Done m) e =
-        let none : turnedAway (scan rate millis work) s ≡ 0 = sym line ∙ ap number e in
-        rw none (scan-counts-its-runs rate millis work s (scannable-zero rate millis s m e) .2)
+        let none : turnedAway (scan rate millis held work) s ≡ 0 = sym line ∙ ap number e in
+        rw none (scan-counts-its-runs rate millis held work s (scannable-zero rate millis held s m e) .2)
     go (Refused why) e =
-        let some : turnedAway (scan rate millis work) s ≡ reasonNumber why = sym line ∙ ap number e in
-        let refused : automatic rate millis work s .refused ≡ reasonNumber why = refused-number rate millis work s why e in
+        let some : turnedAway (scan rate millis held work) s ≡ reasonNumber why = sym line ∙ ap number e in
+        let refused : automatic rate millis held work s .refused ≡ reasonNumber why = refused-number rate millis held work s why e in
         rw (some, ne-eqb (reasonNumber why) 0 (λ (z : reasonNumber why ≡ 0). omega (arith, above-zero why))) refused
 
 pub given-exactly-when : GivenExactlyWhen
 given-exactly-when (gap start len passes work) s = no-runs _ _ (by-lines (gap start len passes work) s)
 given-exactly-when (gaps starts lens passes work lists) s = no-runs _ _ (by-lines (gaps starts lens passes work lists) s)
-given-exactly-when (scan rate millis work) s = scan-given rate millis work s
+given-exactly-when (scan rate millis held work) s = scan-given rate millis held work s
 given-exactly-when (declip threshold work) s = no-runs _ _ (by-lines (declip threshold work) s)
 given-exactly-when (decrackle start sensitivity work) s = no-runs _ _ (by-lines (decrackle start sensitivity work) s)
 given-exactly-when (dequantize bits strength work) s = no-runs _ _ (by-lines (dequantize bits strength work) s)
@@ -180,9 +180,9 @@ unfolding turnedAway first applies anyOut anyUnanswered
 lines-only (gap start len passes work) s = first-among (applies (asked (gap start len passes work) s) s) (canGive (gap start len passes work))
 lines-only (gaps starts lens passes work lists) s =
     first-among (applies (asked (gaps starts lens passes work lists) s) s) (canGive (gaps starts lens passes work lists))
-lines-only (scan rate millis work) s =
+lines-only (scan rate millis held work) s =
     among-more _ (1 ∷ 14 ∷ 2 ∷ 3 ∷ 4 ∷ []) (6 ∷ 7 ∷ 8 ∷ 9 ∷ [])
-    (first-among (applies (asked (scan rate millis work) s) s) (1 ∷ 14 ∷ 2 ∷ 3 ∷ 4 ∷ []))
+    (first-among (applies (asked (scan rate millis held work) s) s) (1 ∷ 14 ∷ 2 ∷ 3 ∷ 4 ∷ []))
 lines-only (declip threshold work) s = first-among (applies (asked (declip threshold work) s) s) (canGive (declip threshold work))
 lines-only (decrackle start sensitivity work) s =
     first-among (applies (asked (decrackle start sensitivity work) s) s) (canGive (decrackle start sensitivity work))
@@ -199,31 +199,31 @@ runs-only [] each = inl refl
 runs-only (Done m ∷ later) each = runs-only later (each .1)
 runs-only (Refused why ∷ later) each = each .0
 
-scan-only : (rate : ℕ) (millis : Float) (work : List Float) (s : State)
-    → (automatic rate millis work s .refused ≡ 0) ⊎ Among (automatic rate millis work s .refused) (canGive (scan rate millis work))
-scan-only rate millis work s = go (scannable rate millis s) refl (lines-only (scan rate millis work) s)
+scan-only : (rate : ℕ) (millis : Float) (held : ℕ) (work : List Float) (s : State)
+    → (automatic rate millis held work s .refused ≡ 0) ⊎ Among (automatic rate millis held work s .refused) (canGive (scan rate millis held work))
+scan-only rate millis held work s = go (scannable rate millis held s) refl (lines-only (scan rate millis held work) s)
   where
     refused : ℕ
-    refused = automatic rate millis work s .refused
+    refused = automatic rate millis held work s .refused
 
-    line : number (scannable rate millis s) ≡ turnedAway (scan rate millis work) s
-    line = by-lines (scan rate millis work) s
+    line : number (scannable rate millis held s) ≡ turnedAway (scan rate millis held work) s
+    line = by-lines (scan rate millis held work) s
 
     Within : ℕ → Type 0
-    Within k = (k ≡ 0) ⊎ Among k (canGive (scan rate millis work))
+    Within k = (k ≡ 0) ⊎ Among k (canGive (scan rate millis held work))
 
-    go : (a : Answer) → scannable rate millis s ≡ a → Within (turnedAway (scan rate millis work) s) → Within refused
+    go : (a : Answer) → scannable rate millis held s ≡ a → Within (turnedAway (scan rate millis held work) s) → Within refused
     go (Done m) e lines =
-        let zero-done = scannable-zero rate millis s m e in
-        let counted : refused ≡ firstRefusal (runAnswers rate millis work s) = scan-counts-its-runs rate millis work s zero-done .2 in
+        let zero-done = scannable-zero rate millis held s m e in
+        let counted : refused ≡ firstRefusal (runAnswers rate millis held work s) = scan-counts-its-runs rate millis held work s zero-done .2 in
         rw counted
-        (elim (runs-only (runAnswers rate millis work s) (own-answers rate millis work s zero-done)) [
+        (elim (runs-only (runAnswers rate millis held work s) (own-answers rate millis held work s zero-done)) [
           | inl none ↦ inl none
           | inr some ↦ inr (inr (inr (inr (inr (inr (six-to-nine _ (some .0) (some .1)))))))
         ])
     go (Refused why) e lines =
-        let told : refused ≡ turnedAway (scan rate millis work) s =
-        refused-number rate millis work s why e ∙ sym (ap number e) ∙ line
+        let told : refused ≡ turnedAway (scan rate millis held work) s =
+        refused-number rate millis held work s why e ∙ sym (ap number e) ∙ line
         in
         rw told lines
 
@@ -231,7 +231,7 @@ pub only-these : OnlyThese
 only-these (gap start len passes work) s = rw (by-lines (gap start len passes work) s) (lines-only (gap start len passes work) s)
 only-these (gaps starts lens passes work lists) s =
     rw (by-lines (gaps starts lens passes work lists) s) (lines-only (gaps starts lens passes work lists) s)
-only-these (scan rate millis work) s = scan-only rate millis work s
+only-these (scan rate millis held work) s = scan-only rate millis held work s
 only-these (declip threshold work) s = rw (by-lines (declip threshold work) s) (lines-only (declip threshold work) s)
 only-these (decrackle start sensitivity work) s = rw (by-lines (decrackle start sensitivity work) s) (lines-only (decrackle start sensitivity work) s)
 only-these (dequantize bits strength work) s = rw (by-lines (dequantize bits strength work) s) (lines-only (dequantize bits strength work) s)
@@ -250,13 +250,13 @@ refusal-changes-nothing (gap start len passes work) s h =
     alone-keeps _ s _ (gap-did start len passes (length work) s) (rw (by-lines (gap start len passes work) s) h)
 refusal-changes-nothing (gaps starts lens passes work lists) s h =
     gaps-keep starts lens passes work lists s (rw (by-lines (gaps starts lens passes work lists) s) h)
-refusal-changes-nothing (scan rate millis work) s h = go (scannable rate millis s) refl
+refusal-changes-nothing (scan rate millis held work) s h = go (scannable rate millis held s) refl
   where
-    go : (a : Answer) → scannable rate millis s ≡ a → automatic rate millis work s .after ≡ s
+    go : (a : Answer) → scannable rate millis held s ≡ a → automatic rate millis held work s .after ≡ s
     go (Done m) e =
-        let none : turnedAway (scan rate millis work) s ≡ 0 = sym (by-lines (scan rate millis work) s) ∙ ap number e in
+        let none : turnedAway (scan rate millis held work) s ≡ 0 = sym (by-lines (scan rate millis held work) s) ∙ ap number e in
         absurd (omega (arith, h, none))
-    go (Refused why) e = refused-scan rate millis work s why e
+    go (Refused why) e = refused-scan rate millis held work s why e
 refusal-changes-nothing (declip threshold work) s h =
     alone-keeps _ s _ (declip-did threshold (length work) s) (rw (by-lines (declip threshold work) s) h)
 refusal-changes-nothing (decrackle start sensitivity work) s h =
@@ -297,7 +297,7 @@ pub rules-are-lawful : RulesAreLawful
 rules-are-lawful (gap start len passes work) s = (gap-lawful start len passes (length work), tt)
 rules-are-lawful (gaps starts lens passes work lists) s =
     picks single.Lawful (listsWrong starts lens lists) _ _ tt (list-lawful passes (length work) (spans starts lens))
-rules-are-lawful (scan rate millis work) s = scanned-lawful (length work) (runsOf (s .samples) (limit millis rate)) (scannable rate millis s)
+rules-are-lawful (scan rate millis held work) s = scanned-lawful (length work) (runsOf (s .samples) (limit millis rate) held) (scannable rate millis held s)
 rules-are-lawful (declip threshold work) s = (declip-lawful threshold (length work), tt)
 rules-are-lawful (decrackle start sensitivity work) s = (decrackle-lawful start sensitivity (length work), tt)
 rules-are-lawful (dequantize bits strength work) s = (dequantize-lawful bits strength (length work), tt)
@@ -324,20 +324,20 @@ told-by e w rule r s h k =
     rule-of : Kind → single.Repair
     rule-of (repairs q) = q
     rule-of undoes = r
-    rule-of (scans rate millis work) = r
+    rule-of (scans rate millis held work) = r
     rule-of (eachOf calls) = r
 
 -- a scan, several gaps and an undo do not count as one
 abbrev is-repair : Kind → Bool
 is-repair (repairs q) = true
 is-repair undoes = false
-is-repair (scans rate millis work) = false
+is-repair (scans rate millis held work) = false
 is-repair (eachOf calls) = false
 
 one-repair : (c : Call) (s : State) (r : single.Repair) → kind c ≡ repairs r → Told (ran c s) (single.did (single.repair r) s)
 one-repair (gap start len passes work) s r h = told-by _ _ _ r s (gap-did start len passes (length work) s) h
 one-repair (gaps starts lens passes work lists) s r h = absurd (false≢true (ap is-repair h))
-one-repair (scan rate millis work) s r h = absurd (false≢true (ap is-repair h))
+one-repair (scan rate millis held work) s r h = absurd (false≢true (ap is-repair h))
 one-repair (declip threshold work) s r h = told-by _ _ _ r s (declip-did threshold (length work) s) h
 one-repair (decrackle start sensitivity work) s r h = told-by _ _ _ r s (decrackle-did start sensitivity (length work) s) h
 one-repair (dequantize bits strength work) s r h = told-by _ _ _ r s (dequantize-did bits strength (length work) s) h

@@ -311,29 +311,33 @@ undo-number s =
     go (inr a) (inl b) = rw (a, b) refl
     go (inr a) (inr b) = rw (a, b) refl
 
--- lines 1, 14 and 2 to 4 of a scan
-pub scan-number : (rate : ℕ) (millis : Float) (s : State)
-    → number (auto.scannable rate millis s) ≡ sized s (if not (auto.allowed rate millis) then 4 else 0)
+-- lines 1, 14 and 2 to 4 of a scan, of which these are the settings
+abbrev scanAllowed : ℕ → Float → ℕ → Bool
+scanAllowed rate millis held = auto.allowed rate millis && auto.heldAllowed held
+
+pub scan-number : (rate : ℕ) (millis : Float) (held : ℕ) (s : State)
+    → number (auto.scannable rate millis held s) ≡ sized s (if not (scanAllowed rate millis held) then 4 else 0)
 unfolding auto.scannable
-scan-number rate millis s =
-    fitting-by (λ (a : Answer). number (orElse a rest) ≡ sized s (if not (auto.allowed rate millis) then 4 else 0)) s (λ one. rw one refl)
+scan-number rate millis held s =
+    fitting-by (λ (a : Answer). number (orElse a rest) ≡ sized s (if not (scanAllowed rate millis held) then 4 else 0)) s (λ one. rw one refl)
     (λ one fourteen. rw (one, fourteen) refl) (λ one fourteen two. rw (one, fourteen, two) refl)
     (λ one fourteen two three. rw (one, fourteen, two, three) refl)
-    (λ one fourteen two three. rw (one, fourteen, two, three) (settings (truth (auto.allowed rate millis))))
+    (λ one fourteen two three. rw (one, fourteen, two, three) (settings (truth (scanAllowed rate millis held))))
   where
     rest : Answer
-    rest = if auto.allowed rate millis then Done 0 else Refused Setting
+    rest = if scanAllowed rate millis held then Done 0 else Refused Setting
 
-    settings : EitherWay (auto.allowed rate millis) → number rest ≡ (if not (auto.allowed rate millis) then 4 else 0)
+    settings : EitherWay (scanAllowed rate millis held) → number rest ≡ (if not (scanAllowed rate millis held) then 4 else 0)
     settings (inl a) = rw a refl
     settings (inr a) = rw a refl
 
 -- the tests before a scan answer 0 where they accept it
-pub scannable-zero : (rate : ℕ) (millis : Float) (s : State) (m : ℕ) → auto.scannable rate millis s ≡ Done m → auto.scannable rate millis s ≡ Done 0
+pub scannable-zero : (rate : ℕ) (millis : Float) (held : ℕ) (s : State) (m : ℕ) → auto.scannable rate millis held s ≡ Done m
+    → auto.scannable rate millis held s ≡ Done 0
 unfolding auto.scannable
-scannable-zero rate millis s m h = go (fitting s) refl (truth (auto.allowed rate millis))
+scannable-zero rate millis held s m h = go (fitting s) refl (truth (scanAllowed rate millis held))
   where
-    go : (a : Answer) → fitting s ≡ a → EitherWay (auto.allowed rate millis) → auto.scannable rate millis s ≡ Done 0
+    go : (a : Answer) → fitting s ≡ a → EitherWay (scanAllowed rate millis held) → auto.scannable rate millis held s ≡ Done 0
     go (Done k) e (inl y) = rw (e, y, auto.scannable)
     go (Done k) e (inr y) = let no-done : Refused Setting ≡ Done m = rw (e, y, auto.scannable) at h in cc
     go (Refused why) e y = let no-done : Refused why ≡ Done m = rw (e, auto.scannable) at h in cc

@@ -27,7 +27,7 @@ use Rattle.frames.specs.Frames.{Delivered}
 pub data Call : Type 0 where
   gap : (start len passes : ℕ) → List Float → Call
   gaps : (starts lens : List ℕ) (passes : ℕ) → List Float → AnswerLists → Call
-  scan : (rate : ℕ) (millis : Float) → List Float → Call
+  scan : (rate : ℕ) (millis : Float) (held : ℕ) → List Float → Call
   declip : (threshold : Float) → List ℕ → Call
   decrackle : (start : Start) (sensitivity : Float) → List ℕ → Call
   dequantize : (bits : ℕ) (strength : Float) → List ℕ → Call
@@ -67,8 +67,8 @@ ran (gap start len passes work) s =
 ran (gaps starts lens passes work lists) s =
     let c = gapsRepair starts lens passes work lists s in
     outcome (number (c .answer)) [] (c .after) (doubles (c .work))
-ran (scan rate millis work) s =
-    let c = automatic rate millis work s in
+ran (scan rate millis held work) s =
+    let c = automatic rate millis held work s in
     outcome (c .refused) (c .qualified ∷ c .repaired ∷ []) (c .after) (doubles (c .work))
 ran (declip threshold work) s = redrawn s work (declipRepair threshold (length work) s)
 ran (decrackle start sensitivity work) s = redrawn s work (decrackleRepair start sensitivity (length work) s)

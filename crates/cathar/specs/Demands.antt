@@ -36,7 +36,7 @@ use Rattle.cathar.specs.Refusals.{turnedAway, openingTurnedAway, canGive
 pub data Kind : Type 0 where
   repairs : single.Repair → Kind
   undoes : Kind
-  scans : (rate : ℕ) (millis : Float) → List Float → Kind
+  scans : (rate : ℕ) (millis : Float) (held : ℕ) → List Float → Kind
   eachOf : List single.Call → Kind
 
 -- request P6: "Demand 3 reads the list as its single repairs", which are none where 4 turns it away
@@ -47,7 +47,7 @@ spanRepairs starts lens passes work lists =
 abbrev pub kind : Call → Kind
 kind (gap start len passes work) = repairs (gapPlan start len passes (length work))
 kind (gaps starts lens passes work lists) = eachOf (spanRepairs starts lens passes work lists)
-kind (scan rate millis work) = scans rate millis work
+kind (scan rate millis held work) = scans rate millis held work
 kind (declip threshold work) = repairs (declipPlan threshold (length work))
 kind (decrackle start sensitivity work) = repairs (decracklePlan start sensitivity (length work))
 kind (dequantize bits strength work) = repairs (dequantizePlan bits strength (length work))
@@ -66,7 +66,7 @@ kind undo = undoes
 abbrev pub firstOfRuns : Kind → State → ℕ
 firstOfRuns (repairs r) s = 0
 firstOfRuns undoes s = 0
-firstOfRuns (scans rate millis work) s = firstRefusal (runAnswers rate millis work s)
+firstOfRuns (scans rate millis held work) s = firstRefusal (runAnswers rate millis held work s)
 firstOfRuns (eachOf cs) s = 0
 
 abbrev pub GivenExactlyWhen : Type 0
@@ -96,14 +96,14 @@ RefusedOpeningChangesNothing = (o : Opening) (s : State) → 0 < openingTurnedAw
 
 -- the rules of a call: the single repairs and undos that it counts as. An automatic scan counts as none where a line of the table turns
 -- it away.
-abbrev pub scanned : ℕ → Float → List Float → State → List single.Call
-scanned rate millis work s =
-    elim (scannable rate millis s) [ Done m ↦ scanCalls rate millis work s | Refused why ↦ [] ]
+abbrev pub scanned : ℕ → Float → ℕ → List Float → State → List single.Call
+scanned rate millis held work s =
+    elim (scannable rate millis held s) [ Done m ↦ scanCalls rate millis held work s | Refused why ↦ [] ]
 
 abbrev pub counted : Kind → State → List single.Call
 counted (repairs r) s = single.repair r ∷ []
 counted undoes s = single.undo ∷ []
-counted (scans rate millis work) s = scanned rate millis work s
+counted (scans rate millis held work) s = scanned rate millis held work s
 counted (eachOf cs) s = cs
 
 abbrev pub rules : Call → State → List single.Call

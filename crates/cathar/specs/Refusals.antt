@@ -89,7 +89,7 @@ asked (gap start len passes work) s =
       undoes = false;
     }
 asked (gaps starts lens passes work answers) s = plain (not (lists.listsWrong starts lens answers)) false
-asked (scan rate millis work) s = plain (auto.allowed rate millis) false
+asked (scan rate millis held work) s = plain (auto.allowed rate millis && auto.heldAllowed held) false
 asked (declip threshold work) s = redrawing (declips.allowed threshold) work (declips.declipped threshold (s .samples)) s
 asked (decrackle start sensitivity work) s =
     redrawing (decrackles.allowed sensitivity) work (decrackles.decrackled start sensitivity (s .samples)) s
@@ -127,7 +127,8 @@ line2 s = tooMany s
 abbrev pub line3 : State → Bool
 line3 s = overUsed s
 
--- 4: "a setting is not allowed (see each part)"
+-- 4: "a setting is not allowed (see each part)"; of a scan the rate and the longest gap, and the held run's length, "2 to 4,096" (request
+-- P11 of document 02)
 abbrev pub line4 : Asked → Bool
 line4 a = not (a .allowed)
 
@@ -209,7 +210,7 @@ tested = 1 ∷ 14 ∷ 2 ∷ 3 ∷ 4 ∷ 5 ∷ 6 ∷ 7 ∷ 8 ∷ 9 ∷ 10 ∷ 11 
 abbrev pub tests : Call → List ℕ
 tests (gap start len passes work) = tested
 tests (gaps starts lens passes work answers) = 4 ∷ []
-tests (scan rate millis work) = tested
+tests (scan rate millis held work) = tested
 tests (declip threshold work) = tested
 tests (decrackle start sensitivity work) = tested
 tests (dequantize bits strength work) = tested
@@ -237,7 +238,7 @@ openingTurnedAway s = first (applies (plain true false) s) testedByOpening
 abbrev pub canGive : Call → List ℕ
 canGive (gap start len passes work) = 1 ∷ 14 ∷ 2 ∷ 3 ∷ 5 ∷ 6 ∷ 7 ∷ 8 ∷ 9 ∷ []
 canGive (gaps starts lens passes work answers) = 4 ∷ []
-canGive (scan rate millis work) = 1 ∷ 14 ∷ 2 ∷ 3 ∷ 4 ∷ 6 ∷ 7 ∷ 8 ∷ 9 ∷ []
+canGive (scan rate millis held work) = 1 ∷ 14 ∷ 2 ∷ 3 ∷ 4 ∷ 6 ∷ 7 ∷ 8 ∷ 9 ∷ []
 canGive (declip threshold work) = 1 ∷ 14 ∷ 2 ∷ 3 ∷ 4 ∷ 6 ∷ 7 ∷ 8 ∷ 9 ∷ []
 canGive (decrackle start sensitivity work) = 1 ∷ 14 ∷ 2 ∷ 3 ∷ 4 ∷ 6 ∷ 7 ∷ 8 ∷ 9 ∷ []
 canGive (dequantize bits strength work) = 1 ∷ 14 ∷ 2 ∷ 3 ∷ 4 ∷ 6 ∷ 7 ∷ 8 ∷ 9 ∷ []

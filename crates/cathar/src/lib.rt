@@ -161,10 +161,11 @@ pub extern "C" fn cathar_inpaint_gaps(
     number_of(answer)
 }
 
-// Finds the dropout runs of at most `millis` milliseconds and repairs each as one gap. The number of the
-// first refusal, or 0; qualified and repaired become the numbers of such runs, and 0 where the scan
-// itself is refused, with 1 to 4 or 14. At each place of `orders` where a sample was repaired by the model
-// the order of that model comes to stand, and every other place stays.
+// Finds the dropout runs of at most `millis` milliseconds and repairs each as one gap; equal words are such a
+// run from `held` of them on, which is 2 to 4,096. The number of the first refusal, or 0; qualified and repaired
+// become the numbers of such runs, and 0 where the scan itself is refused, with 1 to 4 or 14. At each place of
+// `orders` where a sample was repaired by the model the order of that model comes to stand, and every other
+// place stays.
 #[no_mangle]
 pub extern "C" fn cathar_inpaint_auto(
     samples: &mut [u32],
@@ -174,14 +175,15 @@ pub extern "C" fn cathar_inpaint_auto(
     used: &mut usize,
     rate: u32,
     millis: f32,
+    held: u32,
     work: &mut [f64],
     orders: &mut [u32],
     qualified: &mut usize,
     repaired: &mut usize,
 ) -> u32
     ensures { λ r. ⌜ (outcome r (now (qualified .exit) ∷ now (repaired .exit) ∷ []) (left samples marks counts journal used) (doubles (now (work .exit)))
-        ≡ ran (scan rate millis (now (work .entry))) (lent samples marks counts journal used))
-        × (now (orders .exit) ≡ scanOrders rate millis (now (work .entry)) (lent samples marks counts journal used) (now (orders .entry))) ⌝ }
+        ≡ ran (scan rate millis held (now (work .entry))) (lent samples marks counts journal used))
+        × (now (orders .exit) ≡ scanOrders rate millis held (now (work .entry)) (lent samples marks counts journal used) (now (orders .entry))) ⌝ }
 {
     let scanned = inpaint::auto::inpaint_auto(
         samples,
@@ -191,6 +193,7 @@ pub extern "C" fn cathar_inpaint_auto(
         used,
         rate,
         millis,
+        held,
         work,
         orders,
     );

@@ -13,7 +13,7 @@ use lib.ListN.{length, getD}
 use Rattle.leaves.proofs.Choice.{truth, EitherWay, both-hold}
 use Rattle.recording.specs.Consequences.{Among}
 use Rattle.recording.proofs.Runs.{run-met, run-behind, run-exact}
-use Rattle.inpaint.specs.Auto.{zeroOrNan, holdable, continues, continuesAt, runBegins, runAt, heldRun, longEnough, kept}
+use Rattle.inpaint.specs.Auto.{zeroOrNan, holdable, continues, continuesAt, runBegins, runAt, longEnough, kept}
 use Rattle.inpaint.specs.Auto.{gapAt, gapLength, gapAllowed, qualifies, starts}
 use Rattle.inpaint.specs.Runs.{Stretch, stretch, runsAmong, runsOf}
 use Rattle.inpaint.specs.Dropouts.{Lost, Held, Dropout, RunsInWords}
@@ -74,8 +74,8 @@ module _ (samples : List ℕ) where
 
 -- ---- What stands on either side of it
 
-module _ {samples : List ℕ} {most from i start len : ℕ} (f : Found samples most from i start len) where
-  g : Fit samples most (f .at) start len
+module _ {samples : List ℕ} {most held from i start len : ℕ} (f : Found samples most held from i start len) where
+  g : Fit samples most held (f .at) start len
   g = fits f
 
   -- the sample behind a run does not continue it
@@ -94,24 +94,24 @@ module _ {samples : List ℕ} {most from i start len : ℕ} (f : Found samples m
 
 -- ---- A run of the scan, in words
 
-module _ (samples : List ℕ) (most i : ℕ) (here : starts samples most 0 i ≡ true) where
+module _ (samples : List ℕ) (most held i : ℕ) (two : 2 ≤ held) (here : starts samples most held 0 i ≡ true) where
   abbrev start : ℕ
   start = gapAt samples i
 
   abbrev len : ℕ
   len = gapLength samples i
 
-  f : Found samples most 0 i start len
-  f = found-there samples most 0 i here
+  f : Found samples most held 0 i start len
+  f = found-there samples most held 0 i here
 
-  fit : Fit samples most i start len
+  fit : Fit samples most held i start len
   unfolding f found-there
   fit = fits f
 
   -- it does not continue what stands before it
   anew : 0 < i → continuesAt samples i ≡ false
   anew later =
-      let begins = both-hold (runBegins samples 0 i) (qualifies (length samples) most (getD samples i 0) i (runAt samples i)) here .0 in
+      let begins = both-hold (runBegins samples 0 i) (qualifies (length samples) most held (getD samples i 0) i (runAt samples i)) here .0 in
       elim (truth (continuesAt samples i)) [
         | inl on ↦ both begins (rw (ne-eqb i 0 (λ e. absurd (omega arith)), on) refl)
         | inr off ↦ off
@@ -132,20 +132,20 @@ module _ (samples : List ℕ) (most i : ℕ) (here : starts samples most 0 i ≡
         least = omega (arith, z .two, whole);
       }
 
-  of-held : OfHeld (getD samples i 0) (runAt samples i) → Held samples start len
+  of-held : OfHeld held (getD samples i 0) (runAt samples i) → Held samples held start len
   of-held k =
       record {
-        word = ap holdable gap-word ∙ k .held;
+        word = ap holdable gap-word ∙ k .word;
         equal =
             λ j below. ap (λ (m : ℕ). getD samples (m + j) 0) back
-            ∙ equal-words samples i j (k .held) (omega (arith, whole))
+            ∙ equal-words samples i j (k .word) (omega (arith, whole))
             ∙ sym gap-word;
         before =
-            λ later same. both (same-goes-on _ _ (k .held) (ap (λ (m : ℕ). getD samples m 0) two-back ∙ same ∙ gap-word))
+            λ later same. both (same-goes-on _ _ (k .word) (ap (λ (m : ℕ). getD samples m 0) two-back ∙ same ∙ gap-word))
             (anew (omega (arith, first)));
         behind =
-            λ same. both (same-goes-on _ _ (ap holdable (same ∙ gap-word) ∙ k .held) (last ∙ sym (same ∙ gap-word))) (found-behind f);
-        least = omega (arith, k .sixteen, whole);
+            λ same. both (same-goes-on _ _ (ap holdable (same ∙ gap-word) ∙ k .word) (last ∙ sym (same ∙ gap-word))) (found-behind f);
+        least = omega (arith, k .enough, whole);
       }
     where
       first : start ≡ i + 1
@@ -162,14 +162,14 @@ module _ (samples : List ℕ) (most i : ℕ) (here : starts samples most 0 i ≡
 
       -- the gap's first word, and its last, are that of the run
       gap-word : getD samples start 0 ≡ getD samples i 0
-      gap-word = ap (λ (m : ℕ). getD samples m 0) first ∙ equal-words samples i 1 (k .held) (omega (arith, k .sixteen))
+      gap-word = ap (λ (m : ℕ). getD samples m 0) first ∙ equal-words samples i 1 (k .word) (omega (arith, k .enough))
 
       last : getD samples (start + len - 1) 0 ≡ getD samples i 0
       last =
           let there : start + len - 1 ≡ i + len = omega (arith, first) in
-          ap (λ (m : ℕ). getD samples m 0) there ∙ equal-words samples i len (k .held) (omega (arith, whole))
+          ap (λ (m : ℕ). getD samples m 0) there ∙ equal-words samples i len (k .word) (omega (arith, whole))
 
-  in-words : Dropout samples most start len
+  in-words : Dropout samples most held start len
   in-words =
       record {
         short = fit .short;
@@ -181,11 +181,11 @@ module _ (samples : List ℕ) (most i : ℕ) (here : starts samples most 0 i ≡
 -- ---- Words that describe a run of the scan
 
 -- where a run begins and is long enough, and its gap is allowed, there it starts
-starts-there : (samples : List ℕ) (most i : ℕ) → runBegins samples 0 i ≡ true
-    → longEnough (getD samples i 0) (runAt samples i) ≡ true
+starts-there : (samples : List ℕ) (most held i : ℕ) → runBegins samples 0 i ≡ true
+    → longEnough held (getD samples i 0) (runAt samples i) ≡ true
     → gapLength samples i ≤ most → 0 < gapAt samples i → gapAt samples i + gapLength samples i < length samples
-    → starts samples most 0 i ≡ true
-starts-there samples most i begins long short later inside =
+    → starts samples most held 0 i ≡ true
+starts-there samples most held i begins long short later inside =
     let w = getD samples i 0 in
     let allowed : gapAllowed (length samples) most (gapAt samples i) (gapLength samples i) ≡ true =
     rw (
@@ -194,7 +194,7 @@ starts-there samples most i begins long short later inside =
       lt-ltb (gapAt samples i + gapLength samples i) (length samples) inside,
     ) refl
     in
-    let yes = sym (qualifies-gap (length samples) most w i (runAt samples i) long (kept w) refl) ∙ allowed in
+    let yes = sym (qualifies-gap (length samples) most held w i (runAt samples i) long (kept w) refl) ∙ allowed in
     rw (begins, yes) refl
 
 module _ (samples : List ℕ) (i : ℕ) where
@@ -213,20 +213,21 @@ module _ (samples : List ℕ) (i : ℕ) where
       ap (λ (m : ℕ). m + 1) (run-exact (continuesAt samples) (i + 1) (length samples - (i + 1)) len (omega arith) all stop)
 
 -- the run of a gap: from where on it begins, of which it is the gap
-record Run-of (samples : List ℕ) (most start len : ℕ) : Type 0 where
+record Run-of (samples : List ℕ) (most held start len : ℕ) : Type 0 where
   begin : ℕ
   inside : begin < length samples
-  here : starts samples most 0 begin ≡ true
+  here : starts samples most held 0 begin ≡ true
   start-is : gapAt samples begin ≡ start
   len-is : gapLength samples begin ≡ len
 
-of-lost : (samples : List ℕ) (most start len : ℕ) → Dropout samples most start len → Lost samples start len → Run-of samples most start len
-of-lost samples most start len d z =
+of-lost : (samples : List ℕ) (most held start len : ℕ) → Dropout samples most held start len → Lost samples start len
+    → Run-of samples most held start len
+of-lost samples most held start len d z =
     record {
       begin = start;
       inside = omega (arith, d .inside);
       here =
-          starts-there samples most start begins long (omega (arith, len-is, d .short)) (omega (arith, none, d .later))
+          starts-there samples most held start begins long (omega (arith, len-is, d .short)) (omega (arith, none, d .later))
           (omega (arith, none, len-is, d .inside));
       start-is = omega (arith, none);
       len-is = len-is;
@@ -264,16 +265,19 @@ of-lost samples most start len d z =
     len-is : gapLength samples start ≡ len
     len-is = omega (arith, run, none)
 
-    long : longEnough (getD samples start 0) (runAt samples start) ≡ true
-    long = sym (enough-zeros (getD samples start 0) (runAt samples start) first) ∙ le-leb 2 (runAt samples start) (omega (arith, run, z .least))
+    long : longEnough held (getD samples start 0) (runAt samples start) ≡ true
+    long =
+        sym (enough-zeros held (getD samples start 0) (runAt samples start) first)
+        ∙ le-leb 2 (runAt samples start) (omega (arith, run, z .least))
 
-of-equal : (samples : List ℕ) (most start len : ℕ) → Dropout samples most start len → Held samples start len → Run-of samples most start len
-of-equal samples most start len d h =
+of-equal : (samples : List ℕ) (most held start len : ℕ) → Dropout samples most held start len → Held samples held start len
+    → Run-of samples most held start len
+of-equal samples most held start len d h =
     record {
       begin = begin;
       inside = omega (arith, d .inside);
       here =
-          starts-there samples most begin begins long (omega (arith, len-is, d .short)) (omega (arith, one))
+          starts-there samples most held begin begins long (omega (arith, len-is, d .short)) (omega (arith, one))
           (omega (arith, start-is, len-is, d .inside));
       start-is = start-is;
       len-is = len-is;
@@ -288,11 +292,11 @@ of-equal samples most start len d h =
     word : getD samples begin 0 ≡ w
     word = ap (λ (j : ℕ). getD samples j 0) (omega arith) ∙ h .equal 0 (omega arith)
 
-    held : holdable (getD samples begin 0) ≡ true
-    held = ap holdable word ∙ h .word
+    holds : holdable (getD samples begin 0) ≡ true
+    holds = ap holdable word ∙ h .word
 
     one : kept (getD samples begin 0) ≡ 1
-    one = kept-held (getD samples begin 0) held
+    one = kept-held (getD samples begin 0) holds
 
     start-is : gapAt samples begin ≡ start
     start-is = omega (arith, one, d .later)
@@ -304,7 +308,7 @@ of-equal samples most start len d h =
         elim (truth (continuesAt samples begin)) [
           | inl on ↦
               let two-back : start - 2 ≡ begin - 1 = omega arith in
-              let same = ap (λ (j : ℕ). getD samples j 0) two-back ∙ same-before _ _ held on ∙ word in
+              let same = ap (λ (j : ℕ). getD samples j 0) two-back ∙ same-before _ _ holds on ∙ word in
               absurd (h .before (omega arith) same)
           | inr off ↦ off
         ])
@@ -336,27 +340,27 @@ of-equal samples most start len d h =
     len-is : gapLength samples begin ≡ len
     len-is = omega (arith, run, one)
 
-    long : longEnough (getD samples begin 0) (runAt samples begin) ≡ true
+    long : longEnough held (getD samples begin 0) (runAt samples begin) ≡ true
     long =
-        sym (enough-held (getD samples begin 0) (runAt samples begin) (held-not-zero (getD samples begin 0) held) held)
-        ∙ le-leb heldRun (runAt samples begin) (omega (arith, run, h .least))
+        sym (enough-held held (getD samples begin 0) (runAt samples begin) (held-not-zero (getD samples begin 0) holds) holds)
+        ∙ le-leb held (runAt samples begin) (omega (arith, run, h .least))
 
 -- ---- The runs of a scan
 
 -- each of them starts somewhere
-record Starting (samples : List ℕ) (most i n : ℕ) (r : Stretch) : Type 0 where
+record Starting (samples : List ℕ) (most held i n : ℕ) (r : Stretch) : Type 0 where
   begin : ℕ
-  here : starts samples most 0 begin ≡ true
+  here : starts samples most held 0 begin ≡ true
   is : r ≡ stretch (gapAt samples begin) (gapLength samples begin)
 
-starting : (samples : List ℕ) (most i n : ℕ) (r : Stretch) → Among r (runsAmong samples most 0 i n) → Starting samples most i n r
+starting : (samples : List ℕ) (most held i n : ℕ) (r : Stretch) → Among r (runsAmong samples most held 0 i n) → Starting samples most held i n r
 unfolding runsAmong
-starting samples most i zero r none = absurd none
-starting samples most i (suc n) r a = go (truth (starts samples most 0 i)) (starting samples most (i + 1) n r) a
+starting samples most held i zero r none = absurd none
+starting samples most held i (suc n) r a = go (truth (starts samples most held 0 i)) (starting samples most held (i + 1) n r) a
   where
-    go : EitherWay (starts samples most 0 i)
-        → (Among r (runsAmong samples most 0 (i + 1) n) → Starting samples most (i + 1) n r)
-        → Among r (runsAmong samples most 0 i (suc n)) → Starting samples most i (suc n) r
+    go : EitherWay (starts samples most held 0 i)
+        → (Among r (runsAmong samples most held 0 (i + 1) n) → Starting samples most held (i + 1) n r)
+        → Among r (runsAmong samples most held 0 i (suc n)) → Starting samples most held i (suc n) r
     go (inl t) later a =
         elim (rw t at a) [
           | inl e ↦ record { begin = i; here = t; is = e }
@@ -365,47 +369,48 @@ starting samples most i (suc n) r a = go (truth (starts samples most 0 i)) (star
     go (inr t) later a = let s = later (rw t at a) in record { begin = s .begin; here = s .here; is = s .is }
 
 -- and what starts is one of them
-among-runs : (samples : List ℕ) (most i n j : ℕ) → i ≤ j → j < i + n → starts samples most 0 j ≡ true
-    → Among (stretch (gapAt samples j) (gapLength samples j)) (runsAmong samples most 0 i n)
+among-runs : (samples : List ℕ) (most held i n j : ℕ) → i ≤ j → j < i + n → starts samples most held 0 j ≡ true
+    → Among (stretch (gapAt samples j) (gapLength samples j)) (runsAmong samples most held 0 i n)
 unfolding runsAmong
-among-runs samples most i zero j a b t = absurd (omega arith)
-among-runs samples most i (suc n) j a b t =
+among-runs samples most held i zero j a b t = absurd (omega arith)
+among-runs samples most held i (suc n) j a b t =
     elim (ℕ-discrete j i) [
       | yes e ↦ first e
-      | no f ↦ behind (truth (starts samples most 0 i)) (among-runs samples most (i + 1) n j (omega arith) (omega arith) t)
+      | no f ↦ behind (truth (starts samples most held 0 i)) (among-runs samples most held (i + 1) n j (omega arith) (omega arith) t)
     ]
   where
     there : Stretch
     there = stretch (gapAt samples j) (gapLength samples j)
 
-    first : j ≡ i → Among there (runsAmong samples most 0 i (suc n))
+    first : j ≡ i → Among there (runsAmong samples most held 0 i (suc n))
     first e =
-        let here : starts samples most 0 i ≡ true = ap (starts samples most 0) (sym e) ∙ t in
+        let here : starts samples most held 0 i ≡ true = ap (starts samples most held 0) (sym e) ∙ t in
         rw here (inl (ap (λ (m : ℕ). stretch (gapAt samples m) (gapLength samples m)) e))
 
-    behind : EitherWay (starts samples most 0 i) → Among there (runsAmong samples most 0 (i + 1) n) → Among there (runsAmong samples most 0 i (suc n))
+    behind : EitherWay (starts samples most held 0 i) → Among there (runsAmong samples most held 0 (i + 1) n)
+        → Among there (runsAmong samples most held 0 i (suc n))
     behind (inl h) m = rw h (inr m)
     behind (inr h) m = rw h m
 
 pub runs-in-words : RunsInWords
-runs-in-words samples most r = (there, back)
+runs-in-words samples most held r two = (there, back)
   where
-    there : Among r (runsOf samples most) → Dropout samples most (r .start) (r .len)
+    there : Among r (runsOf samples most held) → Dropout samples most held (r .start) (r .len)
     there a =
-        let s = starting samples most 0 (length samples) r a in
-        subst (λ (t : Stretch). Dropout samples most (t .start) (t .len)) (sym (s .is)) (in-words samples most (s .begin) (s .here))
+        let s = starting samples most held 0 (length samples) r a in
+        subst (λ (t : Stretch). Dropout samples most held (t .start) (t .len)) (sym (s .is)) (in-words samples most held (s .begin) two (s .here))
 
-    among : Run-of samples most (r .start) (r .len) → Among r (runsOf samples most)
+    among : Run-of samples most held (r .start) (r .len) → Among r (runsOf samples most held)
     among s =
         let is =
         ap (λ (m : ℕ). stretch m (gapLength samples (s .begin))) (s .start-is) ∙ ap (λ (m : ℕ). stretch (r .start) m) (s .len-is)
         in
-        subst (λ (t : Stretch). Among t (runsOf samples most)) is
-        (among-runs samples most 0 (length samples) (s .begin) (omega arith) (omega (arith, s .inside)) (s .here))
+        subst (λ (t : Stretch). Among t (runsOf samples most held)) is
+        (among-runs samples most held 0 (length samples) (s .begin) (omega arith) (omega (arith, s .inside)) (s .here))
 
-    back : Dropout samples most (r .start) (r .len) → Among r (runsOf samples most)
+    back : Dropout samples most held (r .start) (r .len) → Among r (runsOf samples most held)
     back d =
         elim (d .kind) [
-          | inl z ↦ among (of-lost samples most (r .start) (r .len) d z)
-          | inr h ↦ among (of-equal samples most (r .start) (r .len) d h)
+          | inl z ↦ among (of-lost samples most held (r .start) (r .len) d z)
+          | inr h ↦ among (of-equal samples most held (r .start) (r .len) d h)
         ]

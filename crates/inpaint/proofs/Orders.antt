@@ -42,16 +42,19 @@ use Rattle.inpaint.proofs.Rooms.{InTurn, all-in-turn}
 -- ---- The list, run by run
 
 -- no run is left
-pub orders-none : (most i n room : ℕ) (s : State) (orders whole : List ℕ) → length (s .samples) ≡ n
-    → nextRun (s .samples) most i ≡ Nowhere → ordersOver room (runsAmong (s .samples) most i i (n - i)) s orders ≡ whole → orders ≡ whole
+pub orders-none : (most held i n room : ℕ) (s : State) (orders whole : List ℕ) → length (s .samples) ≡ n
+    → nextRun (s .samples) most held i ≡ Nowhere → ordersOver room (runsAmong (s .samples) most held i i (n - i)) s orders ≡ whole
+    → orders ≡ whole
 unfolding ordersOver
-orders-none most i n room s orders whole count ends rest =
-    let none : runsAmong (s .samples) most i i (n - i) ≡ [] = rw (← count) (none-among (s .samples) most i i (length (s .samples) - i) ends) in
+orders-none most held i n room s orders whole count ends rest =
+    let none : runsAmong (s .samples) most held i i (n - i) ≡ [] =
+    rw (← count) (none-among (s .samples) most held i i (length (s .samples) - i) ends)
+    in
     sym (ap (λ (rs : List Stretch). ordersOver room rs s orders) none) ∙ rest
 
 -- one turn: a run is found and repaired and its order noted, and then what is left gives the same whole
-module _ (most i start len n room : ℕ) (s t : State) (w : List Float) (a : Answer) (order : ℕ) (orders left whole : List ℕ)
-    (count : length (s .samples) ≡ n) (space : length w ≡ room) (found : nextRun (s .samples) most i ≡ At start len)
+module _ (most held i start len n room : ℕ) (s t : State) (w : List Float) (a : Answer) (order : ℕ) (orders left whole : List ℕ)
+    (count : length (s .samples) ≡ n) (space : length w ≡ room) (found : nextRun (s .samples) most held i ≡ At start len)
     (ends : ended a t ≡ gapRepair start len sourcePasses (length w) s) (eo : order ≡ gapOrder start len sourcePasses (length w) s)
     (el : left ≡ noted (stretch start len) a order orders)
   where
@@ -66,16 +69,16 @@ module _ (most i start len n room : ℕ) (s t : State) (w : List Float) (a : Ans
     repaired = gapRepair start len sourcePasses room s
 
     later : List Stretch
-    later = runsAmong (s .samples) most (start + len) (start + len) (n - (start + len))
+    later = runsAmong (s .samples) most held (start + len) (start + len) (n - (start + len))
 
-    runs : runsAmong (s .samples) most i i (n - i) ≡ stretch start len ∷ later
+    runs : runsAmong (s .samples) most held i i (n - i) ≡ stretch start len ∷ later
     unfolding later
-    runs = rw (← count) (runs-behind (s .samples) most i start len (found-run (s .samples) most i start len found))
+    runs = rw (← count) (runs-behind (s .samples) most held i start len (found-run (s .samples) most held i start len found))
 
-    same : runsAmong (repaired .after .samples) most (start + len) (start + len) (n - (start + len)) ≡ later
+    same : runsAmong (repaired .after .samples) most held (start + len) (start + len) (n - (start + len)) ≡ later
     unfolding later repaired
     same =
-        behind-same (s .samples) (repaired .after .samples) most (start + len) (n - (start + len))
+        behind-same (s .samples) (repaired .after .samples) most held (start + len) (n - (start + len))
         (repair-leaves start len sourcePasses room s)
 
     ended-so : ended a t ≡ repaired
@@ -86,12 +89,12 @@ module _ (most i start len n room : ℕ) (s t : State) (w : List Float) (a : Ans
     unfolding listed
     noted-so = el ∙ ap (λ (k : ℕ). noted (stretch start len) a k orders) (eo ∙ ap (λ (k : ℕ). gapOrder start len sourcePasses k s) space)
 
-    pub orders-turn : ordersOver room (runsAmong (s .samples) most i i (n - i)) s orders ≡ whole
-        → ordersOver room (runsAmong (t .samples) most (start + len) (start + len) (n - (start + len))) t left ≡ whole
+    pub orders-turn : ordersOver room (runsAmong (s .samples) most held i i (n - i)) s orders ≡ whole
+        → ordersOver room (runsAmong (t .samples) most held (start + len) (start + len) (n - (start + len))) t left ≡ whole
     unfolding ordersOver behind listed repaired
     orders-turn rest =
-        ap (λ (l : List ℕ). ordersOver room (runsAmong (t .samples) most (start + len) (start + len) (n - (start + len))) t l) noted-so
-        ∙ ap (λ (e : Ended). behind e (runsAmong (e .after .samples) most (start + len) (start + len) (n - (start + len)))) ended-so
+        ap (λ (l : List ℕ). ordersOver room (runsAmong (t .samples) most held (start + len) (start + len) (n - (start + len))) t l) noted-so
+        ∙ ap (λ (e : Ended). behind e (runsAmong (e .after .samples) most held (start + len) (start + len) (n - (start + len)))) ended-so
         ∙ ap (behind repaired) same
         ∙ sym (ap (λ (rs : List Stretch). ordersOver room rs s orders) runs)
         ∙ rest
@@ -170,10 +173,10 @@ abbrev Ascending : ℕ → List Stretch → Type 0
 Ascending i [] = Unit {0}
 Ascending i (r ∷ rs) = (i ≤ r .start) × Ascending (r .start + r .len) rs
 
-ascending : (samples : List ℕ) (most i : ℕ) (rs : List Stretch) → InTurn samples most i rs → Ascending i rs
-ascending samples most i [] h = tt
-ascending samples most i (r ∷ rs) h =
-    let f = h .0 in (omega (arith, f .on, f .start-is), ascending samples most (r .start + r .len) rs (h .1))
+ascending : (samples : List ℕ) (most held i : ℕ) (rs : List Stretch) → InTurn samples most held i rs → Ascending i rs
+ascending samples most held i [] h = tt
+ascending samples most held i (r ∷ rs) h =
+    let f = h .0 in (omega (arith, f .on, f .start-is), ascending samples most held (r .start + r .len) rs (h .1))
 
 all-behind : (i : ℕ) (rs : List Stretch) → Ascending i rs → (q : Stretch) → Among q rs → i ≤ q .start
 all-behind i [] h q none = absurd none
@@ -208,50 +211,50 @@ at-run room (b ∷ bs) later r i j s orders h low high short =
 -- ---- Of a scan
 
 -- one that is not turned away
-scanned : (rate : ℕ) (ms : Float) (work : List Float) (s : State) (orders : List ℕ) → scannable rate ms s ≡ Done 0
-    → scanOrders rate ms work s orders ≡ ordersOver (length work) (runsOf (s .samples) (limit ms rate)) s orders
+scanned : (rate : ℕ) (ms : Float) (held : ℕ) (work : List Float) (s : State) (orders : List ℕ) → scannable rate ms held s ≡ Done 0
+    → scanOrders rate ms held work s orders ≡ ordersOver (length work) (runsOf (s .samples) (limit ms rate) held) s orders
 unfolding scanOrders
-scanned rate ms work s orders h = rw (h, scanOrders) refl
+scanned rate ms held work s orders h = rw (h, scanOrders) refl
 
 pub list-as-long : ListAsLong
 unfolding scanOrders
-list-as-long rate ms work s orders = go (scannable rate ms s)
+list-as-long rate ms held work s orders = go (scannable rate ms held s)
   where
     go : (a : Answer)
-        → length {A = ℕ} (elim a [ Done m ↦ ordersOver (length work) (runsOf (s .samples) (limit ms rate)) s orders | Refused why ↦ orders ])
+        → length {A = ℕ} (elim a [ Done m ↦ ordersOver (length work) (runsOf (s .samples) (limit ms rate) held) s orders | Refused why ↦ orders ])
         ≡ length orders
-    go (Done m) = over-length (length work) (runsOf (s .samples) (limit ms rate)) s orders
+    go (Done m) = over-length (length work) (runsOf (s .samples) (limit ms rate) held) s orders
     go (Refused why) = refl
 
 pub refused-scan-keeps-list : RefusedScanKeepsList
 unfolding scanOrders
-refused-scan-keeps-list rate ms work s orders why h = rw (h, scanOrders) refl
+refused-scan-keeps-list rate ms held work s orders why h = rw (h, scanOrders) refl
 
 pub orders-at-runs : OrdersAtRuns
-orders-at-runs rate ms work s h orders before later r j runs low high short =
+orders-at-runs rate ms held work s h orders before later r j runs low high short =
     let most = limit ms rate in
-    let ordered = subst (Ascending 0) runs (ascending (s .samples) most 0 (runsOf (s .samples) most) (all-in-turn (s .samples) most)) in
+    let ordered = subst (Ascending 0) runs (ascending (s .samples) most held 0 (runsOf (s .samples) most held) (all-in-turn (s .samples) most held)) in
     ap (λ (l : List ℕ). getD l j 0)
-    (scanned rate ms work s orders h ∙ ap (λ (rs : List Stretch). ordersOver (length work) rs s orders) runs)
+    (scanned rate ms held work s orders h ∙ ap (λ (rs : List Stretch). ordersOver (length work) rs s orders) runs)
     ∙ at-run (length work) before later r 0 j s orders ordered low high short
 
 pub orders-elsewhere : OrdersElsewhere
-orders-elsewhere rate ms work s h orders j out =
-    ap (λ (l : List ℕ). getD l j 0) (scanned rate ms work s orders h)
-    ∙ over-elsewhere (length work) (runsOf (s .samples) (limit ms rate)) s orders j out
+orders-elsewhere rate ms held work s h orders j out =
+    ap (λ (l : List ℕ). getD l j 0) (scanned rate ms held work s orders h)
+    ∙ over-elsewhere (length work) (runsOf (s .samples) (limit ms rate) held) s orders j out
 
 -- the code's list, from the rule's
-pub list-of-scan : (rate : ℕ) (ms : Float) (work : List Float) (s : State) (checked : Answer) (m most : ℕ) (orders left : List ℕ)
-    → checked ≡ scannable rate ms s → checked ≡ Done m → most ≡ limit ms rate
-    → left ≡ ordersOver (length work) (runsOf (s .samples) most) s orders → left ≡ scanOrders rate ms work s orders
+pub list-of-scan : (rate : ℕ) (ms : Float) (held : ℕ) (work : List Float) (s : State) (checked : Answer) (m most : ℕ) (orders left : List ℕ)
+    → checked ≡ scannable rate ms held s → checked ≡ Done m → most ≡ limit ms rate
+    → left ≡ ordersOver (length work) (runsOf (s .samples) most held) s orders → left ≡ scanOrders rate ms held work s orders
 unfolding scanOrders
-list-of-scan rate ms work s checked m most orders left tested accepted e h =
+list-of-scan rate ms held work s checked m most orders left tested accepted e h =
     h ∙ rw (e, sym tested ∙ accepted, scanOrders) refl
 
-pub list-of-refused : (rate : ℕ) (ms : Float) (work : List Float) (s : State) (checked : Answer) (why : Reason) (orders : List ℕ)
-    → checked ≡ scannable rate ms s → checked ≡ Refused why → orders ≡ scanOrders rate ms work s orders
-list-of-refused rate ms work s checked why orders tested refused =
-    sym (refused-scan-keeps-list rate ms work s orders why (sym tested ∙ refused))
+pub list-of-refused : (rate : ℕ) (ms : Float) (held : ℕ) (work : List Float) (s : State) (checked : Answer) (why : Reason) (orders : List ℕ)
+    → checked ≡ scannable rate ms held s → checked ≡ Refused why → orders ≡ scanOrders rate ms held work s orders
+list-of-refused rate ms held work s checked why orders tested refused =
+    sym (refused-scan-keeps-list rate ms held work s orders why (sym tested ∙ refused))
 
 -- ---- The order of a gap
 

@@ -5,7 +5,7 @@ use mathlib.Core.Bool.{true, false, true≢false}
 use mathlib.Core.Logic.{_⊎_, inl, inr}
 use mathlib.Core.List.{List, [], _∷_}
 use Prim.Native.Nat.{ℕ, zero, suc, _+_, _-_, _*_, _≤_, _<_}
-use native.Mathlib.Nat.{sub-zero}
+use native.Mathlib.Nat.{sub-zero, one-mul, add-mul, mul-add, mul-assoc, mul-left-comm, mul-le-mul-left}
 use native.Mathlib.Omega.{arith}
 use lib.ListN.{length, getD}
 use lib.Seq.{length-sets}
@@ -33,7 +33,7 @@ use Rattle.inpaint.specs.Runs.{Stretch, runsAmong, runsOf, gapCalls, ans
 use Rattle.inpaint.specs.Consequences.{AcceptedNamesTheGap, NeededAtMost, EachNumber, OwnAnswers, densePlaces, denseWords, DenseSuffices, WideSuffices}
 use Rattle.inpaint.specs.declared.Run.{Run}
 use Rattle.inpaint.specs.declared.Run.the-variants.{At, Nowhere}
-use Rattle.inpaint.proofs.auto.Laws.{scannable-unfit}
+use Rattle.inpaint.proofs.auto.Laws.{scannable-unfit, accepted-held}
 use Rattle.inpaint.proofs.auto.Runs.{OfZeros, OfHeld, Found, found-run, Fit, fits}
 use Rattle.inpaint.proofs.window.Laws.{right-gap, context-least, context-most, needed-within}
 use Rattle.inpaint.proofs.gap.Laws.{plan-gap}
@@ -164,126 +164,190 @@ accepted-names-the-gap start len passes room m s h = go (ending s plan (gap-lawf
 -- ---- The runs of a scan
 
 -- runs that are found one behind the other, the first from place i on
-abbrev pub InTurn : List ℕ → ℕ → ℕ → List Stretch → Type 0
-InTurn samples most i [] = Unit {0}
-InTurn samples most i (r ∷ rs) = Found samples most i i (r .start) (r .len) × InTurn samples most (r .start + r .len) rs
+abbrev pub InTurn : List ℕ → ℕ → ℕ → ℕ → List Stretch → Type 0
+InTurn samples most held i [] = Unit {0}
+InTurn samples most held i (r ∷ rs) = Found samples most held i i (r .start) (r .len) × InTurn samples most held (r .start + r .len) rs
 
-runs-in-turn : (samples : List ℕ) (most k i : ℕ) → length samples ≤ i + k
-    → InTurn samples most i (runsAmong samples most i i (length samples - i))
-runs-in-turn samples most zero i h =
+runs-in-turn : (samples : List ℕ) (most held k i : ℕ) → length samples ≤ i + k
+    → InTurn samples most held i (runsAmong samples most held i i (length samples - i))
+runs-in-turn samples most held zero i h =
     let none : length samples - i ≡ 0 = omega arith in
     rw none (unfold runsAmong in tt)
-runs-in-turn samples most (suc k) i h = go (nextRun samples most i) refl (runs-in-turn samples most k)
+runs-in-turn samples most held (suc k) i h = go (nextRun samples most held i) refl (runs-in-turn samples most held k)
   where
     n : ℕ
     n = length samples
 
-    go : (t : Run) → nextRun samples most i ≡ t
-        → ((j : ℕ) → n ≤ j + k → InTurn samples most j (runsAmong samples most j j (n - j)))
-        → InTurn samples most i (runsAmong samples most i i (n - i))
-    go Nowhere e later = rw (none-among samples most i i (n - i) e) tt
+    go : (t : Run) → nextRun samples most held i ≡ t
+        → ((j : ℕ) → n ≤ j + k → InTurn samples most held j (runsAmong samples most held j j (n - j)))
+        → InTurn samples most held i (runsAmong samples most held i i (n - i))
+    go Nowhere e later = rw (none-among samples most held i i (n - i) e) tt
     go (At start len) e later =
-        let f = found-run samples most i start len e in
-        rw (runs-behind samples most i start len f) (f, later (start + len) (omega (arith, f .on, fits f .ends)))
+        let f = found-run samples most held i start len e in
+        rw (runs-behind samples most held i start len f) (f, later (start + len) (omega (arith, f .on, fits f .ends)))
 
 -- and so all runs of a recording
-pub all-in-turn : (samples : List ℕ) (most : ℕ) → InTurn samples most 0 (runsOf samples most)
-all-in-turn samples most =
-    subst (λ (m : ℕ). InTurn samples most 0 (runsAmong samples most 0 0 m)) (sub-zero (length samples))
-    (runs-in-turn samples most (length samples) 0 (omega arith))
+pub all-in-turn : (samples : List ℕ) (most held : ℕ) → InTurn samples most held 0 (runsOf samples most held)
+all-in-turn samples most held =
+    subst (λ (m : ℕ). InTurn samples most held 0 (runsAmong samples most held 0 0 m)) (sub-zero (length samples))
+    (runs-in-turn samples most held (length samples) 0 (omega arith))
 
 -- the repair of a run that is found from place i on has an answer of which P holds, where I holds of the place and the recording, and
 -- leaves them so
-abbrev Step : (ℕ → Type 0) → (ℕ → State → Type 0) → List ℕ → ℕ → ℕ → Type 0
-Step P I samples most room =
-    (i start len : ℕ) (s : State) → I i s → Found samples most i i start len
+abbrev Step : (ℕ → Type 0) → (ℕ → State → Type 0) → List ℕ → ℕ → ℕ → ℕ → Type 0
+Step P I samples most held room =
+    (i start len : ℕ) (s : State) → I i s → Found samples most held i i start len
     → let e = gapRepair start len sourcePasses room s in P (number (e .answer)) × I (start + len) (e .after)
 
 -- so P holds of all answers
-each-number : (P : ℕ → Type 0) (I : ℕ → State → Type 0) (samples : List ℕ) (most room : ℕ) → Step P I samples most room
-    → (rs : List Stretch) (i : ℕ) (s : State) → InTurn samples most i rs → I i s → EachNumber P (answers (gapCalls room rs) s)
-each-number P I samples most room step [] i s h k = unfold answers in tt
-each-number P I samples most room step (r ∷ rs) i s h k =
+each-number : (P : ℕ → Type 0) (I : ℕ → State → Type 0) (samples : List ℕ) (most held room : ℕ) → Step P I samples most held room
+    → (rs : List Stretch) (i : ℕ) (s : State) → InTurn samples most held i rs → I i s → EachNumber P (answers (gapCalls room rs) s)
+each-number P I samples most held room step [] i s h k = unfold answers in tt
+each-number P I samples most held room step (r ∷ rs) i s h k =
     let e = gapRepair (r .start) (r .len) sourcePasses room s in
     let now = step i (r .start) (r .len) s k (h .0) in
-    rw (answers-first room r rs s) (now .0, each-number P I samples most room step rs (r .start + r .len) (e .after) (h .1) (now .1))
+    rw (answers-first room r rs s) (now .0, each-number P I samples most held room step rs (r .start + r .len) (e .after) (h .1) (now .1))
 
-all-numbers : (P : ℕ → Type 0) (I : ℕ → State → Type 0) (most room : ℕ) (s : State) → Step P I (s .samples) most room → I 0 s
-    → EachNumber P (answers (gapCalls room (runsOf (s .samples) most)) s)
-all-numbers P I most room s step begin =
+all-numbers : (P : ℕ → Type 0) (I : ℕ → State → Type 0) (most held room : ℕ) (s : State) → Step P I (s .samples) most held room → I 0 s
+    → EachNumber P (answers (gapCalls room (runsOf (s .samples) most held)) s)
+all-numbers P I most held room s step begin =
     let n = length (s .samples) in
-    each-number P I (s .samples) most room step (runsOf (s .samples) most) 0 s
-    (all-in-turn (s .samples) most) begin
+    each-number P I (s .samples) most held room step (runsOf (s .samples) most held) 0 s
+    (all-in-turn (s .samples) most held) begin
 
 -- ---- How much of the journal they take
 
--- up to place i, with u words used from the v on that were used before: no more than the densest runs take; or, at the end of a run of zeros
--- and NaN, where no such sample follows, up to 34 eighteenths of a word more
-abbrev UsedTo : List ℕ → ℕ → ℕ → ℕ → Type 0
-UsedTo samples v i u =
-    (densePlaces * u ≤ densePlaces * v + denseWords * i)
-    ⊎ ((densePlaces * u ≤ densePlaces * v + denseWords * i + 34) × (zeroOrNan (getD samples i 0) ≡ false))
+-- Runs take at most 3 * p + 1 words for p places, where p is two more than a held run has at least: for i places three words each, and i
+-- words for p of them. So all is counted in p-ths of a word.
+abbrev dense : ℕ → ℕ → ℕ
+dense p i = 3 * (p * i) + i
 
--- in both cases it is less than one place more would allow
-used-below : (samples : List ℕ) (v i u : ℕ) → UsedTo samples v i u → densePlaces * u < densePlaces * v + denseWords * (i + 1)
-used-below samples v i u (inl h) = omega arith
-used-below samples v i u (inr h) = omega (arith, h .0)
+dense-rate : (held i : ℕ) → 2 ≤ held → denseWords held * i ≡ dense (densePlaces held) i
+dense-rate held i two =
+    let p = densePlaces held in
+    let words : denseWords held ≡ 3 * p + 1 = omega arith in
+    ap (λ (w : ℕ). w * i) words
+    ∙ add-mul (3 * p) 1 i
+    ∙ ap (λ (m : ℕ). m + 1 * i) (mul-assoc 3 p i)
+    ∙ ap (λ (m : ℕ). 3 * (p * i) + m) (one-mul i)
+
+module _ (p v : ℕ) (some : 1 ≤ p) where
+  -- an entry of three words for each of `len` samples and two more
+  grows : (u u' len : ℕ) → u' ≤ u + entrySize len → p * u' ≤ p * u + 3 * (p * len) + 2 * p
+  grows u u' len grown =
+      omega (arith, mul-le-mul-left p grown, mul-add p u (3 * len + 2), mul-add p (3 * len) 2, mul-left-comm p 3 len)
+
+  -- one of zeros and NaN, the first from place `at` on: two words more than three for each of its samples
+  after-lost : (i at len u u' : ℕ) → u' ≤ u + entrySize len → 2 ≤ len → i ≤ at → p * u ≤ p * v + dense p i
+      → p * u' ≤ p * v + dense p (at + len) + (2 * p - 2)
+  after-lost i at len u u' grown two on h = omega (arith, grows u u' len grown, mul-le-mul-left p on, mul-add p at len)
+
+  -- behind another, of which it does not begin at the end
+  after-both : (i at len u u' : ℕ) → u' ≤ u + entrySize len → 2 ≤ len → i + 1 ≤ at → p * u ≤ p * v + dense p i + (2 * p - 2)
+      → p * u' ≤ p * v + dense p (at + len) + (2 * p - 2)
+  after-both i at len u u' grown two on h =
+      omega (arith, grows u u' len grown, mul-le-mul-left p on, mul-add p i 1, mul-add p at len)
+
+  -- one of a held word, of one sample more than its gap: one word less than three for each of its samples
+  after-held : (i at len u u' : ℕ) → u' ≤ u + entrySize len → p ≤ len + 3 → i ≤ at → p * u ≤ p * v + dense p i + (2 * p - 2)
+      → p * u' ≤ p * v + dense p (at + (len + 1))
+  after-held i at len u u' grown long on h =
+      omega (arith, grows u u' len grown, mul-le-mul-left p on, mul-add p at (len + 1), mul-add p len 1)
+
+  -- where the journal has so many words, a place more leaves room for an entry
+  no-more : (n j k x : ℕ) → p * v + dense p n ≤ p * j → k + 1 ≤ n → p * x ≤ p * v + dense p k + (2 * p - 2) → j < x → ⊥
+  no-more n j k x long inside h full =
+      let below : j ≤ x = omega arith in
+      omega (arith, mul-le-mul-left p inside, mul-le-mul-left p below, mul-add p k 1)
+
+-- up to place i, with u words used from the v on that were used before: no more than the densest runs take; or, at the end of a run of zeros
+-- and NaN, where no such sample follows, up to two words less two p-ths more
+abbrev UsedTo : List ℕ → ℕ → ℕ → ℕ → ℕ → Type 0
+UsedTo samples p v i u =
+    (p * u ≤ p * v + dense p i) ⊎ ((p * u ≤ p * v + dense p i + (2 * p - 2)) × (zeroOrNan (getD samples i 0) ≡ false))
+
+-- so in both cases
+used-most : (samples : List ℕ) (p v i u : ℕ) → UsedTo samples p v i u → p * u ≤ p * v + dense p i + (2 * p - 2)
+used-most samples p v i u (inl h) = omega arith
+used-most samples p v i u (inr h) = h .0
 
 -- a run more, with its entry
-uses : (samples : List ℕ) (most v i start len u u' : ℕ) → Found samples most i i start len → UsedTo samples v i u → u' ≤ u + entrySize len
-    → UsedTo samples v (start + len) u'
-uses samples most v i start len u u' f so-far grown = go (g .kind) so-far
+uses : (samples : List ℕ) (most held v i start len u u' : ℕ) → Found samples most held i i start len
+    → UsedTo samples (densePlaces held) v i u → u' ≤ u + entrySize len → UsedTo samples (densePlaces held) v (start + len) u'
+uses samples most held v i start len u u' f so-far grown = go (g .kind) so-far
   where
-    g : Fit samples most (f .at) start len
+    p : ℕ
+    p = densePlaces held
+
+    some : 1 ≤ p
+    some = omega arith
+
+    g : Fit samples most held (f .at) start len
     g = fits f
 
-    go : OfZeros (getD samples (f .at) 0) (runAt samples (f .at)) ⊎ OfHeld (getD samples (f .at) 0) (runAt samples (f .at))
-        → UsedTo samples v i u → UsedTo samples v (start + len) u'
-    -- one of zeros and NaN: two words more than three for each of its samples
-    go (inl z) (inl h) = inr (omega (arith, grown, f .on, f .start-is, g .ends, z .none-kept, z .two), zeros-end f (z .zero))
-    -- behind another, of which it does not begin at the end: there stands no such sample
+    go : OfZeros (getD samples (f .at) 0) (runAt samples (f .at)) ⊎ OfHeld held (getD samples (f .at) 0) (runAt samples (f .at))
+        → UsedTo samples p v i u → UsedTo samples p v (start + len) u'
+    go (inl z) (inl h) =
+        let first : start ≡ f .at = omega (arith, f .start-is, z .none-kept) in
+        let two : 2 ≤ len = omega (arith, first, g .ends, z .two) in
+        inr (after-lost p v some i start len u u' grown two (omega (arith, first, f .on)) h, zeros-end f (z .zero))
+    -- where another run of zeros and NaN ends, there stands no such sample
     go (inl z) (inr h) =
         let apart : i ≡ f .at → ⊥ = λ e. true≢false (sym (z .zero) ∙ ap (λ (j : ℕ). zeroOrNan (getD samples j 0)) (sym e) ∙ h .1) in
-        inr (omega (arith, grown, h .0, f .on, f .start-is, g .ends, z .none-kept, z .two, apart), zeros-end f (z .zero))
-    -- one of a held word: one word less than three for each of its samples
-    go (inr k) (inl h) = inl (omega (arith, grown, f .on, f .start-is, g .ends, k .one-kept, k .sixteen))
-    go (inr k) (inr h) = inl (omega (arith, grown, h .0, f .on, f .start-is, g .ends, k .one-kept, k .sixteen))
+        let first : start ≡ f .at = omega (arith, f .start-is, z .none-kept) in
+        let two : 2 ≤ len = omega (arith, first, g .ends, z .two) in
+        let on : i + 1 ≤ start = omega (arith, first, f .on, apart) in
+        inr (after-both p v some i start len u u' grown two on (h .0), zeros-end f (z .zero))
+    go (inr k) before =
+        let end : f .at + (len + 1) ≡ start + len = omega (arith, f .start-is, k .one-kept) in
+        let long : p ≤ len + 3 = omega (arith, end, g .ends, k .enough) in
+        let most-used = used-most samples p v i u before in
+        inl (subst (λ (m : ℕ). p * u' ≤ p * v + dense p m) end (after-held p v some i (f .at) len u u' grown long (f .on) most-used))
 
 -- ---- The answers of a scan's runs
 
 pub dense-suffices : DenseSuffices
-dense-suffices rate ms work s long = all-numbers P I (limit ms rate) (length work) s step (refl, refl, inl (omega arith))
+dense-suffices rate ms held work s two long = all-numbers P I (limit ms rate) held (length work) s step (refl, refl, inl (omega arith))
   where
+    p : ℕ
+    p = densePlaces held
+
+    room : p * s .used + dense p (length (s .samples)) ≤ p * length (s .journal)
+    room = subst (λ (m : ℕ). p * s .used + m ≤ p * length (s .journal)) (dense-rate held (length (s .samples)) two) long
+
     P : ℕ → Type 0
     P k = k ≡ 9 → ⊥
 
     I : ℕ → State → Type 0
-    I i t = (length (t .samples) ≡ length (s .samples)) × (length (t .journal) ≡ length (s .journal)) × UsedTo (s .samples) (s .used) i (t .used)
+    I i t = (length (t .samples) ≡ length (s .samples)) × (length (t .journal) ≡ length (s .journal)) × UsedTo (s .samples) p (s .used) i (t .used)
 
     other : (k : ℕ) → k < 9 → k ≡ 9 → ⊥
     other k h e = omega arith
 
-    step : Step P I (s .samples) (limit ms rate) (length work)
+    step : Step P I (s .samples) (limit ms rate) held (length work)
     step i start len t h f =
         let left = gap-left t start len sourcePasses (length work) in
-        let room =
-        used-below (s .samples) (s .used) (start + len) (t .used + entrySize len)
-        (uses (s .samples) (limit ms rate) (s .used) i start len (t .used) (t .used + entrySize len) f (h .2) (omega arith))
-        in (
+        let entry = t .used + entrySize len in
+        let used =
+        used-most (s .samples) p (s .used) (start + len) entry
+        (uses (s .samples) (limit ms rate) held (s .used) i start len (t .used) entry f (h .2) (omega arith))
+        in
+        let inside : start + len + 1 ≤ length (s .samples) = omega (arith, fits f .inside) in (
           gap-number P t start len sourcePasses (length work) (other 0 (omega arith))
               (fitting-number P t (other 0 (omega arith)) (other 1 (omega arith)) (λ (e : 14 ≡ 9). omega arith) (other 2 (omega arith))
               (other 3 (omega arith)))
               (λ w. other 5 (omega arith)) (λ w. other 6 (omega arith)) (other 7 (omega arith)) (other 8 (omega arith))
-              (λ full e. omega (arith, full, h .1, room, long, fits f .inside)),
+              (λ full e. no-more p (s .used) (omega arith) (length (s .samples)) (length (s .journal)) (start + len) entry room inside used
+              (omega (arith, full, h .1))),
           (
             left .samples ∙ h .0,
             left .journal ∙ h .1,
-            uses (s .samples) (limit ms rate) (s .used) i start len (t .used) _ f (h .2) (left .grown),
+            uses (s .samples) (limit ms rate) held (s .used) i start len (t .used) _ f (h .2) (left .grown),
           ),
         )
 
 pub wide-suffices : WideSuffices
-wide-suffices rate ms work s wide = all-numbers P I (limit ms rate) (length work) s step refl
+wide-suffices rate ms held work s wide = all-numbers P I (limit ms rate) held (length work) s step refl
   where
     P : ℕ → Type 0
     P k = k ≡ 6 → ⊥
@@ -295,7 +359,7 @@ wide-suffices rate ms work s wide = all-numbers P I (limit ms rate) (length work
     other k (inl h) e = omega arith
     other k (inr h) e = omega arith
 
-    step : Step P I (s .samples) (limit ms rate) (length work)
+    step : Step P I (s .samples) (limit ms rate) held (length work)
     step i start len t h f = (
       gap-number P t start len sourcePasses (length work) (other 0 (inl (omega arith)))
           (fitting-number P t (other 0 (inl (omega arith))) (other 1 (inl (omega arith))) (other 14 (inr (omega arith))) (other 2 (inl (omega arith)))
@@ -306,18 +370,18 @@ wide-suffices rate ms work s wide = all-numbers P I (limit ms rate) (length work
     )
 
 -- a scan that is not turned away fits
-scannable-fits : (rate : ℕ) (ms : Float) (s : State) → scannable rate ms s ≡ Done 0 → Fits s
-scannable-fits rate ms s h = go (fitting s) refl
+scannable-fits : (rate : ℕ) (ms : Float) (held : ℕ) (s : State) → scannable rate ms held s ≡ Done 0 → Fits s
+scannable-fits rate ms held s h = go (fitting s) refl
   where
     go : (a : Answer) → a ≡ fitting s → Fits s
     go (Done m) e = accepted-fits s m (sym e)
     go (Refused why) e =
-        let both : Refused why ≡ Done 0 = scannable-unfit rate ms s (Refused why) e why refl ∙ h in
+        let both : Refused why ≡ Done 0 = scannable-unfit rate ms held s (Refused why) e why refl ∙ h in
         let none : _≡_ {A = ℕ} 0 1 = cc in
         absurd (omega arith)
 
 pub own-answers : OwnAnswers
-own-answers rate ms work s h = all-numbers P I (limit ms rate) (length work) s step (refl, scannable-fits rate ms s h)
+own-answers rate ms held work s h = all-numbers P I (limit ms rate) held (length work) s step (refl, scannable-fits rate ms held s h)
   where
     P : ℕ → Type 0
     P k = (k ≡ 0) ⊎ ((6 ≤ k) × (k ≤ 9))
@@ -328,10 +392,13 @@ own-answers rate ms work s h = all-numbers P I (limit ms rate) (length work) s s
     refusal : (k : ℕ) → 6 ≤ k → k ≤ 9 → P k
     refusal k a b = inr (a, b)
 
-    step : Step P I (s .samples) (limit ms rate) (length work)
+    two : 2 ≤ held
+    two = accepted-held rate ms held work s (Done 0) (sym h) 0 refl
+
+    step : Step P I (s .samples) (limit ms rate) held (length work)
     step i start len t k f =
         let left = gap-left t start len sourcePasses (length work) in
-        let right = right-gap (length (t .samples)) start len (fits f .one) (omega (arith, k .0, fits f .inside)) in (
+        let right = right-gap (length (t .samples)) start len (fits f .one two) (omega (arith, k .0, fits f .inside)) in (
           gap-number P t start len sourcePasses (length work) (inl refl) (rw (fits-done (k .1)) (inl refl))
               (λ w. absurd (true≢false (sym w ∙ right))) (λ w. refusal 6 (omega arith) (omega arith)) (refusal 7 (omega arith) (omega arith))
               (refusal 8 (omega arith) (omega arith)) (λ w. refusal 9 (omega arith) (omega arith)),

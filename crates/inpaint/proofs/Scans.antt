@@ -115,62 +115,62 @@ work-count n a w =
 -- ---- The first of the runs is what the search answers
 
 -- place i is passed over
-runs-pass : (samples : List ℕ) (most from i n : ℕ) → starts samples most from i ≡ false
-    → runsAmong samples most from i (suc n) ≡ runsAmong samples most from (i + 1) n
+runs-pass : (samples : List ℕ) (most held from i n : ℕ) → starts samples most held from i ≡ false
+    → runsAmong samples most held from i (suc n) ≡ runsAmong samples most held from (i + 1) n
 unfolding runsAmong
-runs-pass samples most from i n t = rw t refl
+runs-pass samples most held from i n t = rw t refl
 
 -- place i has a run
-runs-take : (samples : List ℕ) (most from i n : ℕ) → starts samples most from i ≡ true
-    → runsAmong samples most from i (suc n) ≡ stretch (gapAt samples i) (gapLength samples i) ∷ runsAmong samples most from (i + 1) n
+runs-take : (samples : List ℕ) (most held from i n : ℕ) → starts samples most held from i ≡ true
+    → runsAmong samples most held from i (suc n) ≡ stretch (gapAt samples i) (gapLength samples i) ∷ runsAmong samples most held from (i + 1) n
 unfolding runsAmong
-runs-take samples most from i n t = rw t refl
+runs-take samples most held from i n t = rw t refl
 
 -- the places before i + k, of which none has a run, are passed over
-runs-skip : (samples : List ℕ) (most from k i n m : ℕ) → n ≡ k + m
-    → ((j : ℕ) → i ≤ j → j < i + k → starts samples most from j ≡ false)
-    → runsAmong samples most from i n ≡ runsAmong samples most from (i + k) m
-runs-skip samples most from zero i n m e none =
+runs-skip : (samples : List ℕ) (most held from k i n m : ℕ) → n ≡ k + m
+    → ((j : ℕ) → i ≤ j → j < i + k → starts samples most held from j ≡ false)
+    → runsAmong samples most held from i n ≡ runsAmong samples most held from (i + k) m
+runs-skip samples most held from zero i n m e none =
     let there : i ≡ i + 0 = omega arith in
-    ap (runsAmong samples most from i) (e ∙ zero-add m) ∙ ap (λ (j : ℕ). runsAmong samples most from j m) there
-runs-skip samples most from (suc k) i n m e none =
+    ap (runsAmong samples most held from i) (e ∙ zero-add m) ∙ ap (λ (j : ℕ). runsAmong samples most held from j m) there
+runs-skip samples most held from (suc k) i n m e none =
     let more : n ≡ suc (k + m) = omega arith in
-    ap (runsAmong samples most from i) more
-    ∙ runs-pass samples most from i (k + m) (none i (omega arith) (omega arith))
-    ∙ runs-skip samples most from k (i + 1) (k + m) m refl (λ j a b. none j (omega arith) (omega arith))
-    ∙ ap (λ (j : ℕ). runsAmong samples most from j m) (omega arith)
+    ap (runsAmong samples most held from i) more
+    ∙ runs-pass samples most held from i (k + m) (none i (omega arith) (omega arith))
+    ∙ runs-skip samples most held from k (i + 1) (k + m) m refl (λ j a b. none j (omega arith) (omega arith))
+    ∙ ap (λ (j : ℕ). runsAmong samples most held from j m) (omega arith)
 
 -- where it answers with nothing, there are none
-pub none-among : (samples : List ℕ) (most from i n : ℕ) → nextAmong samples most from i n ≡ Nowhere
-    → runsAmong samples most from i n ≡ []
+pub none-among : (samples : List ℕ) (most held from i n : ℕ) → nextAmong samples most held from i n ≡ Nowhere
+    → runsAmong samples most held from i n ≡ []
 unfolding nextAmong runsAmong
-none-among samples most from i zero h = refl
-none-among samples most from i (suc n) h =
-    go (truth (starts samples most from i)) (none-among samples most from (i + 1) n)
+none-among samples most held from i zero h = refl
+none-among samples most held from i (suc n) h =
+    go (truth (starts samples most held from i)) (none-among samples most held from (i + 1) n)
   where
-    go : EitherWay (starts samples most from i)
-        → (nextAmong samples most from (i + 1) n ≡ Nowhere → runsAmong samples most from (i + 1) n ≡ [])
-        → runsAmong samples most from i (suc n) ≡ []
+    go : EitherWay (starts samples most held from i)
+        → (nextAmong samples most held from (i + 1) n ≡ Nowhere → runsAmong samples most held from (i + 1) n ≡ [])
+        → runsAmong samples most held from i (suc n) ≡ []
     go (inl t) later =
-        let step : nextAmong samples most from i (suc n) ≡ At (gapAt samples i) (gapLength samples i) = rw t refl in
+        let step : nextAmong samples most held from i (suc n) ≡ At (gapAt samples i) (gapLength samples i) = rw t refl in
         let wrong : At (gapAt samples i) (gapLength samples i) ≡ Nowhere = sym step ∙ h in
         let none : _≡_ {A = ℕ} 0 1 = cc in
         absurd (omega arith)
     go (inr t) later =
-        let step : nextAmong samples most from i (suc n) ≡ nextAmong samples most from (i + 1) n = rw t refl in
-        runs-pass samples most from i n t ∙ later (sym step ∙ h)
+        let step : nextAmong samples most held from i (suc n) ≡ nextAmong samples most held from (i + 1) n = rw t refl in
+        runs-pass samples most held from i n t ∙ later (sym step ∙ h)
 
 -- ---- What stands before a run's begin has no say in the runs from there on
 
 -- the runs are the same in a recording that is the same from place i on, where the same ones begin
-runs-same : (samples t : List ℕ) (most from to i n : ℕ) → length t ≡ length samples
+runs-same : (samples t : List ℕ) (most held from to i n : ℕ) → length t ≡ length samples
     → ((j : ℕ) → i ≤ j → getD t j 0 ≡ getD samples j 0)
     → ((j : ℕ) → i ≤ j → runBegins t from j ≡ runBegins samples to j)
-    → runsAmong t most from i n ≡ runsAmong samples most to i n
+    → runsAmong t most held from i n ≡ runsAmong samples most held to i n
 unfolding runsAmong
-runs-same samples t most from to i zero count same begin = refl
-runs-same samples t most from to i (suc n) count same begin =
-    let later = runs-same samples t most from to (i + 1) n count (λ j h. same j (omega arith)) (λ j h. begin j (omega arith)) in
+runs-same samples t most held from to i zero count same begin = refl
+runs-same samples t most held from to i (suc n) count same begin =
+    let later = runs-same samples t most held from to (i + 1) n count (λ j h. same j (omega arith)) (λ j h. begin j (omega arith)) in
     let long =
     length-same (continuesAt samples) (continuesAt t) (i + 1) (length samples - (i + 1))
     (λ j h. ap (λ (w : ℕ). continues w (getD t j 0)) (same (j - 1) (omega arith)) ∙ ap (continues (getD samples (j - 1) 0)) (same j (omega arith)))
@@ -186,15 +186,15 @@ begins-anew samples from end j before new h =
       | no f ↦ rw (ne-eqb j end f, ne-eqb j from (λ same. absurd (omega arith))) refl
     ]
 
-runs-anew : (samples : List ℕ) (most from end n : ℕ) → from < end → continuesAt samples end ≡ false
-    → runsAmong samples most from end n ≡ runsAmong samples most end end n
-runs-anew samples most from end n before new =
-    runs-same samples samples most from end end n refl (λ j h. refl) (λ j h. begins-anew samples from end j before new h)
+runs-anew : (samples : List ℕ) (most held from end n : ℕ) → from < end → continuesAt samples end ≡ false
+    → runsAmong samples most held from end n ≡ runsAmong samples most held end end n
+runs-anew samples most held from end n before new =
+    runs-same samples samples most held from end end n refl (λ j h. refl) (λ j h. begins-anew samples from end j before new h)
 
 -- a repair leaves those from its gap's end on
-pub behind-same : (samples t : List ℕ) (most end n : ℕ) → Behind end samples t
-    → runsAmong t most end end n ≡ runsAmong samples most end end n
-behind-same samples t most end n b = runs-same samples t most end end end n (b .count) (b .same) begin
+pub behind-same : (samples t : List ℕ) (most held end n : ℕ) → Behind end samples t
+    → runsAmong t most held end end n ≡ runsAmong samples most held end end n
+behind-same samples t most held end n b = runs-same samples t most held end end end n (b .count) (b .same) begin
   where
     begin : (j : ℕ) → end ≤ j → runBegins t end j ≡ runBegins samples end j
     begin j h =
@@ -206,9 +206,9 @@ behind-same samples t most end n b = runs-same samples t most end end end n (b .
 -- ---- What is found is the first of them, and the others begin behind its end
 
 -- within the run none begins
-none-within : (samples : List ℕ) (most i start len : ℕ) (f : Found samples most i i start len) (j : ℕ)
-    → f .at + 1 ≤ j → j < start + len → starts samples most i j ≡ false
-none-within samples most i start len f j a b =
+none-within : (samples : List ℕ) (most held i start len : ℕ) (f : Found samples most held i i start len) (j : ℕ)
+    → f .at + 1 ≤ j → j < start + len → starts samples most held i j ≡ false
+none-within samples most held i start len f j a b =
     let g = fits f in
     let k = j - (f .at + 1) in
     let there : j ≡ f .at + 1 + k = omega arith in
@@ -216,17 +216,17 @@ none-within samples most i start len f j a b =
     let on : continuesAt samples j ≡ true = ap (continuesAt samples) there ∙ met in
     rw (ne-eqb j i (λ same. absurd (omega (arith, f .on))), on) refl
 
-pub runs-behind : (samples : List ℕ) (most i start len : ℕ) → Found samples most i i start len
-    → runsAmong samples most i i (length samples - i)
-    ≡ stretch start len ∷ runsAmong samples most (start + len) (start + len) (length samples - (start + len))
-runs-behind samples most i start len f =
+pub runs-behind : (samples : List ℕ) (most held i start len : ℕ) → Found samples most held i i start len
+    → runsAmong samples most held i i (length samples - i)
+    ≡ stretch start len ∷ runsAmong samples most held (start + len) (start + len) (length samples - (start + len))
+runs-behind samples most held i start len f =
     to-run
-    ∙ ap (runsAmong samples most i (f .at)) one
-    ∙ runs-take samples most i (f .at) (n - (f .at + 1)) (f .here)
-    ∙ ap (λ (m : ℕ). stretch m (gapLength samples (f .at)) ∷ runsAmong samples most i (f .at + 1) (n - (f .at + 1))) (f .start-is)
-    ∙ ap (λ (m : ℕ). stretch start m ∷ runsAmong samples most i (f .at + 1) (n - (f .at + 1))) (f .len-is)
+    ∙ ap (runsAmong samples most held i (f .at)) one
+    ∙ runs-take samples most held i (f .at) (n - (f .at + 1)) (f .here)
+    ∙ ap (λ (m : ℕ). stretch m (gapLength samples (f .at)) ∷ runsAmong samples most held i (f .at + 1) (n - (f .at + 1))) (f .start-is)
+    ∙ ap (λ (m : ℕ). stretch start m ∷ runsAmong samples most held i (f .at + 1) (n - (f .at + 1))) (f .len-is)
     ∙ ap (λ (rs : List Stretch). stretch start len ∷ rs)
-    (to-end ∙ runs-anew samples most i end (n - end) (omega (arith, f .on, g .ends)) (found-behind f))
+    (to-end ∙ runs-anew samples most held i end (n - end) (omega (arith, f .on, g .ends)) (found-behind f))
   where
     n : ℕ
     n = length samples
@@ -234,27 +234,27 @@ runs-behind samples most i start len f =
     end : ℕ
     end = start + len
 
-    g : Fit samples most (f .at) start len
+    g : Fit samples most held (f .at) start len
     g = fits f
 
-    to-run : runsAmong samples most i i (n - i) ≡ runsAmong samples most i (f .at) (n - f .at)
+    to-run : runsAmong samples most held i i (n - i) ≡ runsAmong samples most held i (f .at) (n - f .at)
     to-run =
         let left : n - i ≡ f .at - i + (n - f .at) = omega (arith, f .on, g .ends, g .inside) in
         let there : i + (f .at - i) ≡ f .at = omega (arith, f .on) in
-        runs-skip samples most i (f .at - i) i (n - i) (n - f .at) left (λ j a b. f .none-before j a (omega (arith, there)))
-        ∙ ap (λ (m : ℕ). runsAmong samples most i m (n - f .at)) there
+        runs-skip samples most held i (f .at - i) i (n - i) (n - f .at) left (λ j a b. f .none-before j a (omega (arith, there)))
+        ∙ ap (λ (m : ℕ). runsAmong samples most held i m (n - f .at)) there
 
     one : n - f .at ≡ suc (n - (f .at + 1))
     one = omega (arith, g .ends, g .inside)
 
-    to-end : runsAmong samples most i (f .at + 1) (n - (f .at + 1)) ≡ runsAmong samples most i end (n - end)
+    to-end : runsAmong samples most held i (f .at + 1) (n - (f .at + 1)) ≡ runsAmong samples most held i end (n - end)
     to-end =
         let more = end - (f .at + 1) in
         let left : n - (f .at + 1) ≡ more + (n - end) = omega (arith, g .ends, g .inside) in
         let there : f .at + 1 + more ≡ end = omega (arith, g .ends) in
-        runs-skip samples most i more (f .at + 1) (n - (f .at + 1)) (n - end) left
-        (λ j a b. none-within samples most i start len f j a (omega (arith, there)))
-        ∙ ap (λ (m : ℕ). runsAmong samples most i m (n - end)) there
+        runs-skip samples most held i more (f .at + 1) (n - (f .at + 1)) (n - end) left
+        (λ j a b. none-within samples most held i start len f j a (omega (arith, there)))
+        ∙ ap (λ (m : ℕ). runsAmong samples most held i m (n - end)) there
 
 -- ---- The scan is made over its runs
 
@@ -264,22 +264,22 @@ over [] c = c
 over (r ∷ rs) c = over rs (repairAt c (r .start) (r .len))
 
 -- a scan from place i on, with at most k runs to come, repairs the runs from there on
-abbrev Ends : ℕ → ℕ → ℕ → Scan → Type 0
-Ends most i k c = scanFrom most i k c ≡ over (runsAmong (c .after .samples) most i i (length (c .after .samples) - i)) c
+abbrev Ends : ℕ → ℕ → ℕ → ℕ → Scan → Type 0
+Ends most held i k c = scanFrom most held i k c ≡ over (runsAmong (c .after .samples) most held i i (length (c .after .samples) - i)) c
 
 -- no run is left
-ends-none : (most i k : ℕ) (c : Scan) → scanFrom most i k c ≡ c
-    → runsAmong (c .after .samples) most i i (length (c .after .samples) - i) ≡ [] → Ends most i k c
-ends-none most i k c stops none = stops ∙ ap (λ (rs : List Stretch). over rs c) (sym none)
+ends-none : (most held i k : ℕ) (c : Scan) → scanFrom most held i k c ≡ c
+    → runsAmong (c .after .samples) most held i i (length (c .after .samples) - i) ≡ [] → Ends most held i k c
+ends-none most held i k c stops none = stops ∙ ap (λ (rs : List Stretch). over rs c) (sym none)
 
 -- a run is left
-ends-more : (most i k : ℕ) (c : Scan) (start len : ℕ) → nextRun (c .after .samples) most i ≡ At start len
-    → Ends most (start + len) k (repairAt c start len) → Ends most i (suc k) c
-ends-more most i k c start len h rest =
-    scan-takes most i k start len c h
+ends-more : (most held i k : ℕ) (c : Scan) (start len : ℕ) → nextRun (c .after .samples) most held i ≡ At start len
+    → Ends most held (start + len) k (repairAt c start len) → Ends most held i (suc k) c
+ends-more most held i k c start len h rest =
+    scan-takes most held i k start len c h
     ∙ rest
     ∙ ap (λ (rs : List Stretch). over rs d) same
-    ∙ ap (λ (rs : List Stretch). over rs c) (sym (runs-behind before most i start len (found-run before most i start len h)))
+    ∙ ap (λ (rs : List Stretch). over rs c) (sym (runs-behind before most held i start len (found-run before most held i start len h)))
   where
     before : List ℕ
     before = c .after .samples
@@ -290,40 +290,40 @@ ends-more most i k c start len h rest =
     left : Behind (start + len) before (d .after .samples)
     left = repair-leaves start len sourcePasses (length (c .work)) (c .after)
 
-    same : runsAmong (d .after .samples) most (start + len) (start + len) (length (d .after .samples) - (start + len))
-        ≡ runsAmong before most (start + len) (start + len) (length before - (start + len))
+    same : runsAmong (d .after .samples) most held (start + len) (start + len) (length (d .after .samples) - (start + len))
+        ≡ runsAmong before most held (start + len) (start + len) (length before - (start + len))
     same =
-        ap (λ (m : ℕ). runsAmong (d .after .samples) most (start + len) (start + len) (m - (start + len))) (left .count)
-        ∙ behind-same before (d .after .samples) most (start + len) (length before - (start + len)) left
+        ap (λ (m : ℕ). runsAmong (d .after .samples) most held (start + len) (start + len) (m - (start + len))) (left .count)
+        ∙ behind-same before (d .after .samples) most held (start + len) (length before - (start + len)) left
 
 -- whatever is left, if there are no more places from i on than runs may come
-ends : (most k i : ℕ) (c : Scan) → length (c .after .samples) ≤ i + k → Ends most i k c
+ends : (most held k i : ℕ) (c : Scan) → length (c .after .samples) ≤ i + k → Ends most held i k c
 unfolding scanFrom runsAmong
-ends most zero i c h =
+ends most held zero i c h =
     let none : length (c .after .samples) - i ≡ 0 = omega arith in
-    ends-none most i 0 c refl (ap (runsAmong (c .after .samples) most i i) none)
-ends most (suc k) i c h = go (nextRun (c .after .samples) most i) refl (ends most k)
+    ends-none most held i 0 c refl (ap (runsAmong (c .after .samples) most held i i) none)
+ends most held (suc k) i c h = go (nextRun (c .after .samples) most held i) refl (ends most held k)
   where
-    go : (r : Run) → nextRun (c .after .samples) most i ≡ r
-        → ((j : ℕ) (d : Scan) → length (d .after .samples) ≤ j + k → Ends most j k d) → Ends most i (suc k) c
+    go : (r : Run) → nextRun (c .after .samples) most held i ≡ r
+        → ((j : ℕ) (d : Scan) → length (d .after .samples) ≤ j + k → Ends most held j k d) → Ends most held i (suc k) c
     go Nowhere e later =
-        ends-none most i (suc k) c (scan-stops most i (suc k) c e)
-        (none-among (c .after .samples) most i i (length (c .after .samples) - i) e)
+        ends-none most held i (suc k) c (scan-stops most held i (suc k) c e)
+        (none-among (c .after .samples) most held i i (length (c .after .samples) - i) e)
     go (At start len) e later =
-        let f = found-run (c .after .samples) most i start len e in
+        let f = found-run (c .after .samples) most held i start len e in
         let left = repair-leaves start len sourcePasses (length (c .work)) (c .after) in
-        ends-more most i k c start len e
+        ends-more most held i k c start len e
         (later (start + len) (repairAt c start len) (omega (arith, left .count, f .on, fits f .ends)))
 
 -- the scan of a whole call
-whole : (rate : ℕ) (ms : Float) (work : List Float) (s : State) → scannable rate ms s ≡ Done 0
-    → automatic rate ms work s ≡ over (runsOf (s .samples) (limit ms rate)) (scan 0 0 0 s work)
-whole rate ms work s h =
+whole : (rate : ℕ) (ms : Float) (held : ℕ) (work : List Float) (s : State) → scannable rate ms held s ≡ Done 0
+    → automatic rate ms held work s ≡ over (runsOf (s .samples) (limit ms rate) held) (scan 0 0 0 s work)
+whole rate ms held work s h =
     let most = limit ms rate in
     let c = scan 0 0 0 s work in
-    sym (automatic-scanned rate ms work s (Done 0) (sym h) 0 refl most _ refl refl)
-    ∙ ends most (length (s .samples)) 0 c (omega arith)
-    ∙ ap (λ (n : ℕ). over (runsAmong (s .samples) most 0 0 n) c) (sub-zero (length (s .samples)))
+    sym (automatic-scanned rate ms held work s (Done 0) (sym h) 0 refl most _ refl refl)
+    ∙ ends most held (length (s .samples)) 0 c (omega arith)
+    ∙ ap (λ (n : ℕ). over (runsAmong (s .samples) most held 0 0 n) c) (sub-zero (length (s .samples)))
 
 -- ---- What it leaves and returns
 
@@ -405,21 +405,21 @@ told (r ∷ rs) c = go (told rs d)
         }
 
 pub scan-is-its-runs : ScanIsItsRuns
-scan-is-its-runs rate ms work s h =
-    ap (λ (c : Scan). c .after) (whole rate ms work s h) ∙ told (runsOf (s .samples) (limit ms rate)) (scan 0 0 0 s work) .after
+scan-is-its-runs rate ms held work s h =
+    ap (λ (c : Scan). c .after) (whole rate ms held work s h) ∙ told (runsOf (s .samples) (limit ms rate) held) (scan 0 0 0 s work) .after
 
 pub scan-counts-its-runs : ScanCountsItsRuns
-scan-counts-its-runs rate ms work s h =
-    let all = whole rate ms work s h in
-    let t = told (runsOf (s .samples) (limit ms rate)) (scan 0 0 0 s work) in (
+scan-counts-its-runs rate ms held work s h =
+    let all = whole rate ms held work s h in
+    let t = told (runsOf (s .samples) (limit ms rate) held) (scan 0 0 0 s work) in (
       ap (λ (c : Scan). c .qualified) all ∙ t .qualified ∙ zero-add _,
       ap (λ (c : Scan). c .repaired) all ∙ t .repaired ∙ zero-add _,
       ap (λ (c : Scan). c .refused) all ∙ t .refused,
     )
 
 pub refused-scan : RefusedScan
-refused-scan rate ms work s why h =
-    sym (ap (λ (c : Scan). c .after) (automatic-refused rate ms work s (Refused why) (sym h) why _ refl refl))
+refused-scan rate ms held work s why h =
+    sym (ap (λ (c : Scan). c .after) (automatic-refused rate ms held work s (Refused why) (sym h) why _ refl refl))
 
 pub list-lawful : ListLawful
 list-lawful passes room [] = tt

@@ -53,53 +53,53 @@ module _ (samples : List ℕ) where
       let rest = same-rest (i + 1) (length samples - (i + 1)) (ap (λ (j : ℕ). zeroOrNan (getD samples j 0)) back ∙ z) in
       rw (left, z, rest) (add-one _)
 
-  same-tests : (n most w i len : ℕ) → zeroOrNan w ≡ true → qualifies n most w i len ≡ zerosQualify n most i len
+  same-tests : (n most held w i len : ℕ) → zeroOrNan w ≡ true → qualifies n most held w i len ≡ zerosQualify n most i len
   unfolding qualifies
-  same-tests n most w i len z =
+  same-tests n most held w i len z =
       let whole : i + 0 ≡ i = omega arith in
       let all : len - 0 ≡ len = omega arith in
-      rw (← enough-zeros w len z, kept-zeros w (zero-not-held w z), whole, all) refl
+      rw (← enough-zeros held w len z, kept-zeros w (zero-not-held w z), whole, all) refl
 
   -- ---- Elsewhere, where no word is held
 
-  module _ (nothing : NothingHeld samples) where
-    none-elsewhere : (most i : ℕ) → i < length samples → zeroAt samples i ≡ false → starts samples most 0 i ≡ false
+  module _ (held : ℕ) (nothing : NothingHeld held samples) where
+    none-elsewhere : (most i : ℕ) → i < length samples → zeroAt samples i ≡ false → starts samples most held 0 i ≡ false
     none-elsewhere most i inside other =
         let w = getD samples i 0 in
-        elim (truth (longEnough w (runAt samples i))) [
-          | inl t ↦ absurd (long (kind-of w (runAt samples i) t))
-          | inr t ↦ rw (sym (qualifies-short (length samples) most w i (runAt samples i) t), and-false) refl
+        elim (truth (longEnough held w (runAt samples i))) [
+          | inl t ↦ absurd (long (kind-of held w (runAt samples i) t))
+          | inr t ↦ rw (sym (qualifies-short (length samples) most held w i (runAt samples i) t), and-false) refl
         ]
       where
-        long : OfZeros (getD samples i 0) (runAt samples i) ⊎ OfHeld (getD samples i 0) (runAt samples i) → ⊥
+        long : OfZeros (getD samples i 0) (runAt samples i) ⊎ OfHeld held (getD samples i 0) (runAt samples i) → ⊥
         long (inl z) = both (z .zero) other
         long (inr k) =
-            nothing i (omega (arith, k .sixteen, run-within (continuesAt samples) (i + 1) (length samples - (i + 1)))) (k .held)
-            (λ j below. equal-words samples i j (k .held) (omega (arith, k .sixteen)))
+            nothing i (omega (arith, k .enough, run-within (continuesAt samples) (i + 1) (length samples - (i + 1)))) (k .word)
+            (λ j below. equal-words samples i j (k .word) (omega (arith, k .enough)))
 
 pub zeros-as-before : ZerosAsBefore
-zeros-as-before samples most i inside z =
+zeros-as-before samples most held i inside z =
     let long = same-length samples i inside z in (
-      rw (same-begin samples i z, same-tests samples (length samples) most (getD samples i 0) i (runAt samples i) z, long) refl,
+      rw (same-begin samples i z, same-tests samples (length samples) most held (getD samples i 0) i (runAt samples i) z, long) refl,
       long,
     )
 
 -- place by place
-as-before : (samples : List ℕ) (most i n : ℕ) → NothingHeld samples → i + n ≤ length samples
-    → runsAmong samples most 0 i n ≡ zerosAmong samples most i n
+as-before : (samples : List ℕ) (most held i n : ℕ) → NothingHeld held samples → i + n ≤ length samples
+    → runsAmong samples most held 0 i n ≡ zerosAmong samples most i n
 unfolding runsAmong zerosAmong
-as-before samples most i zero nothing inside = refl
-as-before samples most i (suc n) nothing inside = go (truth (zeroAt samples i)) (as-before samples most (i + 1) n nothing (omega arith))
+as-before samples most held i zero nothing inside = refl
+as-before samples most held i (suc n) nothing inside = go (truth (zeroAt samples i)) (as-before samples most held (i + 1) n nothing (omega arith))
   where
-    go : EitherWay (zeroAt samples i) → runsAmong samples most 0 (i + 1) n ≡ zerosAmong samples most (i + 1) n
-        → runsAmong samples most 0 i (suc n) ≡ zerosAmong samples most i (suc n)
+    go : EitherWay (zeroAt samples i) → runsAmong samples most held 0 (i + 1) n ≡ zerosAmong samples most (i + 1) n
+        → runsAmong samples most held 0 i (suc n) ≡ zerosAmong samples most i (suc n)
     go (inl z) later =
-        let same = zeros-as-before samples most i (omega arith) z in
+        let same = zeros-as-before samples most held i (omega arith) z in
         let whole : i + 0 ≡ i = omega arith in
         let all : zerosAt samples i - 0 ≡ zerosAt samples i = omega arith in
         rw (same .0, kept-zeros (getD samples i 0) (zero-not-held (getD samples i 0) z), same .1, whole, all, later) refl
     go (inr z) later =
-        rw (none-elsewhere samples nothing most i (omega arith) z, sym (begins-not (zeroAt samples) i z), later) refl
+        rw (none-elsewhere samples held nothing most i (omega arith) z, sym (begins-not (zeroAt samples) i z), later) refl
 
 pub unheld-as-before : UnheldAsBefore
-unheld-as-before samples most nothing = as-before samples most 0 (length samples) nothing (omega arith)
+unheld-as-before samples most held nothing = as-before samples most held 0 (length samples) nothing (omega arith)

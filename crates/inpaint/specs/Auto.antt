@@ -1,4 +1,4 @@
--- The automatic scan: document 01's `inpaint_auto` paragraph and request P1 of document 02, whose sentences the comments quote.
+-- The automatic scan: document 01's `inpaint_auto` paragraph and requests P1 and P11 of document 02, whose sentences the comments quote.
 -- Definitions only.
 use Prim.Native.Nat.{ℕ, zero, suc, _+_, _-_}
 use mathlib.Core.Bool.{Bool, not, _&&_, _||_}
@@ -25,6 +25,10 @@ use Rattle.inpaint.specs.declared.Run.the-variants.{At, Nowhere}
 -- "Rate at most 16,777,216 and finite max_gap_ms, else 4."
 abbrev pub allowed : ℕ → Float → Bool
 allowed rate ms = leb rate 16777216 && finite ms
+
+-- request P11 of document 02: "P1's run length, 2 to 4,096"
+abbrev pub heldAllowed : ℕ → Bool
+heldAllowed held = leb 2 held && leb held 4096
 
 -- "The limit is (max_gap_ms/1000)*rate in f32, raised to 1, cut to a whole number; a product of plus infinity means no limit":
 -- plus infinity is cut to the largest number of 64 bits, which no run reaches
@@ -62,15 +66,17 @@ runBegins samples from i = eqb i from || not (continuesAt samples i)
 abbrev pub runAt : List ℕ → ℕ → ℕ
 runAt samples i = runLength (continuesAt samples) (i + 1) (length samples - (i + 1)) + 1
 
--- "16 or more equal words"; "15 equal words are sound."
+-- "16 or more equal words"; "15 equal words are sound.": the number that request P1 named. "P1's number becomes this setting" (request
+-- P11), so no rule of the scan names it any more: the programs keep it ("the program keeps 16"), and a stored block of version 1 is given it.
 abbrev pub heldRun : ℕ
 heldRun = 16
 
 -- a run of so many samples, w the first of them, is a dropout: one of zeros and NaN "if its length is at least 2", one of a word that
--- is held if it has "16 or more"
-unfoldable pub longEnough : ℕ → ℕ → Bool
+-- is held if it has as many as the setting says, `held`, which stands where P1 had "16 or more equal words" ("at 2, a gap of one sample
+-- qualifies")
+unfoldable pub longEnough : ℕ → ℕ → ℕ → Bool
 unfolding zeroOrNan holdable
-longEnough w len = (zeroOrNan w && leb 2 len) || (holdable w && leb heldRun len)
+longEnough held w len = (zeroOrNan w && leb 2 len) || (holdable w && leb held len)
 
 -- its gap: all of it, but of a held word "its first sample is measured and the rest are the gap". This is how many samples the gap leaves
 -- at the run's begin;
@@ -90,28 +96,28 @@ abbrev pub gapAllowed : ℕ → ℕ → ℕ → ℕ → Bool
 gapAllowed n most start len = leb len most && ltb 0 start && ltb (start + len) n
 
 -- a run of so many samples from place i on, w the first of them, qualifies
-unfoldable pub qualifies : ℕ → ℕ → ℕ → ℕ → ℕ → Bool
+unfoldable pub qualifies : ℕ → ℕ → ℕ → ℕ → ℕ → ℕ → Bool
 unfolding longEnough kept
-qualifies n most w i len = longEnough w len && gapAllowed n most (i + kept w) (len - kept w)
+qualifies n most held w i len = longEnough held w len && gapAllowed n most (i + kept w) (len - kept w)
 
 -- a run that qualifies begins at place i, of the places from `from` on
-abbrev pub starts : List ℕ → ℕ → ℕ → ℕ → Bool
-starts samples most from i = runBegins samples from i && qualifies (length samples) most (getD samples i 0) i (runAt samples i)
+abbrev pub starts : List ℕ → ℕ → ℕ → ℕ → ℕ → Bool
+starts samples most held from i = runBegins samples from i && qualifies (length samples) most held (getD samples i 0) i (runAt samples i)
 
 -- ---- The search
 
 -- "The search answers with the first run from a place on that meets every condition, or with nothing if none exists": by the start and the
 -- length of its gap. Of the places from `from` on, among the n from i on.
-unfoldable pub nextAmong : List ℕ → ℕ → ℕ → ℕ → ℕ → Run
+unfoldable pub nextAmong : List ℕ → ℕ → ℕ → ℕ → ℕ → ℕ → Run
 unfolding runLength continues qualifies kept
-nextAmong samples most from i zero = Nowhere
-nextAmong samples most from i (suc n) =
-    let on = nextAmong samples most from (i + 1) n in
-    if starts samples most from i then At (gapAt samples i) (gapLength samples i) else on
+nextAmong samples most held from i zero = Nowhere
+nextAmong samples most held from i (suc n) =
+    let on = nextAmong samples most held from (i + 1) n in
+    if starts samples most held from i then At (gapAt samples i) (gapLength samples i) else on
 
 -- among all of them
-abbrev pub nextRun : List ℕ → ℕ → ℕ → Run
-nextRun samples most from = nextAmong samples most from from (length samples - from)
+abbrev pub nextRun : List ℕ → ℕ → ℕ → ℕ → Run
+nextRun samples most held from = nextAmong samples most held from from (length samples - from)
 
 -- ---- The scan
 
@@ -141,25 +147,25 @@ repairAt c start len =
 
 -- "The scan takes each such answer apart into start and length, or stops"; "the scan goes on after a refused one". From place i
 -- on, with at most n runs to come.
-unfoldable pub scanFrom : ℕ → ℕ → ℕ → Scan → Scan
+unfoldable pub scanFrom : ℕ → ℕ → ℕ → ℕ → Scan → Scan
 unfolding nextAmong gapRepair needed
-scanFrom most i zero c = c
-scanFrom most i (suc n) c =
-    elim (nextRun (c .after .samples) most i) [
+scanFrom most held i zero c = c
+scanFrom most held i (suc n) c =
+    elim (nextRun (c .after .samples) most held i) [
       | Nowhere ↦ c
-      | At start len ↦ scanFrom most (start + len) n (repairAt c start len)
+      | At start len ↦ scanFrom most held (start + len) n (repairAt c start len)
     ]
 
 -- refusals 1, 14 and 2 to 4, which "are tested once"; or else an acceptance
-unfoldable pub scannable : ℕ → Float → State → Answer
+unfoldable pub scannable : ℕ → Float → ℕ → State → Answer
 unfolding fitting
-scannable rate ms s = orElse (fitting s) (if allowed rate ms then Done 0 else Refused Setting)
+scannable rate ms held s = orElse (fitting s) (if allowed rate ms && heldAllowed held then Done 0 else Refused Setting)
 
 -- the call: refusals 1, 14 and 2 to 4 end it with nothing counted, and else it scans from the first place on
-unfoldable pub automatic : ℕ → Float → List Float → State → Scan
+unfoldable pub automatic : ℕ → Float → ℕ → List Float → State → Scan
 unfolding scannable scanFrom limit
-automatic rate ms w s =
-    elim (scannable rate ms s) [
-      | Done m ↦ scanFrom (limit ms rate) 0 (length (s .samples)) (scan 0 0 0 s w)
+automatic rate ms held w s =
+    elim (scannable rate ms held s) [
+      | Done m ↦ scanFrom (limit ms rate) held 0 (length (s .samples)) (scan 0 0 0 s w)
       | Refused why ↦ scan 0 0 (reasonNumber why) s w
     ]

@@ -20,7 +20,7 @@ use Rattle.recording.specs.declared.Answer.{Answer}
 use Rattle.recording.specs.declared.Answer.the-variants.{Done, Refused}
 use Rattle.model.specs.Model.{orderFor}
 use Rattle.inpaint.specs.Gap.{byLine, needed, gapPlan, gapRepair}
-use Rattle.inpaint.specs.Auto.{limit, heldRun, sourcePasses, scannable, automatic}
+use Rattle.inpaint.specs.Auto.{limit, sourcePasses, scannable, automatic}
 use Rattle.inpaint.specs.Runs.{Stretch, runsOf, singleCalls, gapCalls, runAnswers, OfEveryScan}
 use Rattle.inpaint.specs.Order.{gapOrder, scanOrders}
 
@@ -62,8 +62,8 @@ ScanLawful = (room : ℕ) (runs : List Stretch) → Lawful (gapCalls room runs)
 -- a scan that refusals 1, 14 and 2 to 4 turn away changes nothing
 abbrev pub RefusedScan : Type 0
 RefusedScan =
-    (rate : ℕ) (ms : Float) (work : List Float) (s : State) (why : Reason) → scannable rate ms s ≡ Refused why
-    → automatic rate ms work s .after ≡ s
+    (rate : ℕ) (ms : Float) (held : ℕ) (work : List Float) (s : State) (why : Reason) → scannable rate ms held s ≡ Refused why
+    → automatic rate ms held work s .after ≡ s
 
 -- something holds of the number of each of these answers, which for an acceptance is 0
 abbrev pub EachNumber : (ℕ → Type 0) → List Answer → Type 0
@@ -72,33 +72,33 @@ EachNumber P (a ∷ later) = P (number a) × EachNumber P later
 
 -- "Each run is one gap repair with its own answer from 6 to 9": an acceptance, or a refusal from 6 to 9
 abbrev pub OwnAnswers : Type 0
-OwnAnswers = OfEveryScan (λ rate ms work s. EachNumber (λ k. (k ≡ 0) ⊎ ((6 ≤ k) × (k ≤ 9))) (runAnswers rate ms work s))
+OwnAnswers = OfEveryScan (λ rate ms held work s. EachNumber (λ k. (k ≡ 0) ⊎ ((6 ≤ k) × (k ≤ 9))) (runAnswers rate ms held work s))
 
 -- none of these answers has the number k
 abbrev pub NoneHas : ℕ → List Answer → Type 0
 NoneHas k = EachNumber (λ j. j ≡ k → ⊥)
 
--- the most of the journal that runs can take: 55 words for 18 samples, those of a run of two zeros directly before a held run of 16, whose gap
--- has 15
-abbrev pub densePlaces : ℕ
-densePlaces = 2 + heldRun
+-- the most of the journal that runs can take: the words for the samples of a run of two zeros directly before a held run as short as the
+-- setting allows, whose gap has one sample less. For 16 they are 55 words for 18 samples.
+abbrev pub densePlaces : ℕ → ℕ
+densePlaces held = 2 + held
 
-abbrev pub denseWords : ℕ
-denseWords = entrySize 2 + entrySize (heldRun - 1)
+abbrev pub denseWords : ℕ → ℕ
+denseWords held = entrySize 2 + entrySize (held - 1)
 
--- where the journal has so many free words for the samples, no run is refused for want of room in it
+-- where the journal has so many free words for the samples, no run is refused for want of room in it, at every setting from 2 on
 abbrev pub DenseSuffices : Type 0
 DenseSuffices =
-    (rate : ℕ) (ms : Float) (work : List Float) (s : State)
-    → densePlaces * s .used + denseWords * length (s .samples) ≤ densePlaces * length (s .journal)
-    → NoneHas 9 (runAnswers rate ms work s)
+    (rate : ℕ) (ms : Float) (held : ℕ) (work : List Float) (s : State) → 2 ≤ held
+    → densePlaces held * s .used + denseWords held * length (s .samples) ≤ densePlaces held * length (s .journal)
+    → NoneHas 9 (runAnswers rate ms held work s)
 
 -- where the workspace suffices for every gap within the limit, no run is refused for want of workspace
 abbrev pub WideSuffices : Type 0
 WideSuffices =
-    (rate : ℕ) (ms : Float) (work : List Float) (s : State)
+    (rate : ℕ) (ms : Float) (held : ℕ) (work : List Float) (s : State)
     → ((start len : ℕ) → len ≤ limit ms rate → needed (length (s .samples)) start len ≤ length work)
-    → NoneHas 6 (runAnswers rate ms work s)
+    → NoneHas 6 (runAnswers rate ms held work s)
 
 -- ---- Of the model's order
 
@@ -124,13 +124,14 @@ GapHasNoSayInOrder =
 -- it is as long as it was
 abbrev pub ListAsLong : Type 0
 ListAsLong =
-    (rate : ℕ) (ms : Float) (work : List Float) (s : State) (orders : List ℕ) → length (scanOrders rate ms work s orders) ≡ length orders
+    (rate : ℕ) (ms : Float) (held : ℕ) (work : List Float) (s : State) (orders : List ℕ)
+    → length (scanOrders rate ms held work s orders) ≡ length orders
 
 -- a refusal "for the whole scan .. changes nothing, work and orders among it"
 abbrev pub RefusedScanKeepsList : Type 0
 RefusedScanKeepsList =
-    (rate : ℕ) (ms : Float) (work : List Float) (s : State) (orders : List ℕ) (why : Reason) → scannable rate ms s ≡ Refused why
-    → scanOrders rate ms work s orders ≡ orders
+    (rate : ℕ) (ms : Float) (held : ℕ) (work : List Float) (s : State) (orders : List ℕ) (why : Reason)
+    → scannable rate ms held s ≡ Refused why → scanOrders rate ms held work s orders ≡ orders
 
 -- what stands at a place of a run's gap, where `old` stood before: the order of the model that repaired it, or else `old`
 abbrev pub orderThere : ℕ → Stretch → State → ℕ → ℕ
@@ -144,10 +145,10 @@ orderThere room r s old =
 abbrev pub OrdersAtRuns : Type 0
 OrdersAtRuns =
     OfEveryScan
-    (λ rate ms work s.
-    (orders : List ℕ) (before later : List Stretch) (r : Stretch) (j : ℕ) → runsOf (s .samples) (limit ms rate) ≡ before ++ (r ∷ later)
+    (λ rate ms held work s.
+    (orders : List ℕ) (before later : List Stretch) (r : Stretch) (j : ℕ) → runsOf (s .samples) (limit ms rate) held ≡ before ++ (r ∷ later)
     → r .start ≤ j → j < r .start + r .len → j < length orders
-    → getD (scanOrders rate ms work s orders) j 0
+    → getD (scanOrders rate ms held work s orders) j 0
     ≡ orderThere (length work) r (run (gapCalls (length work) before) s) (getD orders j 0))
 
 -- a run of the scan that repaired the sample at place j by the model
@@ -167,18 +168,18 @@ pub record MadeByModel (room : ℕ) (s : State) (runs : List Stretch) (j : ℕ) 
 abbrev pub MarkedHasItsOrder : Type 0
 MarkedHasItsOrder =
     OfEveryScan
-    (λ rate ms work s.
-    (orders : List ℕ) (j : ℕ) → (getD (s .marks) j 0 ≡ gapByModel → ⊥) → getD (automatic rate ms work s .after .marks) j 0 ≡ gapByModel
+    (λ rate ms held work s.
+    (orders : List ℕ) (j : ℕ) → (getD (s .marks) j 0 ≡ gapByModel → ⊥) → getD (automatic rate ms held work s .after .marks) j 0 ≡ gapByModel
     → j < length orders
-    → (made : MadeByModel (length work) s (runsOf (s .samples) (limit ms rate)) j)
-    × (getD (scanOrders rate ms work s orders) j 0
+    → (made : MadeByModel (length work) s (runsOf (s .samples) (limit ms rate) held) j)
+    × (getD (scanOrders rate ms held work s orders) j 0
     ≡ gapOrder (made .stretch .start) (made .stretch .len) sourcePasses (length work) (run (gapCalls (length work) (made .before)) s)))
 
 -- "Every other place of it stays: of a sample that was not repaired, .. and what lies behind the samples."
 abbrev pub OrdersElsewhere : Type 0
 OrdersElsewhere =
     OfEveryScan
-    (λ rate ms work s.
+    (λ rate ms held work s.
     (orders : List ℕ) (j : ℕ)
-    → ((r : Stretch) → Among r (runsOf (s .samples) (limit ms rate)) → r .start ≤ j → j < r .start + r .len → ⊥)
-    → getD (scanOrders rate ms work s orders) j 0 ≡ getD orders j 0)
+    → ((r : Stretch) → Among r (runsOf (s .samples) (limit ms rate) held) → r .start ≤ j → j < r .start + r .len → ⊥)
+    → getD (scanOrders rate ms held work s orders) j 0 ≡ getD orders j 0)

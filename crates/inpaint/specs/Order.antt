@@ -53,10 +53,10 @@ ordersOver room (r ∷ rs) s orders =
     ordersOver room rs (e .after) (noted r (e .answer) (gapOrder (r .start) (r .len) sourcePasses room s) orders)
 
 -- of the runs of a scan, which a refusal "for the whole scan" leaves as it was
-unfoldable pub scanOrders : ℕ → Float → List Float → State → List ℕ → List ℕ
+unfoldable pub scanOrders : ℕ → Float → ℕ → List Float → State → List ℕ → List ℕ
 unfolding scannable limit runsAmong ordersOver
-scanOrders rate ms work s orders =
-    elim (scannable rate ms s) [
-      | Done m ↦ ordersOver (length work) (runsOf (s .samples) (limit ms rate)) s orders
+scanOrders rate ms held work s orders =
+    elim (scannable rate ms held s) [
+      | Done m ↦ ordersOver (length work) (runsOf (s .samples) (limit ms rate) held) s orders
       | Refused why ↦ orders
     ]

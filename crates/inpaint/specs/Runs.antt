@@ -26,16 +26,16 @@ abbrev pub stretch : ℕ → ℕ → Stretch
 stretch start len = record { start = start; len = len }
 
 -- the runs of the places from `from` on that qualify, ascending: those that begin at one of the n places from i on
-unfoldable pub runsAmong : List ℕ → ℕ → ℕ → ℕ → ℕ → List Stretch
+unfoldable pub runsAmong : List ℕ → ℕ → ℕ → ℕ → ℕ → ℕ → List Stretch
 unfolding runLength continues qualifies kept
-runsAmong samples most from i zero = []
-runsAmong samples most from i (suc n) =
-    let later = runsAmong samples most from (i + 1) n in
-    if starts samples most from i then stretch (gapAt samples i) (gapLength samples i) ∷ later else later
+runsAmong samples most held from i zero = []
+runsAmong samples most held from i (suc n) =
+    let later = runsAmong samples most held from (i + 1) n in
+    if starts samples most held from i then stretch (gapAt samples i) (gapLength samples i) ∷ later else later
 
 -- those of the whole recording
-abbrev pub runsOf : List ℕ → ℕ → List Stretch
-runsOf samples most = runsAmong samples most 0 0 (length samples)
+abbrev pub runsOf : List ℕ → ℕ → ℕ → List Stretch
+runsOf samples most held = runsAmong samples most held 0 0 (length samples)
 
 -- the calls that repair gaps one after the other, each with so many passes and so many doubles of workspace
 abbrev pub singleCalls : ℕ → ℕ → List Stretch → List Call
@@ -53,11 +53,11 @@ answers [] s = []
 answers (c ∷ cs) s = did c s .answer ∷ answers cs (did c s .after)
 
 -- the calls of a scan, and what each of its runs answers
-abbrev pub scanCalls : ℕ → Float → List Float → State → List Call
-scanCalls rate ms work s = gapCalls (length work) (runsOf (s .samples) (limit ms rate))
+abbrev pub scanCalls : ℕ → Float → ℕ → List Float → State → List Call
+scanCalls rate ms held work s = gapCalls (length work) (runsOf (s .samples) (limit ms rate) held)
 
-abbrev pub runAnswers : ℕ → Float → List Float → State → List Answer
-runAnswers rate ms work s = answers (scanCalls rate ms work s) s
+abbrev pub runAnswers : ℕ → Float → ℕ → List Float → State → List Answer
+runAnswers rate ms held work s = answers (scanCalls rate ms held work s) s
 
 -- how many of these answers are acceptances
 abbrev pub acceptances : List Answer → ℕ
@@ -72,19 +72,19 @@ firstRefusal (Done m ∷ later) = firstRefusal later
 firstRefusal (Refused why ∷ later) = reasonNumber why
 
 -- something holds of every scan that refusals 1, 14 and 2 to 4 do not turn away
-abbrev pub OfEveryScan : (ℕ → Float → List Float → State → Type 0) → Type 0
+abbrev pub OfEveryScan : (ℕ → Float → ℕ → List Float → State → Type 0) → Type 0
 OfEveryScan P =
-    (rate : ℕ) (ms : Float) (work : List Float) (s : State) → scannable rate ms s ≡ Done 0 → P rate ms work s
+    (rate : ℕ) (ms : Float) (held : ℕ) (work : List Float) (s : State) → scannable rate ms held s ≡ Done 0 → P rate ms held work s
 
 -- the recording after the scan is the recording after these calls
 abbrev pub ScanIsItsRuns : Type 0
-ScanIsItsRuns = OfEveryScan (λ rate ms work s. automatic rate ms work s .after ≡ run (scanCalls rate ms work s) s)
+ScanIsItsRuns = OfEveryScan (λ rate ms held work s. automatic rate ms held work s .after ≡ run (scanCalls rate ms held work s) s)
 
 -- "Returned: runs qualified, runs repaired, number of the first refusal or 0."
 abbrev pub ScanCountsItsRuns : Type 0
 ScanCountsItsRuns =
     OfEveryScan
-    (λ rate ms work s.
-    (automatic rate ms work s .qualified ≡ length (runsOf (s .samples) (limit ms rate)))
-    × (automatic rate ms work s .repaired ≡ acceptances (runAnswers rate ms work s))
-    × (automatic rate ms work s .refused ≡ firstRefusal (runAnswers rate ms work s)))
+    (λ rate ms held work s.
+    (automatic rate ms held work s .qualified ≡ length (runsOf (s .samples) (limit ms rate) held))
+    × (automatic rate ms held work s .repaired ≡ acceptances (runAnswers rate ms held work s))
+    × (automatic rate ms held work s .refused ≡ firstRefusal (runAnswers rate ms held work s)))

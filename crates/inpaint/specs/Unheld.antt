@@ -8,7 +8,7 @@ use lib.ListN.{length, getD}
 use lib.Dec.{leb}
 use Rattle.leaves.specs.Choice.{if_then_else_}
 use Rattle.recording.specs.Runs.{begins, runLength}
-use Rattle.inpaint.specs.Auto.{zeroOrNan, holdable, runAt, heldRun, gapAllowed, starts}
+use Rattle.inpaint.specs.Auto.{zeroOrNan, holdable, runAt, gapAllowed, starts}
 use Rattle.inpaint.specs.Runs.{Stretch, stretch, runsOf}
 
 -- ---- The runs of document 01
@@ -40,18 +40,18 @@ zerosOf samples most = zerosAmong samples most 0 (length samples)
 
 -- ---- What did not change
 
--- at a zero or a NaN of any recording a run begins and qualifies exactly where one did, and is as long
+-- at a zero or a NaN of any recording a run begins and qualifies exactly where one did, and is as long, whatever the setting for held words
 abbrev pub ZerosAsBefore : Type 0
 ZerosAsBefore =
-    (samples : List ℕ) (most i : ℕ) → i < length samples → zeroAt samples i ≡ true
-    → (starts samples most 0 i ≡ zerosStart samples most i) × (runAt samples i ≡ zerosAt samples i)
+    (samples : List ℕ) (most held i : ℕ) → i < length samples → zeroAt samples i ≡ true
+    → (starts samples most held 0 i ≡ zerosStart samples most i) × (runAt samples i ≡ zerosAt samples i)
 
--- nowhere "16 or more equal words, in range and not zero"
-abbrev pub NothingHeld : List ℕ → Type 0
-NothingHeld samples =
-    (i : ℕ) → i + heldRun ≤ length samples → holdable (getD samples i 0) ≡ true
-    → ((k : ℕ) → k < heldRun → getD samples (i + k) 0 ≡ getD samples i 0) → ⊥
+-- nowhere "16 or more equal words, in range and not zero", where `held` stands for the 16
+abbrev pub NothingHeld : ℕ → List ℕ → Type 0
+NothingHeld held samples =
+    (i : ℕ) → i + held ≤ length samples → holdable (getD samples i 0) ≡ true
+    → ((k : ℕ) → k < held → getD samples (i + k) 0 ≡ getD samples i 0) → ⊥
 
 -- a recording without a held word has the runs that it had
 abbrev pub UnheldAsBefore : Type 0
-UnheldAsBefore = (samples : List ℕ) (most : ℕ) → NothingHeld samples → runsOf samples most ≡ zerosOf samples most
+UnheldAsBefore = (samples : List ℕ) (most held : ℕ) → NothingHeld held samples → runsOf samples most held ≡ zerosOf samples most

@@ -1,12 +1,14 @@
 // The automatic scan for dropouts.
 ghost use mathlib.Core.Path.{_≡_};
+ghost use mathlib.Core.Bool.{_&&_};
 ghost use Prim.Native.Nat.{_+_, _≤_, _<_};
 ghost use lib.ListN.{length, replicate};
 ghost use lib.Seq.{sets};
 ghost use lib.Dec.{eqb};
 ghost use lib.Ieee.{toUnsigned};
 ghost use Rattle.leaves.specs.Choice.{if_then_else_};
-ghost use Rattle.inpaint.specs.Auto.{allowed, limit, zeroOrNan, holdable, continues, runBegins, longEnough, kept, gapAllowed, qualifies};
+ghost use Rattle.inpaint.specs.Auto.{allowed, heldAllowed, limit, zeroOrNan, holdable, continues, runBegins, longEnough, kept};
+ghost use Rattle.inpaint.specs.Auto.{gapAllowed, qualifies};
 ghost use Rattle.inpaint.specs.Auto.{nextRun, scan, scanFrom, scannable, automatic};
 ghost use Rattle.inpaint.specs.Order.{noted, ordersOver, scanOrders};
 ghost use Rattle.inpaint.specs.Runs.{stretch, runsOf};
@@ -31,8 +33,14 @@ const MOST_RATE: u32 = 16_777_216;
 // How many passes the original makes at each run.
 const PASSES: u32 = 3;
 
-// From how many equal words on a run of them is a dropout; fewer are sound.
-const HELD_RUN: usize = 16;
+// From how many equal words on a run of them is a dropout, and fewer are sound, is a setting of the scan. This
+// is what the programs keep.
+pub const HELD_RUN: u32 = 16;
+
+// The least that the setting can be, of which the gap is one sample, and the most.
+pub const LEAST_HELD_RUN: u32 = 2;
+
+pub const MOST_HELD_RUN: u32 = 4_096;
 
 // x cut to a whole number of 64 bits, as Rust's `as`: beyond either end of the range that end, and 0 for
 // a NaN. The range ends one below 2 ^ 64, which is 18446744073709551616.
@@ -62,9 +70,9 @@ fn longest_run(millis: f32, rate: u32) -> usize
     whole_part(larger32(product, 1.0)) as usize
 }
 
-// Whether the settings are allowed: a rate that an f32 holds, and a limit between the infinities, which
-// a NaN is not.
-fn settings_allowed(rate: u32, millis: f32) -> bool
+// Whether the settings of the limit are allowed: a rate that an f32 holds, and a limit between the infinities,
+// which a NaN is not.
+pub fn settings_allowed(rate: u32, millis: f32) -> bool
     ensures { λ r. ⌜ r ≡ allowed rate millis ⌝ }
 {
     if MOST_RATE < rate {
@@ -76,6 +84,26 @@ fn settings_allowed(rate: u32, millis: f32) -> bool
     } else {
         false
     }
+}
+
+// Whether the setting for held words is allowed.
+pub fn held_allowed(held: u32) -> bool
+    ensures { λ r. ⌜ r ≡ heldAllowed held ⌝ }
+{
+    if held < LEAST_HELD_RUN {
+        return false;
+    }
+    held <= MOST_HELD_RUN
+}
+
+// Whether all settings of a scan are allowed.
+fn scan_allowed(rate: u32, millis: f32, held: u32) -> bool
+    ensures { λ r. ⌜ r ≡ allowed rate millis && heldAllowed held ⌝ }
+{
+    if !settings_allowed(rate, millis) {
+        return false;
+    }
+    held_allowed(held)
 }
 
 // Whether a sample is equal to zero or NaN.
@@ -122,9 +150,9 @@ fn run_begins(samples: &[u32], from: usize, i: usize) -> bool
 }
 
 // Whether a run of `len` samples that begins with a word is long enough for a dropout: two zeros or NaN are,
-// and HELD_RUN of a word that is held.
-fn is_long_enough(word: u32, len: usize) -> bool
-    ensures { λ r. ⌜ r ≡ longEnough word len ⌝ }
+// and `held` of a word that is held.
+fn is_long_enough(held: usize, word: u32, len: usize) -> bool
+    ensures { λ r. ⌜ r ≡ longEnough held word len ⌝ }
 {
     if is_zero_or_nan(word) {
         return 2 <= len;
@@ -132,7 +160,7 @@ fn is_long_enough(word: u32, len: usize) -> bool
     if !is_holdable(word) {
         return false;
     }
-    HELD_RUN <= len
+    held <= len
 }
 
 // How many samples of a run that begins with a word stand before its gap: the one that was measured before
@@ -159,11 +187,11 @@ fn is_gap_allowed(n: usize, most: usize, start: usize, len: usize) -> bool
 
 // Whether a run of `len` samples from place `start` on that begins with a word qualifies, in a recording of
 // n samples.
-fn run_qualifies(n: usize, most: usize, word: u32, start: usize, len: usize) -> bool
+fn run_qualifies(n: usize, most: usize, held: usize, word: u32, start: usize, len: usize) -> bool
     requires { ⌜ (1 ≤ len) × (start + len ≤ n) ⌝ }
-    ensures { λ r. ⌜ r ≡ qualifies n most word start len ⌝ }
+    ensures { λ r. ⌜ r ≡ qualifies n most held word start len ⌝ }
 {
-    if !is_long_enough(word, len) {
+    if !is_long_enough(held, word, len) {
         return false;
     }
     let kept = kept_of(word);
@@ -174,8 +202,8 @@ fn run_qualifies(n: usize, most: usize, word: u32, start: usize, len: usize) -> 
 // place, and the inner one follows a run that begins there to its end. A run that reaches the recording's
 // end does not qualify, so that the inner scan has nothing to say of it. Each run is followed once, and what
 // stands before place `from`, where a gap may have been filled, is not looked at.
-pub fn next_run(samples: &[u32], most: usize, from: usize) -> Run
-    ensures { λ r. ⌜ r ≡ nextRun (now (samples .entry)) most from ⌝ }
+pub fn next_run(samples: &[u32], most: usize, held: usize, from: usize) -> Run
+    ensures { λ r. ⌜ r ≡ nextRun (now (samples .entry)) most held from ⌝ }
 {
     let n = samples.len();
     let mut found = Run::Nowhere;
@@ -188,7 +216,7 @@ pub fn next_run(samples: &[u32], most: usize, from: usize) -> Run
             let mut end = start + 1;
             while end < n {
                 if !continues_run(samples[end - 1], samples[end]) {
-                    if run_qualifies(n, most, word, start, end - start) {
+                    if run_qualifies(n, most, held, word, start, end - start) {
                         let kept = kept_of(word);
                         found = Run::At(start + kept, end - start - kept);
                         break 'search;
@@ -211,14 +239,15 @@ fn check_scan(
     used: usize,
     rate: u32,
     millis: f32,
+    held: u32,
 ) -> Answer
-    ensures { λ r. ⌜ r ≡ scannable rate millis (seen samples marks counts journal used) ⌝ }
+    ensures { λ r. ⌜ r ≡ scannable rate millis held (seen samples marks counts journal used) ⌝ }
 {
     let sized = check_sizes(samples, marks, counts, journal, used);
     let Answer::Done(_) = sized else {
         return sized;
     };
-    if settings_allowed(rate, millis) {
+    if scan_allowed(rate, millis, held) {
         Answer::Done(0)
     } else {
         Answer::Refused(Reason::Setting)
@@ -269,8 +298,9 @@ fn note_order(orders: &mut [u32], start: usize, len: usize, filled: GapAnswer)
     }
 }
 
-// Finds the dropout runs that qualify, one behind the other, and repairs the gap of each, of at most `most`
-// samples, with the order of its model noted at its places; a refused one does not end the scan.
+// Finds the dropout runs that qualify, one behind the other, where a word is held from `held` equal ones on, and
+// repairs the gap of each, of at most `most` samples, with the order of its model noted at its places; a refused
+// one does not end the scan.
 fn repair_runs(
     samples: &mut [u32],
     marks: &mut [u8],
@@ -278,13 +308,14 @@ fn repair_runs(
     journal: &mut [u32],
     used: &mut usize,
     most: usize,
+    held: usize,
     work: &mut [f64],
     orders: &mut [u32],
 ) -> Scanned
     ensures { λ r. ⌜ (scan (r .qualified) (r .repaired) (r .refused) (left samples marks counts journal used) (now (work .exit))
-        ≡ scanFrom most 0 (length (now (samples .entry))) (scan 0 0 0 (lent samples marks counts journal used) (now (work .entry))))
+        ≡ scanFrom most held 0 (length (now (samples .entry))) (scan 0 0 0 (lent samples marks counts journal used) (now (work .entry))))
         × (now (orders .exit)
-        ≡ ordersOver (length (now (work .entry))) (runsOf (now (samples .entry)) most) (lent samples marks counts journal used) (now (orders .entry))) ⌝ }
+        ≡ ordersOver (length (now (work .entry))) (runsOf (now (samples .entry)) most held) (lent samples marks counts journal used) (now (orders .entry))) ⌝ }
 {
     let n = samples.len();
     let mut qualified: usize = 0;
@@ -292,7 +323,7 @@ fn repair_runs(
     let mut refused: u32 = 0;
     let mut at: usize = 0;
     while at < n {
-        let found = next_run(samples, most, at);
+        let found = next_run(samples, most, held, at);
         let Run::At(start, len) = found else {
             break;
         };
@@ -332,14 +363,15 @@ pub fn inpaint_auto(
     used: &mut usize,
     rate: u32,
     millis: f32,
+    held: u32,
     work: &mut [f64],
     orders: &mut [u32],
 ) -> Scanned
     ensures { λ r. ⌜ (scan (r .qualified) (r .repaired) (r .refused) (left samples marks counts journal used) (now (work .exit))
-        ≡ automatic rate millis (now (work .entry)) (lent samples marks counts journal used))
-        × (now (orders .exit) ≡ scanOrders rate millis (now (work .entry)) (lent samples marks counts journal used) (now (orders .entry))) ⌝ }
+        ≡ automatic rate millis held (now (work .entry)) (lent samples marks counts journal used))
+        × (now (orders .exit) ≡ scanOrders rate millis held (now (work .entry)) (lent samples marks counts journal used) (now (orders .entry))) ⌝ }
 {
-    let checked = check_scan(samples, marks, counts, journal, *used, rate, millis);
+    let checked = check_scan(samples, marks, counts, journal, *used, rate, millis, held);
     let Answer::Done(_) = checked else {
         return Scanned {
             qualified: 0,
@@ -348,5 +380,15 @@ pub fn inpaint_auto(
         };
     };
     let most = longest_run(millis, rate);
-    repair_runs(samples, marks, counts, journal, used, most, work, orders)
+    repair_runs(
+        samples,
+        marks,
+        counts,
+        journal,
+        used,
+        most,
+        held as usize,
+        work,
+        orders,
+    )
 }

@@ -13,16 +13,17 @@ use Rattle.recording.specs.Counts.{blocks}
 use Rattle.recording.specs.declared.Answer.{Answer}
 use Rattle.inpaint.specs.Auto.{Scan, automatic}
 use Rattle.inpaint.specs.Order.{scanOrders}
-use Rattle.monitor.specs.Scanning.{mostInput, rate, journalWords, mostBlocks, unopened, workspace, scanning, scanningOrders}
+use Rattle.monitor.specs.Scanning.{mostInput, rate, heldWords, journalWords, mostBlocks, unopened, workspace, scanning, scanningOrders}
 
 -- a scan with the code's limit, and its list of orders
 pub scanned-so : (s : State) (work : List Float) (orders left : List ℕ) (scanned : Scan)
-    → (scanned ≡ automatic rate (ofBits binary32 1065353216) work s) × (left ≡ scanOrders rate (ofBits binary32 1065353216) work s orders)
+    → (scanned ≡ automatic rate (ofBits binary32 1065353216) heldWords work s)
+    × (left ≡ scanOrders rate (ofBits binary32 1065353216) heldWords work s orders)
     → (scanned ≡ scanning work s) × (left ≡ scanningOrders work s orders)
 unfolding scanning scanningOrders
 scanned-so s work orders left scanned h = (
-  h .0 ∙ ap (λ (ms : Float). automatic rate ms work s) one-word,
-  h .1 ∙ ap (λ (ms : Float). scanOrders rate ms work s orders) one-word,
+  h .0 ∙ ap (λ (ms : Float). automatic rate ms heldWords work s) one-word,
+  h .1 ∙ ap (λ (ms : Float). scanOrders rate ms heldWords work s orders) one-word,
 )
 
 -- a scan of what an opening left

@@ -10,7 +10,7 @@ use Rattle.leaves.specs.Arithmetic.{one}
 use Rattle.recording.specs.Recording.{State, state}
 use Rattle.recording.specs.Counts.{blocks}
 use Rattle.recording.specs.History.{fresh}
-use Rattle.inpaint.specs.Auto.{Scan, limit, automatic}
+use Rattle.inpaint.specs.Auto.{Scan, limit, heldRun, automatic}
 use Rattle.inpaint.specs.Order.{scanOrders}
 use Rattle.inpaint.specs.Runs.{runAnswers}
 use Rattle.inpaint.specs.Consequences.{NoneHas}
@@ -28,6 +28,10 @@ rate = 48000
 -- "the limit 1 ms"
 abbrev pub limitMs : Float
 limitMs = one
+
+-- "the program keeps 16" (request P11 of document 02), P1's number: from so many equal words on they are a dropout
+abbrev pub heldWords : ℕ
+heldWords = heldRun
 
 -- "The program's journal becomes 12,800 words" (request P1 of document 02)
 abbrev pub journalWords : ℕ
@@ -48,12 +52,12 @@ workspace = 4788
 -- "It runs `inpaint_auto` at rate 48,000 with the limit 1 ms (48 samples)", on a recording that was opened
 unfoldable pub scanning : List Float → State → Scan
 unfolding automatic
-scanning work s = automatic rate limitMs work s
+scanning work s = automatic rate limitMs heldWords work s
 
 -- and what it leaves in the list of the models' orders (request P8 of document 02)
 unfoldable pub scanningOrders : List Float → State → List ℕ → List ℕ
 unfolding scanOrders
-scanningOrders work s orders = scanOrders rate limitMs work s orders
+scanningOrders work s orders = scanOrders rate limitMs heldWords work s orders
 
 -- ---- The report
 
@@ -84,10 +88,10 @@ LimitIs48 = limit limitMs rate ≡ 48
 abbrev pub JournalSuffices : Type 0
 JournalSuffices =
     (words marks : List ℕ) (work : List Float) → length words ≤ mostInput
-    → NoneHas 9 (runAnswers rate limitMs work (fresh words marks journalWords))
+    → NoneHas 9 (runAnswers rate limitMs heldWords work (fresh words marks journalWords))
 
 -- and none of any recording for want of workspace
 abbrev pub WorkspaceSuffices : Type 0
 WorkspaceSuffices =
     (words marks : List ℕ) (room : ℕ) (work : List Float) → workspace ≤ length work
-    → NoneHas 6 (runAnswers rate limitMs work (fresh words marks room))
+    → NoneHas 6 (runAnswers rate limitMs heldWords work (fresh words marks room))

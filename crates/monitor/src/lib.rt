@@ -7,6 +7,7 @@ ghost use Rattle.monitor.specs.Reading.{Within};
 ghost use Rattle.monitor.specs.Scanning.{scanning, scanningOrders};
 ghost use Rattle.recording.specs.Lent.{left, lent};
 use inpaint::Scanned;
+use inpaint::auto::HELD_RUN;
 use inpaint::auto::inpaint_auto;
 use recording::marks::GAP_BY_MODEL;
 use recording::marks::MEASURED;
@@ -51,7 +52,8 @@ pub fn print_bad_input() {
     io::write_all(1, b"bad input\n");
 }
 
-// Repairs the dropouts within the limit of a recording that was opened, and notes the orders of the models.
+// Repairs the dropouts within the limit of a recording that was opened, where 16 equal words are one, and notes
+// the orders of the models.
 pub fn scan_recording(
     samples: &mut [u32],
     marks: &mut [u8],
@@ -73,6 +75,7 @@ pub fn scan_recording(
         used,
         RATE,
         LIMIT_MS,
+        HELD_RUN,
         work,
         orders,
     )

@@ -22,6 +22,7 @@ use dequant::cosparse::dequantize_cosparse;
 use dequant::passes::dequantize;
 use inpaint::GapAnswer;
 use inpaint::Scanned;
+use inpaint::auto::HELD_RUN;
 use inpaint::auto::inpaint_auto;
 use inpaint::gap::inpaint_gap;
 use leaves::words::f32_of_word;
@@ -255,6 +256,7 @@ fn scan(
         &mut used,
         rate,
         millis,
+        HELD_RUN,
         &mut work,
         &mut orders,
     ))

@@ -1,6 +1,6 @@
 -- The scan for dropouts: its settings, its limit and its refusals, and the scan run by run. Assumes nothing.
 use mathlib.Core.Path.{_≡_, refl, sym, ap, subst, _∙_}
-use mathlib.Core.Bool.{Bool, true, false, not, cond, true≢false, false≢true}
+use mathlib.Core.Bool.{Bool, true, false, not, _&&_, cond, true≢false, false≢true}
 use mathlib.Core.List.{List}
 use mathlib.Core.Logic.{inl, inr}
 use Prim.Native.Nat.{ℕ, zero, suc, _+_, _-_, _*_, _/_, _≤_, _<_, min}
@@ -25,9 +25,9 @@ use Rattle.recording.specs.declared.Reason.{Reason}
 use Rattle.recording.specs.declared.Reason.the-variants.{Setting}
 use Rattle.recording.specs.declared.Answer.{Answer}
 use Rattle.recording.specs.declared.Answer.the-variants.{Done, Refused}
-use Rattle.leaves.proofs.Choice.{truth, EitherWay}
+use Rattle.leaves.proofs.Choice.{truth, EitherWay, both-hold}
 use Rattle.inpaint.specs.Gap.{needed, gapRepair}
-use Rattle.inpaint.specs.Auto.{allowed, limit, nextRun, Scan, scan, repairAt, scanFrom, scannable, automatic}
+use Rattle.inpaint.specs.Auto.{allowed, heldAllowed, limit, nextRun, Scan, scan, repairAt, scanFrom, scannable, automatic}
 use Rattle.inpaint.specs.Runs.{stretch}
 use Rattle.inpaint.specs.Order.{noted}
 use Rattle.inpaint.specs.declared.Run.{Run}
@@ -77,6 +77,20 @@ limit-between rate ms r h = rw (le-leb rate 16777216 r, plus-infinity) (between 
 
 pub limit-beyond : (rate : ℕ) (ms : Float) → rate ≤ 16777216 → lt ms unbounded ≡ false → false ≡ allowed rate ms
 limit-beyond rate ms r h = rw (le-leb rate 16777216 r) (beyond ms (rw plus-infinity at h))
+
+-- how many words are held, from the least to the most
+pub held-few : (held : ℕ) → held < 2 → false ≡ heldAllowed held
+held-few held h = rw (lt-leb 2 held h) refl
+
+pub held-most : (held : ℕ) → 2 ≤ held → leb held 4096 ≡ heldAllowed held
+held-most held h = rw (le-leb 2 held h) refl
+
+-- both settings together
+pub first-fails : (a b p : Bool) → a ≡ p → a ≡ false → false ≡ p && b
+first-fails a b p e h = rw (← e, h) refl
+
+pub second-decides : (a b p : Bool) → a ≡ p → a ≡ true → b ≡ p && b
+second-decides a b p e h = rw (← e, h) refl
 
 -- ---- a float cut to a whole number
 
@@ -140,28 +154,28 @@ limit-is ms rate k l r a b c = c ∙ ap (toUnsigned 64) (b ∙ rw (a, thousand, 
 
 -- ---- refusals 1, 14 and 2 to 4
 
-abbrev settled : ℕ → Float → Answer → Answer
-settled rate ms sized =
-    orElse sized (if allowed rate ms then Done 0 else Refused Setting)
+abbrev settled : ℕ → Float → ℕ → Answer → Answer
+settled rate ms held sized =
+    orElse sized (if allowed rate ms && heldAllowed held then Done 0 else Refused Setting)
 
-module _ (rate : ℕ) (ms : Float) (s : State) (sized : Answer) (answered : sized ≡ fitting s) where
-  opened : settled rate ms sized ≡ scannable rate ms s
+module _ (rate : ℕ) (ms : Float) (held : ℕ) (s : State) (sized : Answer) (answered : sized ≡ fitting s) where
+  opened : settled rate ms held sized ≡ scannable rate ms held s
   unfolding scannable
-  opened = ap (settled rate ms) answered
+  opened = ap (settled rate ms held) answered
 
-  pub scannable-unfit : (why : Reason) → sized ≡ Refused why → sized ≡ scannable rate ms s
-  scannable-unfit why h = h ∙ sym (ap (settled rate ms) h) ∙ opened
+  pub scannable-unfit : (why : Reason) → sized ≡ Refused why → sized ≡ scannable rate ms held s
+  scannable-unfit why h = h ∙ sym (ap (settled rate ms held) h) ∙ opened
 
-  module _ (m : ℕ) (accepted : sized ≡ Done m) (r : Bool) (tested : r ≡ allowed rate ms) where
-    pub scannable-all : r ≡ true → Done 0 ≡ scannable rate ms s
+  module _ (m : ℕ) (accepted : sized ≡ Done m) (r : Bool) (tested : r ≡ allowed rate ms && heldAllowed held) where
+    pub scannable-all : r ≡ true → Done 0 ≡ scannable rate ms held s
     scannable-all h =
-        let told : Done 0 ≡ settled rate ms (Done m) = rw (← tested, h) refl in
-        told ∙ sym (ap (settled rate ms) accepted) ∙ opened
+        let told : Done 0 ≡ settled rate ms held (Done m) = rw (← tested, h) refl in
+        told ∙ sym (ap (settled rate ms held) accepted) ∙ opened
 
-    pub scannable-setting : r ≡ false → Refused Setting ≡ scannable rate ms s
+    pub scannable-setting : r ≡ false → Refused Setting ≡ scannable rate ms held s
     scannable-setting h =
-        let told : Refused Setting ≡ settled rate ms (Done m) = rw (← tested, h) refl in
-        told ∙ sym (ap (settled rate ms) accepted) ∙ opened
+        let told : Refused Setting ≡ settled rate ms held (Done m) = rw (← tested, h) refl in
+        told ∙ sym (ap (settled rate ms held) accepted) ∙ opened
 
 -- ---- the scan, run by run
 
@@ -173,38 +187,38 @@ repairedSo c start len e =
     (workAfter nought (needed (length (c .after .samples)) start len) (e .answer) (c .work))
 
 -- what the scan does with what the search answers
-abbrev goesOn : ℕ → ℕ → Scan → Run → Scan
-goesOn most n c r = elim r [ Nowhere ↦ c | At start len ↦ scanFrom most (start + len) n (repairAt c start len) ]
+abbrev goesOn : ℕ → ℕ → ℕ → Scan → Run → Scan
+goesOn most held n c r = elim r [ Nowhere ↦ c | At start len ↦ scanFrom most held (start + len) n (repairAt c start len) ]
 
-pub scan-stops : (most i n : ℕ) (c : Scan) → nextRun (c .after .samples) most i ≡ Nowhere → scanFrom most i n c ≡ c
+pub scan-stops : (most held i n : ℕ) (c : Scan) → nextRun (c .after .samples) most held i ≡ Nowhere → scanFrom most held i n c ≡ c
 unfolding scanFrom
-scan-stops most i zero c h = refl
-scan-stops most i (suc n) c h = ap (goesOn most n c) h
+scan-stops most held i zero c h = refl
+scan-stops most held i (suc n) c h = ap (goesOn most held n c) h
 
-pub scan-takes : (most i n start len : ℕ) (c : Scan) → nextRun (c .after .samples) most i ≡ At start len
-    → scanFrom most i (suc n) c ≡ scanFrom most (start + len) n (repairAt c start len)
+pub scan-takes : (most held i n start len : ℕ) (c : Scan) → nextRun (c .after .samples) most held i ≡ At start len
+    → scanFrom most held i (suc n) c ≡ scanFrom most held (start + len) n (repairAt c start len)
 unfolding scanFrom
-scan-takes most i n start len c h = ap (goesOn most n c) h
+scan-takes most held i n start len c h = ap (goesOn most held n c) h
 
 -- one turn: a run is found and repaired, and then what is left gives the same whole
-pub scan-turn : (most i start len n q r k : ℕ) (s t : State) (w v : List Float) (a : Answer) (number' done first : ℕ)
+pub scan-turn : (most held i start len n q r k : ℕ) (s t : State) (w v : List Float) (a : Answer) (number' done first : ℕ)
     (whole : Scan)
     → q < n
-    → nextRun (s .samples) most i ≡ At start len
+    → nextRun (s .samples) most held i ≡ At start len
     → ended a t ≡ gapRepair start len 3 (length w) s
     → v ≡ workAfter nought (needed (length (s .samples)) start len) a w
     → number' ≡ number a
     → done ≡ cond (eqb number' 0) 1 0
     → first ≡ cond (eqb k 0) number' k
-    → scanFrom most i (n - q) (scan q r k s w) ≡ whole
-    → scanFrom most (start + len) (n - (q + 1)) (scan (q + 1) (r + done) first t v) ≡ whole
-scan-turn most i start len n q r k s t w v a number' done first whole h found ends works en ed ef rest =
+    → scanFrom most held i (n - q) (scan q r k s w) ≡ whole
+    → scanFrom most held (start + len) (n - (q + 1)) (scan (q + 1) (r + done) first t v) ≡ whole
+scan-turn most held i start len n q r k s t w v a number' done first whole h found ends works en ed ef rest =
     let c = scan q r k s w in
     let left : n - q ≡ suc (n - (q + 1)) = omega arith in
     let now : scan (q + 1) (r + done) first t v ≡ repairedSo c start len (ended a t) = rw (works, ed, ef, en) refl in
-    ap (scanFrom most (start + len) (n - (q + 1))) (now ∙ ap (repairedSo c start len) ends)
-    ∙ sym (scan-takes most i (n - (q + 1)) start len c found)
-    ∙ sym (ap (λ (m : ℕ). scanFrom most i m c) left)
+    ap (scanFrom most held (start + len) (n - (q + 1))) (now ∙ ap (repairedSo c start len) ends)
+    ∙ sym (scan-takes most held i (n - (q + 1)) start len c found)
+    ∙ sym (ap (λ (m : ℕ). scanFrom most held i m c) left)
     ∙ rest
 
 -- ---- the order of a run's model
@@ -227,40 +241,51 @@ no-refusal both-answers =
     let none : _≡_ {A = ℕ} 0 1 = cc in
     absurd (omega arith)
 
-abbrev scannedSo : ℕ → ℕ → List Float → State → Answer → Scan
-scannedSo most n w s first =
-    elim first [ Done m ↦ scanFrom most 0 n (scan 0 0 0 s w) | Refused why ↦ scan 0 0 (reasonNumber why) s w ]
+abbrev scannedSo : ℕ → ℕ → ℕ → List Float → State → Answer → Scan
+scannedSo most held n w s first =
+    elim first [ Done m ↦ scanFrom most held 0 n (scan 0 0 0 s w) | Refused why ↦ scan 0 0 (reasonNumber why) s w ]
 
-module _ (rate : ℕ) (ms : Float) (w : List Float) (s : State)
-    (checked : Answer) (tested : checked ≡ scannable rate ms s) where
-  whole-call : scannedSo (limit ms rate) (length (s .samples)) w s checked ≡ automatic rate ms w s
+module _ (rate : ℕ) (ms : Float) (held : ℕ) (w : List Float) (s : State)
+    (checked : Answer) (tested : checked ≡ scannable rate ms held s) where
+  whole-call : scannedSo (limit ms rate) held (length (s .samples)) w s checked ≡ automatic rate ms held w s
   unfolding automatic
-  whole-call = ap (scannedSo (limit ms rate) (length (s .samples)) w s) tested
+  whole-call = ap (scannedSo (limit ms rate) held (length (s .samples)) w s) tested
 
   pub automatic-refused : (why : Reason) (k : ℕ) → checked ≡ Refused why → k ≡ number checked
-      → scan 0 0 k s w ≡ automatic rate ms w s
+      → scan 0 0 k s w ≡ automatic rate ms held w s
   automatic-refused why k h e =
       ap (λ (j : ℕ). scan 0 0 j s w) (e ∙ ap number h)
-      ∙ sym (ap (scannedSo (limit ms rate) (length (s .samples)) w s) h)
+      ∙ sym (ap (scannedSo (limit ms rate) held (length (s .samples)) w s) h)
       ∙ whole-call
 
   module _ (m : ℕ) (accepted : checked ≡ Done m) where
     pub automatic-scanned : (most : ℕ) (c : Scan) → most ≡ limit ms rate
-        → c ≡ scanFrom most 0 (length (s .samples)) (scan 0 0 0 s w) → c ≡ automatic rate ms w s
+        → c ≡ scanFrom most held 0 (length (s .samples)) (scan 0 0 0 s w) → c ≡ automatic rate ms held w s
     automatic-scanned most c e h =
         h
-        ∙ ap (λ (l : ℕ). scanFrom l 0 (length (s .samples)) (scan 0 0 0 s w)) e
-        ∙ sym (ap (scannedSo (limit ms rate) (length (s .samples)) w s) accepted)
+        ∙ ap (λ (l : ℕ). scanFrom l held 0 (length (s .samples)) (scan 0 0 0 s w)) e
+        ∙ sym (ap (scannedSo (limit ms rate) held (length (s .samples)) w s) accepted)
         ∙ whole-call
 
-    -- an accepted rate is one that an f32 holds
-    pub accepted-rate : rate ≤ 16777216
-    accepted-rate = go (fitting s) refl (truth (leb rate 16777216))
+    -- accepted settings are allowed
+    settings-hold : allowed rate ms && heldAllowed held ≡ true
+    settings-hold = go (fitting s) refl (truth (allowed rate ms && heldAllowed held))
       where
-        go : (sized : Answer) → sized ≡ fitting s → EitherWay (leb rate 16777216) → rate ≤ 16777216
-        go (Done j) f (inl y) = leb-true rate 16777216 y
+        go : (sized : Answer) → sized ≡ fitting s → EitherWay (allowed rate ms && heldAllowed held) → allowed rate ms && heldAllowed held ≡ true
+        go (Done j) f (inl y) = y
         go (Done j) f (inr y) =
-            let refused = scannable-setting rate ms s (Done j) f j refl (allowed rate ms) refl (rw y refl) in
+            let refused = scannable-setting rate ms held s (Done j) f j refl (allowed rate ms && heldAllowed held) refl y in
             no-refusal (sym accepted ∙ tested ∙ sym refused)
         go (Refused why) f y =
-            no-refusal (sym accepted ∙ tested ∙ sym (scannable-unfit rate ms s (Refused why) f why refl))
+            no-refusal (sym accepted ∙ tested ∙ sym (scannable-unfit rate ms held s (Refused why) f why refl))
+
+    each-holds : (allowed rate ms ≡ true) × (heldAllowed held ≡ true)
+    each-holds = both-hold (allowed rate ms) (heldAllowed held) settings-hold
+
+    -- the rate is one that an f32 holds
+    pub accepted-rate : rate ≤ 16777216
+    accepted-rate = leb-true rate 16777216 (both-hold (leb rate 16777216) (finite ms) (each-holds .0) .0)
+
+    -- and a held run has two words at least
+    pub accepted-held : 2 ≤ held
+    accepted-held = leb-true 2 held (both-hold (leb 2 held) (leb held 4096) (each-holds .1) .0)

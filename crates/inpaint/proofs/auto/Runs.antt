@@ -17,7 +17,7 @@ use Rattle.leaves.proofs.words.Laws.{nan-test, one-nan}
 use Rattle.leaves.specs.Choice.{if_then_else_}
 use Rattle.recording.specs.Runs.{runLength}
 use Rattle.leaves.proofs.Choice.{truth, EitherWay, both-hold}
-use Rattle.inpaint.specs.Auto.{zeroOrNan, holdable, continues, continuesAt, runBegins, runAt, heldRun, longEnough, kept}
+use Rattle.inpaint.specs.Auto.{zeroOrNan, holdable, continues, continuesAt, runBegins, runAt, longEnough, kept}
 use Rattle.inpaint.specs.Auto.{gapAt, gapLength, gapAllowed, qualifies, starts, nextAmong, nextRun}
 use Rattle.inpaint.specs.declared.Run.{Run}
 use Rattle.inpaint.specs.declared.Run.the-variants.{At, Nowhere}
@@ -92,16 +92,16 @@ module _ (samples : List ℕ) (from i : ℕ) where
 
 -- ---- whether a run is long enough, and its gap allowed
 
-module _ (w len : ℕ) where
-  pub enough-zeros : zeroOrNan w ≡ true → leb 2 len ≡ longEnough w len
+module _ (held w len : ℕ) where
+  pub enough-zeros : zeroOrNan w ≡ true → leb 2 len ≡ longEnough held w len
   unfolding longEnough
   enough-zeros h = rw (h, zero-not-held w h) (sym (or-false (leb 2 len)))
 
-  pub enough-other : zeroOrNan w ≡ false → holdable w ≡ false → false ≡ longEnough w len
+  pub enough-other : zeroOrNan w ≡ false → holdable w ≡ false → false ≡ longEnough held w len
   unfolding longEnough
   enough-other h k = rw (h, k) refl
 
-  pub enough-held : zeroOrNan w ≡ false → holdable w ≡ true → leb heldRun len ≡ longEnough w len
+  pub enough-held : zeroOrNan w ≡ false → holdable w ≡ true → leb held len ≡ longEnough held w len
   unfolding longEnough
   enough-held h k = rw (h, k) refl
 
@@ -111,10 +111,10 @@ pub record OfZeros (w len : ℕ) : Type 0 where
   pub none-kept : kept w ≡ 0
   pub two : 2 ≤ len
 
-pub record OfHeld (w len : ℕ) : Type 0 where
-  pub held : holdable w ≡ true
+pub record OfHeld (held w len : ℕ) : Type 0 where
+  pub word : holdable w ≡ true
   pub one-kept : kept w ≡ 1
-  pub sixteen : heldRun ≤ len
+  pub enough : held ≤ len
 
 pub kept-zeros : (w : ℕ) → holdable w ≡ false → kept w ≡ 0
 unfolding kept
@@ -124,23 +124,23 @@ pub kept-held : (w : ℕ) → holdable w ≡ true → kept w ≡ 1
 unfolding kept
 kept-held w h = rw h refl
 
-pub kind-of : (w len : ℕ) → longEnough w len ≡ true → OfZeros w len ⊎ OfHeld w len
-kind-of w len h = go (truth (zeroOrNan w)) (truth (holdable w))
+pub kind-of : (held w len : ℕ) → longEnough held w len ≡ true → OfZeros w len ⊎ OfHeld held w len
+kind-of held w len h = go (truth (zeroOrNan w)) (truth (holdable w))
   where
-    go : EitherWay (zeroOrNan w) → EitherWay (holdable w) → OfZeros w len ⊎ OfHeld w len
+    go : EitherWay (zeroOrNan w) → EitherWay (holdable w) → OfZeros w len ⊎ OfHeld held w len
     go (inl z) k =
         inl record {
           zero = z;
           none-kept = kept-zeros w (zero-not-held w z);
-          two = leb-true 2 len (enough-zeros w len z ∙ h);
+          two = leb-true 2 len (enough-zeros held w len z ∙ h);
         }
     go (inr z) (inl k) =
         inr record {
-          held = k;
+          word = k;
           one-kept = kept-held w k;
-          sixteen = leb-true heldRun len (enough-held w len z k ∙ h);
+          enough = leb-true held len (enough-held held w len z k ∙ h);
         }
-    go (inr z) (inr k) = both h (sym (enough-other w len z k))
+    go (inr z) (inr k) = both h (sym (enough-other held w len z k))
 
 module _ (n most start len : ℕ) where
   pub gap-long : most < len → false ≡ gapAllowed n most start len
@@ -152,13 +152,13 @@ module _ (n most start len : ℕ) where
   pub gap-end : len ≤ most → (start ≡ 0 → ⊥) → ltb (start + len) n ≡ gapAllowed n most start len
   gap-end a h = rw (le-leb len most a, lt-ltb 0 start (omega arith)) refl
 
-module _ (n most w i len : ℕ) where
-  pub qualifies-short : longEnough w len ≡ false → false ≡ qualifies n most w i len
+module _ (n most held w i len : ℕ) where
+  pub qualifies-short : longEnough held w len ≡ false → false ≡ qualifies n most held w i len
   unfolding qualifies
   qualifies-short h = rw h refl
 
-  pub qualifies-gap : longEnough w len ≡ true → (k : ℕ) → k ≡ kept w
-      → gapAllowed n most (i + k) (len - k) ≡ qualifies n most w i len
+  pub qualifies-gap : longEnough held w len ≡ true → (k : ℕ) → k ≡ kept w
+      → gapAllowed n most (i + k) (len - k) ≡ qualifies n most held w i len
   unfolding qualifies
   qualifies-gap h k e = rw (h, e) refl
 
@@ -169,10 +169,10 @@ allowed-all n most start len h =
     let first = both-hold (leb len most) (ltb 0 start) (last .0) in
     (leb-true len most (first .0), ltb-true 0 start (first .1), ltb-true (start + len) n (last .1))
 
-qualifies-both : (n most w i len : ℕ) → qualifies n most w i len ≡ true
-    → (longEnough w len ≡ true) × (gapAllowed n most (i + kept w) (len - kept w) ≡ true)
+qualifies-both : (n most held w i len : ℕ) → qualifies n most held w i len ≡ true
+    → (longEnough held w len ≡ true) × (gapAllowed n most (i + kept w) (len - kept w) ≡ true)
 unfolding qualifies
-qualifies-both n most w i len h = both-hold (longEnough w len) (gapAllowed n most (i + kept w) (len - kept w)) h
+qualifies-both n most held w i len h = both-hold (longEnough held w len) (gapAllowed n most (i + kept w) (len - kept w)) h
 
 -- a run keeps one sample at most
 pub at-most-kept : (w : ℕ) → kept w ≤ 1
@@ -182,9 +182,9 @@ pub keeps-one : (w k : ℕ) → k ≡ kept w → k ≤ 1
 keeps-one w k e = omega (arith, at-most-kept w)
 
 -- a run that reaches the end does not qualify
-touching : (n most w i len : ℕ) → 1 ≤ len → n ≤ i + len → qualifies n most w i len ≡ false
+touching : (n most held w i len : ℕ) → 1 ≤ len → n ≤ i + len → qualifies n most held w i len ≡ false
 unfolding qualifies
-touching n most w i len some reach =
+touching n most held w i len some reach =
     let past : n ≤ i + kept w + (len - kept w) = omega (arith, at-most-kept w) in
     rw (le-ltb (i + kept w + (len - kept w)) n past, and-false, and-false) refl
 
@@ -195,24 +195,24 @@ abbrev pub more : List ℕ → ℕ → ℕ
 more samples i = runLength (continuesAt samples) i (length samples - i)
 
 -- the search of the places from `from` on, as it goes on at place i
-abbrev pub searched : List ℕ → ℕ → ℕ → ℕ → Run
-searched samples most from i = nextAmong samples most from i (length samples - i)
+abbrev pub searched : List ℕ → ℕ → ℕ → ℕ → ℕ → Run
+searched samples most held from i = nextAmong samples most held from i (length samples - i)
 
-module _ (samples : List ℕ) (most from i : ℕ) (whole : Run) (within : i < length samples)
-    (search : searched samples most from i ≡ whole) where
+module _ (samples : List ℕ) (most held from i : ℕ) (whole : Run) (within : i < length samples)
+    (search : searched samples most held from i ≡ whole) where
   -- what the search does at place i
-  at-place : searched samples most from i
-      ≡ (if starts samples most from i then At (gapAt samples i) (gapLength samples i) else searched samples most from (i + 1))
+  at-place : searched samples most held from i
+      ≡ (if starts samples most held from i then At (gapAt samples i) (gapLength samples i) else searched samples most held from (i + 1))
   unfolding nextAmong
   at-place =
       let left : length samples - i ≡ suc (length samples - (i + 1)) = omega arith in
-      ap (nextAmong samples most from i) left
+      ap (nextAmong samples most held from i) left
 
-  passed : starts samples most from i ≡ false → searched samples most from (i + 1) ≡ whole
+  passed : starts samples most held from i ≡ false → searched samples most held from (i + 1) ≡ whole
   passed t = sym (at-place ∙ rw t refl) ∙ search
 
   -- no run begins there
-  pub search-passes : (b : Bool) → b ≡ runBegins samples from i → b ≡ false → searched samples most from (i + 1) ≡ whole
+  pub search-passes : (b : Bool) → b ≡ runBegins samples from i → b ≡ false → searched samples most held from (i + 1) ≡ whole
   search-passes b e h = passed (rw (← e, h) refl)
 
   -- one does, and ends before place `end`
@@ -221,32 +221,32 @@ module _ (samples : List ℕ) (most from i : ℕ) (whole : Run) (within : i < le
     run = omega (arith, ends)
 
     -- it does not qualify
-    pub search-fails : (q : Bool) → q ≡ qualifies (length samples) most (getD samples i 0) i (end - i) → q ≡ false
-        → searched samples most from (i + 1) ≡ whole
+    pub search-fails : (q : Bool) → q ≡ qualifies (length samples) most held (getD samples i 0) i (end - i) → q ≡ false
+        → searched samples most held from (i + 1) ≡ whole
     search-fails q e h =
-        let no : qualifies (length samples) most (getD samples i 0) i (runAt samples i) ≡ false = rw (run, ← e, h) refl in
+        let no : qualifies (length samples) most held (getD samples i 0) i (runAt samples i) ≡ false = rw (run, ← e, h) refl in
         passed (rw (no, and-false) refl)
 
     -- it touches the recording's end
-    pub search-touches : length samples ≤ end → searched samples most from (i + 1) ≡ whole
+    pub search-touches : length samples ≤ end → searched samples most held from (i + 1) ≡ whole
     search-touches h =
-        search-fails _ refl (touching (length samples) most (getD samples i 0) i (end - i) (omega (arith, ends)) (omega (arith, ends)))
+        search-fails _ refl (touching (length samples) most held (getD samples i 0) i (end - i) (omega (arith, ends)) (omega (arith, ends)))
 
     -- it qualifies
     pub search-finds : (b q : Bool) (k : ℕ) → b ≡ runBegins samples from i → b ≡ true
-        → q ≡ qualifies (length samples) most (getD samples i 0) i (end - i) → q ≡ true → k ≡ kept (getD samples i 0)
+        → q ≡ qualifies (length samples) most held (getD samples i 0) i (end - i) → q ≡ true → k ≡ kept (getD samples i 0)
         → At (i + k) (end - i - k) ≡ whole
     search-finds b q k e h f t g =
-        let yes : qualifies (length samples) most (getD samples i 0) i (runAt samples i) ≡ true = rw (run, ← f, t) refl in
+        let yes : qualifies (length samples) most held (getD samples i 0) i (runAt samples i) ≡ true = rw (run, ← f, t) refl in
         sym (at-place ∙ rw (← e, h, yes, run, ← g) refl) ∙ search
 
 -- past the end nothing is found
-pub search-ends : (samples : List ℕ) (most from i : ℕ) (whole : Run) → length samples ≤ i → searched samples most from i ≡ whole
+pub search-ends : (samples : List ℕ) (most held from i : ℕ) (whole : Run) → length samples ≤ i → searched samples most held from i ≡ whole
     → Nowhere ≡ whole
 unfolding nextAmong
-search-ends samples most from i whole h e =
+search-ends samples most held from i whole h e =
     let left : length samples - i ≡ 0 = omega arith in
-    sym (ap (nextAmong samples most from i) left) ∙ e
+    sym (ap (nextAmong samples most held from i) left) ∙ e
 
 -- ---- a run that is found
 
@@ -255,18 +255,18 @@ pub gap-ends : (samples : List ℕ) (i : ℕ) → gapAt samples i + gapLength sa
 gap-ends samples i = omega (arith, at-most-kept (getD samples i 0))
 
 -- the run that is found from place i on begins at place `at`, of which this is the gap, and none does before
-pub record Found (samples : List ℕ) (most from i start len : ℕ) : Type 0 where
+pub record Found (samples : List ℕ) (most held from i start len : ℕ) : Type 0 where
   pub at : ℕ
   pub on : i ≤ at
-  pub here : starts samples most from at ≡ true
-  pub none-before : (j : ℕ) → i ≤ j → j < at → starts samples most from j ≡ false
+  pub here : starts samples most held from at ≡ true
+  pub none-before : (j : ℕ) → i ≤ j → j < at → starts samples most held from j ≡ false
   pub start-is : gapAt samples at ≡ start
   pub len-is : gapLength samples at ≡ len
 
 -- place i itself, or what is found from the next on
-unfoldable pub found-there : (samples : List ℕ) (most from i : ℕ) → starts samples most from i ≡ true
-    → Found samples most from i (gapAt samples i) (gapLength samples i)
-found-there samples most from i t =
+unfoldable pub found-there : (samples : List ℕ) (most held from i : ℕ) → starts samples most held from i ≡ true
+    → Found samples most held from i (gapAt samples i) (gapLength samples i)
+found-there samples most held from i t =
     record {
       at = i;
       on = omega arith;
@@ -276,9 +276,9 @@ found-there samples most from i t =
       len-is = refl;
     }
 
-found-later : (samples : List ℕ) (most from i start len : ℕ) → starts samples most from i ≡ false
-    → Found samples most from (i + 1) start len → Found samples most from i start len
-found-later samples most from i start len t f =
+found-later : (samples : List ℕ) (most held from i start len : ℕ) → starts samples most held from i ≡ false
+    → Found samples most held from (i + 1) start len → Found samples most held from i start len
+found-later samples most held from i start len t f =
     record {
       at = f .at;
       on = omega (arith, f .on);
@@ -288,9 +288,9 @@ found-later samples most from i start len t f =
       len-is = f .len-is;
     }
   where
-    before : (j : ℕ) → i ≤ j → j < f .at → starts samples most from j ≡ false
+    before : (j : ℕ) → i ≤ j → j < f .at → starts samples most held from j ≡ false
     before j a b =
-        elim (ℕ-discrete j i) [ yes e ↦ ap (starts samples most from) e ∙ t | no n ↦ f .none-before j (omega arith) b ]
+        elim (ℕ-discrete j i) [ yes e ↦ ap (starts samples most held from) e ∙ t | no n ↦ f .none-before j (omega arith) b ]
 
 -- a run is one only
 same-run : (P : ℕ → ℕ → Type 0) (i j k l : ℕ) → At i j ≡ At k l → P i j → P k l
@@ -299,46 +299,47 @@ same-run P i j k l e p =
     let second : j ≡ l = cc in
     subst (λ (m : ℕ). P m l) first (subst (λ (m : ℕ). P i m) second p)
 
-found-among : (samples : List ℕ) (most from i n start len : ℕ)
-    → nextAmong samples most from i n ≡ At start len → Found samples most from i start len
+found-among : (samples : List ℕ) (most held from i n start len : ℕ)
+    → nextAmong samples most held from i n ≡ At start len → Found samples most held from i start len
 unfolding nextAmong
-found-among samples most from i zero start len h =
+found-among samples most held from i zero start len h =
     let none : _≡_ {A = ℕ} 0 1 = cc in
     absurd (omega arith)
-found-among samples most from i (suc n) start len h =
-    go (truth (starts samples most from i)) (found-among samples most from (i + 1) n start len)
+found-among samples most held from i (suc n) start len h =
+    go (truth (starts samples most held from i)) (found-among samples most held from (i + 1) n start len)
   where
-    go : EitherWay (starts samples most from i)
-        → (nextAmong samples most from (i + 1) n ≡ At start len → Found samples most from (i + 1) start len)
-        → Found samples most from i start len
+    go : EitherWay (starts samples most held from i)
+        → (nextAmong samples most held from (i + 1) n ≡ At start len → Found samples most held from (i + 1) start len)
+        → Found samples most held from i start len
     go (inl t) later =
-        let step : nextAmong samples most from i (suc n) ≡ At (gapAt samples i) (gapLength samples i) = rw t refl in
-        same-run (Found samples most from i) (gapAt samples i) (gapLength samples i) start len (sym step ∙ h)
-        (found-there samples most from i t)
+        let step : nextAmong samples most held from i (suc n) ≡ At (gapAt samples i) (gapLength samples i) = rw t refl in
+        same-run (Found samples most held from i) (gapAt samples i) (gapLength samples i) start len (sym step ∙ h)
+        (found-there samples most held from i t)
     go (inr t) later =
-        let step : nextAmong samples most from i (suc n) ≡ nextAmong samples most from (i + 1) n = rw t refl in
-        found-later samples most from i start len t (later (sym step ∙ h))
+        let step : nextAmong samples most held from i (suc n) ≡ nextAmong samples most held from (i + 1) n = rw t refl in
+        found-later samples most held from i start len t (later (sym step ∙ h))
 
-pub found-run : (samples : List ℕ) (most from start len : ℕ)
-    → nextRun samples most from ≡ At start len → Found samples most from from start len
-found-run samples most from start len h = found-among samples most from from (length samples - from) start len h
+pub found-run : (samples : List ℕ) (most held from start len : ℕ)
+    → nextRun samples most held from ≡ At start len → Found samples most held from from start len
+found-run samples most held from start len h = found-among samples most held from from (length samples - from) start len h
 
--- what the tests of a run that is found say of it: it is of one of the two kinds, and its gap has a sample, ends where the run does, is
--- within the limit and touches neither end
-pub record Fit (samples : List ℕ) (most at start len : ℕ) : Type 0 where
-  pub kind : OfZeros (getD samples at 0) (runAt samples at) ⊎ OfHeld (getD samples at 0) (runAt samples at)
-  pub one : 1 ≤ len
+-- what the tests of a run that is found say of it: it is of one of the two kinds, and its gap ends where the run does, is within the limit
+-- and touches neither end; and it has a sample, unless a single word is said to be held
+pub record Fit (samples : List ℕ) (most held at start len : ℕ) : Type 0 where
+  pub kind : OfZeros (getD samples at 0) (runAt samples at) ⊎ OfHeld held (getD samples at 0) (runAt samples at)
+  pub one : 2 ≤ held → 1 ≤ len
   pub behind : at ≤ start
   pub ends : start + len ≡ at + runAt samples at
   pub short : len ≤ most
   pub later : 0 < start
   pub inside : start + len < length samples
 
-pub fits : {samples : List ℕ} {most from i start len : ℕ} (f : Found samples most from i start len) → Fit samples most (f .at) start len
-fits {samples} {most} {from} {i} {start} {len} f =
+pub fits : {samples : List ℕ} {most held from i start len : ℕ} (f : Found samples most held from i start len)
+    → Fit samples most held (f .at) start len
+fits {samples} {most} {held} {from} {i} {start} {len} f =
     record {
       kind = kind;
-      one = omega (arith, some kind, f .len-is);
+      one = λ two. omega (arith, some kind two, f .len-is);
       behind = omega (arith, f .start-is);
       ends = omega (arith, f .start-is, f .len-is, gap-ends samples (f .at));
       short = omega (arith, f .len-is, within .0);
@@ -349,26 +350,26 @@ fits {samples} {most} {from} {i} {start} {len} f =
     w : ℕ
     w = getD samples (f .at) 0
 
-    tests : (longEnough w (runAt samples (f .at)) ≡ true)
+    tests : (longEnough held w (runAt samples (f .at)) ≡ true)
         × (gapAllowed (length samples) most (gapAt samples (f .at)) (gapLength samples (f .at)) ≡ true)
     tests =
-        qualifies-both (length samples) most w (f .at) (runAt samples (f .at))
-        (both-hold (runBegins samples from (f .at)) (qualifies (length samples) most w (f .at) (runAt samples (f .at))) (f .here) .1)
+        qualifies-both (length samples) most held w (f .at) (runAt samples (f .at))
+        (both-hold (runBegins samples from (f .at)) (qualifies (length samples) most held w (f .at) (runAt samples (f .at))) (f .here) .1)
 
-    kind : OfZeros w (runAt samples (f .at)) ⊎ OfHeld w (runAt samples (f .at))
-    kind = kind-of w (runAt samples (f .at)) (tests .0)
+    kind : OfZeros w (runAt samples (f .at)) ⊎ OfHeld held w (runAt samples (f .at))
+    kind = kind-of held w (runAt samples (f .at)) (tests .0)
 
     within : (gapLength samples (f .at) ≤ most) × (0 < gapAt samples (f .at)) × (gapAt samples (f .at) + gapLength samples (f .at) < length samples)
     within = allowed-all (length samples) most (gapAt samples (f .at)) (gapLength samples (f .at)) (tests .1)
 
-    some : OfZeros w (runAt samples (f .at)) ⊎ OfHeld w (runAt samples (f .at)) → 1 ≤ gapLength samples (f .at)
-    some (inl z) = omega (arith, z .none-kept)
-    some (inr k) = omega (arith, k .one-kept, k .sixteen)
+    some : OfZeros w (runAt samples (f .at)) ⊎ OfHeld held w (runAt samples (f .at)) → 2 ≤ held → 1 ≤ gapLength samples (f .at)
+    some (inl z) two = omega (arith, z .none-kept)
+    some (inr k) two = omega (arith, k .one-kept, k .enough)
 
--- so where it lies
-pub found-within : (samples : List ℕ) (most from start len : ℕ) → nextRun samples most from ≡ At start len
-    → (from ≤ start) × (1 ≤ len) × (start + len < length samples)
-found-within samples most from start len h =
-    let f = found-run samples most from start len h in
+-- so where its gap ends: past the place from which the search began, and before the recording's end
+pub found-within : (samples : List ℕ) (most held from start len : ℕ) → nextRun samples most held from ≡ At start len
+    → (from < start + len) × (start + len < length samples)
+found-within samples most held from start len h =
+    let f = found-run samples most held from start len h in
     let g = fits f in
-    (omega (arith, f .on, g .behind), g .one, g .inside)
+    (omega (arith, f .on, g .ends), g .inside)

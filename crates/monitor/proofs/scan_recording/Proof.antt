@@ -1,4 +1,4 @@
--- `monitor::scan_recording` meets its contract: it scans at the rule's rate, with the rule's limit. Assumes nothing.
+-- `monitor::scan_recording` meets its contract: it scans at the rule's rate, with the rule's limit and held run. Assumes nothing.
 use borrow.Author.Needs.{needs}
 use Rattle.monitor.proofs.Scanning.{scanned-so}
 use Rattle.monitor.proofs.scan_recording.Statement.{statement}

@@ -21,24 +21,24 @@ enum-told-2 : tie.Need-enum-told-2
 enum-told-2 c = search needs
 
 returns : tie.Need-returns
-returns c = scannable-unfit _ _ _ _ (c .before .before .check-sizes .ensures) _ (c .enum-told2 .given .1)
+returns c = scannable-unfit _ _ _ _ _ (c .before .before .check-sizes .ensures) _ (c .enum-told2 .given .1)
 
-settings-allowed-requires : tie.Need-settings-allowed-requires
-settings-allowed-requires c κs = search needs
+scan-allowed-requires : tie.Need-scan-allowed-requires
+scan-allowed-requires c κs = search needs
 
 returns-2 : tie.Need-returns-2
 returns-2 c =
     let test = c .before in
     let at = test .before in
-    scannable-all _ _ (recording at) _ (at .before .before .check-sizes .ensures) _ (at .enum-told .given .1) _
-    (test .settings-allowed .ensures) (c .if1 .taken)
+    scannable-all _ _ _ (recording at) _ (at .before .before .check-sizes .ensures) _ (at .enum-told .given .1) _
+    (test .scan-allowed .ensures) (c .if1 .taken)
 
 returns-3 : tie.Need-returns-3
 returns-3 c =
     let test = c .before in
     let at = test .before in
-    scannable-setting _ _ (recording at) _ (at .before .before .check-sizes .ensures) _ (at .enum-told .given .1) _
-    (test .settings-allowed .ensures) (c .if1 .left)
+    scannable-setting _ _ _ (recording at) _ (at .before .before .check-sizes .ensures) _ (at .enum-told .given .1) _
+    (test .scan-allowed .ensures) (c .if1 .left)
 
 pub check-scan-spec : {M : Type 1} → statement M
 check-scan-spec =
@@ -48,6 +48,6 @@ check-scan-spec =
     enum-told
     enum-told-2
     returns
-    settings-allowed-requires
+    scan-allowed-requires
     returns-2
     returns-3)

@@ -43,9 +43,9 @@ returns c =
     let told = c .before in
     let test = told .before .before in
     let a = start test .args in (
-      automatic-refused (a .rate) (a .millis) (a .work .now) (recording test) _ (test .check-scan .ensures) _ _
+      automatic-refused (a .rate) (a .millis) (a .held) (a .work .now) (recording test) _ (test .check-scan .ensures) _ _
           (told .enum-told2 .given .1) (c .number-of .ensures),
-      list-of-refused (a .rate) (a .millis) (a .work .now) (recording test) _ _ (a .orders .now) (test .check-scan .ensures)
+      list-of-refused (a .rate) (a .millis) (a .held) (a .work .now) (recording test) _ _ (a .orders .now) (test .check-scan .ensures)
           (told .enum-told2 .given .1),
     )
 
@@ -53,7 +53,7 @@ longest-run-requires : tie.Need-longest-run-requires
 longest-run-requires c κs =
     let test = c .before .before in
     let a = start test .args in
-    accepted-rate (a .rate) (a .millis) (a .work .now) (recording test) _ (test .check-scan .ensures) _
+    accepted-rate (a .rate) (a .millis) (a .held) (a .work .now) (recording test) _ (test .check-scan .ensures) _
     (c .enum-told .given .1)
 
 repair-runs-requires : tie.Need-repair-runs-requires
@@ -85,9 +85,9 @@ returns-2 c =
     let test = told .before .before in
     let a = start test .args in
     let most = limited .longest-run .ensures in (
-      automatic-scanned _ _ _ (recording test) _ (test .check-scan .ensures) _ (told .enum-told .given .1) _ _ most
+      automatic-scanned _ _ _ _ (recording test) _ (test .check-scan .ensures) _ (told .enum-told .given .1) _ _ most
           (scanned .repair-runs .ensures .0),
-      list-of-scan (a .rate) (a .millis) (a .work .now) (recording test) _ _ _ (a .orders .now) _ (test .check-scan .ensures)
+      list-of-scan (a .rate) (a .millis) (a .held) (a .work .now) (recording test) _ _ _ (a .orders .now) _ (test .check-scan .ensures)
           (told .enum-told .given .1) most (scanned .repair-runs .ensures .1),
     )
 

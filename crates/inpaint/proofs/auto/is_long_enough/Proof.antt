@@ -10,7 +10,7 @@ is-zero-or-nan-requires : tie.Need-is-zero-or-nan-requires
 is-zero-or-nan-requires c κs = search needs
 
 returns : tie.Need-returns
-returns c = enough-zeros _ _ (sym (c .before .is-zero-or-nan .ensures) ∙ c .if1 .taken)
+returns c = enough-zeros _ _ _ (sym (c .before .is-zero-or-nan .ensures) ∙ c .if1 .taken)
 
 is-holdable-requires : tie.Need-is-holdable-requires
 is-holdable-requires c κs = search needs
@@ -18,13 +18,13 @@ is-holdable-requires c κs = search needs
 returns-2 : tie.Need-returns-2
 returns-2 c =
     let first = c .before .before in
-    enough-other _ _ (sym (first .before .is-zero-or-nan .ensures) ∙ first .if1 .left)
+    enough-other _ _ _ (sym (first .before .is-zero-or-nan .ensures) ∙ first .if1 .left)
     (sym (c .before .is-holdable .ensures) ∙ not-true _ (c .if2 .taken))
 
 returns-3 : tie.Need-returns-3
 returns-3 c =
     let first = c .before .before in
-    enough-held _ _ (sym (first .before .is-zero-or-nan .ensures) ∙ first .if1 .left)
+    enough-held _ _ _ (sym (first .before .is-zero-or-nan .ensures) ∙ first .if1 .left)
     (sym (c .before .is-holdable .ensures) ∙ not-false _ (c .if2 .left))
 
 pub is-long-enough-spec : {M : Type 1} → statement M

@@ -15,18 +15,18 @@ use Rattle.inpaint.proofs.auto.next_run.Statement.{statement}
 use Rattle.inpaint.proofs.auto.next_run.Tie as tie
 
 abbrev Inv-loop : tie.InvT-loop
-Inv-loop samples most from n found₀ i start word end₀ found end =
+Inv-loop samples most held from n found₀ i start word end₀ found end =
     (found ≡ Nowhere) × (start < end) × (end ≤ n) × (end + more samples end ≡ start + 1 + more samples (start + 1))
 
 abbrev μ-loop : tie.MeasureT-loop
-μ-loop samples most from n found₀ i start word end₀ found end = n - end
+μ-loop samples most held from n found₀ i start word end₀ found end = n - end
 
 abbrev Inv-search : tie.InvT-search
-Inv-search samples most from n found₀ i₀ found i =
-    (found ≡ Nowhere) × (from ≤ i) × (searched samples most from i ≡ nextRun samples most from)
+Inv-search samples most held from n found₀ i₀ found i =
+    (found ≡ Nowhere) × (from ≤ i) × (searched samples most held from i ≡ nextRun samples most held from)
 
 abbrev μ-search : tie.MeasureT-search
-μ-search samples most from n found₀ i₀ found i = n - i
+μ-search samples most held from n found₀ i₀ found i = n - i
 
 -- the test of a place
 abbrev test : tie.Start Inv-loop μ-loop Inv-search μ-search → ℕ → Bool
@@ -62,7 +62,7 @@ search-again c =
     let turn = c .before .before .before .before .before in (
       followed .0,
       omega arith,
-      search-touches _ _ _ _ _ (turn .search-test .taken) (turn .before .search .inv .2) _
+      search-touches _ _ _ _ _ _ (turn .search-test .taken) (turn .before .search .inv .2) _
           (run-ends (test (turn .before .before .before)) _ _ _ (c .loop-test .left) (followed .3)) (c .loop-test .left),
     )
 
@@ -95,14 +95,14 @@ run-qualifies-requires c κs = omega arith
 kept-of-requires : tie.Need-kept-of-requires Inv-loop μ-loop Inv-search μ-search
 kept-of-requires c κs = search needs
 
-add-t27 : tie.Need-add-t27 Inv-loop μ-loop Inv-search μ-search
-add-t27 c = omega (arith, keeps-one _ _ (c .kept-of .ensures))
-
-sub-t28 : tie.Need-sub-t28 Inv-loop μ-loop Inv-search μ-search
-sub-t28 c = omega (arith, keeps-one _ _ (c .kept-of .ensures))
+add-t28 : tie.Need-add-t28 Inv-loop μ-loop Inv-search μ-search
+add-t28 c = omega (arith, keeps-one _ _ (c .kept-of .ensures))
 
 sub-t29 : tie.Need-sub-t29 Inv-loop μ-loop Inv-search μ-search
 sub-t29 c = omega (arith, keeps-one _ _ (c .kept-of .ensures))
+
+sub-t30 : tie.Need-sub-t30 Inv-loop μ-loop Inv-search μ-search
+sub-t30 c = omega (arith, keeps-one _ _ (c .kept-of .ensures))
 
 search-less-2 : tie.Need-search-less-2 Inv-loop μ-loop Inv-search μ-search
 search-less-2 c = omega arith
@@ -116,7 +116,7 @@ search-again-2 c =
     let turn = inside .before .before .before .before .before in (
       followed .0,
       omega arith,
-      search-fails _ _ _ _ _ (turn .search-test .taken) (turn .before .search .inv .2) _
+      search-fails _ _ _ _ _ _ (turn .search-test .taken) (turn .before .search .inv .2) _
           (run-stops (test (turn .before .before .before)) _ _ _ (inside .loop-test .taken) none (followed .3)) _ (c .before .run-qualifies .ensures)
           (c .if3 .left),
     )
@@ -147,14 +147,14 @@ search-again-3 c =
     let turn = c .before .before in (
       turn .before .search .inv .0,
       omega arith,
-      search-passes _ _ _ _ _ (turn .search-test .taken) (turn .before .search .inv .2) _ (c .before .run-begins .ensures)
+      search-passes _ _ _ _ _ _ (turn .search-test .taken) (turn .before .search .inv .2) _ (c .before .run-begins .ensures)
           (c .if1 .left),
     )
 
 returns : tie.Need-returns Inv-loop μ-loop Inv-search μ-search
 returns c =
     let stands = c .before .search .inv in
-    stands .0 ∙ search-ends _ _ _ _ _ (c .search-test .left) (stands .2)
+    stands .0 ∙ search-ends _ _ _ _ _ _ (c .search-test .left) (stands .2)
 
 returns-2 : tie.Need-returns-2 Inv-loop μ-loop Inv-search μ-search
 returns-2 c =
@@ -164,7 +164,7 @@ returns-2 c =
     let inside = stop .before .before .before .before in
     let begun = inside .before .before .before in
     let turn = begun .before .before in
-    search-finds _ _ _ _ _ (turn .search-test .taken) (turn .before .search .inv .2) _
+    search-finds _ _ _ _ _ _ (turn .search-test .taken) (turn .before .search .inv .2) _
     (run-stops (test (turn .before .before .before)) _ _ _ (inside .loop-test .taken) none (inside .before .loop .inv .3)) _ _ _
     (begun .before .run-begins .ensures) (begun .if1 .taken) (tried .run-qualifies .ensures) (c .before .if3 .taken) (c .kept-of .ensures)
 
@@ -194,9 +194,9 @@ next-run-spec =
     sub-run-qualifies
     run-qualifies-requires
     kept-of-requires
-    add-t27
-    sub-t28
+    add-t28
     sub-t29
+    sub-t30
     search-less-2
     search-again-2
     add-end-2

@@ -19,7 +19,7 @@ use Rattle.inpaint.proofs.auto.repair_runs.Statement.{statement}
 use Rattle.inpaint.proofs.auto.repair_runs.Tie as tie
 
 abbrev Inv-loop : tie.InvT-loop
-Inv-loop samples₀ marks₀ counts₀ journal₀ used₀ most work₀ orders₀ n qualified₀ repaired₀ refused₀ at₀
+Inv-loop samples₀ marks₀ counts₀ journal₀ used₀ most held work₀ orders₀ n qualified₀ repaired₀ refused₀ at₀
     samples marks counts journal used work orders qualified repaired refused at =
     (at ≤ n)
     × (qualified ≤ at)
@@ -29,14 +29,14 @@ Inv-loop samples₀ marks₀ counts₀ journal₀ used₀ most work₀ orders₀
     × (length counts ≡ length counts₀)
     × (length journal ≡ length journal₀)
     × (length work ≡ length work₀)
-    × (scanFrom most at (n - qualified) (scan qualified repaired refused (state samples marks counts journal used) work)
-    ≡ scanFrom most 0 n (scan 0 0 0 (state samples₀ marks₀ counts₀ journal₀ used₀) work₀))
+    × (scanFrom most held at (n - qualified) (scan qualified repaired refused (state samples marks counts journal used) work)
+    ≡ scanFrom most held 0 n (scan 0 0 0 (state samples₀ marks₀ counts₀ journal₀ used₀) work₀))
     × (length orders ≡ length orders₀)
-    × (ordersOver (length work₀) (runsAmong samples most at at (n - at)) (state samples marks counts journal used) orders
-    ≡ ordersOver (length work₀) (runsOf samples₀ most) (state samples₀ marks₀ counts₀ journal₀ used₀) orders₀)
+    × (ordersOver (length work₀) (runsAmong samples most held at at (n - at)) (state samples marks counts journal used) orders
+    ≡ ordersOver (length work₀) (runsOf samples₀ most held) (state samples₀ marks₀ counts₀ journal₀ used₀) orders₀)
 
 abbrev μ-loop : tie.MeasureT-loop
-μ-loop samples₀ marks₀ counts₀ journal₀ used₀ most work₀ orders₀ n qualified₀ repaired₀ refused₀ at₀
+μ-loop samples₀ marks₀ counts₀ journal₀ used₀ most held work₀ orders₀ n qualified₀ repaired₀ refused₀ at₀
     samples marks counts journal used work orders qualified repaired refused at =
     n - at
 
@@ -48,12 +48,12 @@ start c = c .before .before .before .before .before .before .before
 abbrev turned : tie.At-loop Inv-loop μ-loop → State
 turned c = state (c .loop .samples) (c .loop .marks) (c .loop .counts) (c .loop .journal) (c .loop .used)
 
--- where the run lies that a turn finds
+-- where the gap ends of the run that a turn finds
 run-found : (c : tie.After-found Inv-loop μ-loop)
     → let at = c .before .before .before .before .before in
-    (at .loop .at ≤ c .found .given .0 .0) × (1 ≤ c .found .given .0 .1 .0)
+    (at .loop .at < c .found .given .0 .0 + c .found .given .0 .1 .0)
     × (c .found .given .0 .0 + c .found .given .0 .1 .0 < length (at .loop .samples))
-run-found c = found-within _ _ _ _ _ (sym (c .before .before .next-run .ensures) ∙ c .found .given .1)
+run-found c = found-within _ _ _ _ _ _ (sym (c .before .before .next-run .ensures) ∙ c .found .given .1)
 
 -- the samples fill a part of the memory
 few : (c : tie.At-loop Inv-loop μ-loop) → length (c .loop .samples) < 9223372036854775808
@@ -140,12 +140,12 @@ loop-again c =
       counts .counts .given ∙ at .loop .inv .5,
       journal .journal .given ∙ at .loop .inv .6,
       work .work .given ∙ at .loop .inv .7,
-      scan-turn _ _ _ _ _ _ _ _ (turned at) _ _ _ _ _ _ _ _
+      scan-turn _ _ _ _ _ _ _ _ _ (turned at) _ _ _ _ _ _ _ _
           (omega (arith, run-found turn, at .loop .inv .1, at .loop .inv .3))
           found (gap .inpaint-gap .ensures .0) (gap .inpaint-gap .ensures .1) (counted .number-of .ensures) (c .before .accepted .ensures)
           (c .first-of .ensures) (at .loop .inv .8),
       counted .before .before .orders .given ∙ at .loop .inv .9,
-      orders-turn _ _ _ _ _ _ (turned at) _ (at .loop .work) _ _ _ _ _ (at .loop .inv .3) (at .loop .inv .7) found (gap .inpaint-gap .ensures .0)
+      orders-turn _ _ _ _ _ _ _ (turned at) _ (at .loop .work) _ _ _ _ _ (at .loop .inv .3) (at .loop .inv .7) found (gap .inpaint-gap .ensures .0)
           (gap .inpaint-gap .ensures .2) (noted .note-order .ensures) (at .loop .inv .10),
     )
 
@@ -171,8 +171,8 @@ returns : tie.Need-returns Inv-loop μ-loop
 returns c =
     let at = c .before .loop in
     let past : length (at .samples) ≤ at .at = omega (arith, c .loop-test .left, at .inv .3) in
-    let ends = sym (search-ends _ _ _ _ _ past refl) in
-    (sym (scan-stops _ _ _ _ ends) ∙ at .inv .8, orders-none _ _ _ _ (turned (c .before)) _ _ (at .inv .3) ends (at .inv .10))
+    let ends = sym (search-ends _ _ _ _ _ _ past refl) in
+    (sym (scan-stops _ _ _ _ _ ends) ∙ at .inv .8, orders-none _ _ _ _ _ (turned (c .before)) _ _ (at .inv .3) ends (at .inv .10))
 
 same-length-7 : tie.Need-same-length-7 Inv-loop μ-loop
 same-length-7 c = c .before .before .before .before .before .loop .inv .3
@@ -197,7 +197,7 @@ returns-2 c =
     let told = c .before .before in
     let at = told .before .before .before in
     let ends = sym (told .next-run .ensures) ∙ c .enum-told .given .1 in
-    (sym (scan-stops _ _ _ _ ends) ∙ at .loop .inv .8, orders-none _ _ _ _ (turned at) _ _ (at .loop .inv .3) ends (at .loop .inv .10))
+    (sym (scan-stops _ _ _ _ _ ends) ∙ at .loop .inv .8, orders-none _ _ _ _ _ (turned at) _ _ (at .loop .inv .3) ends (at .loop .inv .10))
 
 pub repair-runs-spec : {M : Type 1} → statement M
 repair-runs-spec =

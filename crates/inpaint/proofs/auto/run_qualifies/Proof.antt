@@ -11,7 +11,7 @@ is-long-enough-requires : tie.Need-is-long-enough-requires
 is-long-enough-requires c κs = search needs
 
 returns : tie.Need-returns
-returns c = qualifies-short _ _ _ _ _ (sym (c .before .is-long-enough .ensures) ∙ not-true _ (c .if1 .taken))
+returns c = qualifies-short _ _ _ _ _ _ (sym (c .before .is-long-enough .ensures) ∙ not-true _ (c .if1 .taken))
 
 kept-of-requires : tie.Need-kept-of-requires
 kept-of-requires c κs = search needs
@@ -30,7 +30,7 @@ returns-2 c =
     let kept = c .before in
     let long = kept .before in
     c .is-gap-allowed .ensures
-    ∙ qualifies-gap _ _ _ _ _ (sym (long .before .is-long-enough .ensures) ∙ not-false _ (long .if1 .left)) _ (kept .kept-of .ensures)
+    ∙ qualifies-gap _ _ _ _ _ _ (sym (long .before .is-long-enough .ensures) ∙ not-false _ (long .if1 .left)) _ (kept .kept-of .ensures)
 
 pub run-qualifies-spec : {M : Type 1} → statement M
 run-qualifies-spec =
