@@ -3,7 +3,7 @@
 use Prim.Native.Nat.{ℕ, zero, suc, _+_, _*_, _≤_, _<_}
 use native.Mathlib.Omega.{arith}
 use native.Mathlib.Nat.{add-zero}
-use mathlib.Core.Path.{_≡_, refl, sym, ap, _∙_}
+use mathlib.Core.Path.{_≡_, refl, sym, ap, subst, _∙_}
 use mathlib.Core.Bool.{true, _&&_}
 use mathlib.Core.List.{List, [], _∷_, _++_, map, flatten, append-assoc, append-nil}
 use lib.ListN.{length, getD, take, drop, replicate, length-append, length-map, length-replicate}
@@ -55,9 +55,11 @@ small-rows (suc n) k at few near (suc (suc (suc i))) = small-rows n (k + 1) (at 
 
 pub small-table : (n : ℕ) → n ≤ parts → Below wordsTo (table versionBytes (replicate n 4))
 unfolding table
-small-table n few zero = rw (length-replicate n 4) (omega arith)
+small-table n few zero =
+    let count = length-replicate {A = ℕ} n 4 in
+    omega (arith, count)
 small-table n few (suc i) =
-    let count = length-replicate n 4 in
+    let count = length-replicate {A = ℕ} n 4 in
     small-rows n 1 (versionBytes + tableBytes (length (replicate n 4))) (omega arith) (omega (arith, count)) i
 
 -- ---- A block that is laid down
@@ -71,7 +73,7 @@ length-block version ws =
     let inner = length-append (encoded t) bodies in
     let sized = length-encoded t in
     let counted = length-table versionBytes (map length (map bytesOf ws)) in
-    let each = ap length (fours ws) ∙ length-replicate (length ws) 4 in
+    let each = ap length (fours ws) ∙ length-replicate {A = ℕ} (length ws) 4 in
     let words = ap length (bodies-encoded ws) ∙ length-encoded ws in
     omega (arith, behind, inner, sized, counted, each, words, length-bytes version)
 
@@ -84,10 +86,10 @@ form-laid : (version : ℕ) (ws : List ℕ) → length ws ≤ parts → formed (
 unfolding formed blockOf
 form-laid version ws few =
     let bodies = map bytesOf ws in
-    let small : Below wordsTo (table versionBytes (map length bodies)) = rw (fours ws) (small-table (length ws) few) in
+    let small = subst (λ (lens : List ℕ). Below wordsTo (table versionBytes lens)) (sym (fours ws)) (small-table (length ws) few) in
     let r = filed-is-read versionBytes (bytesOf version) bodies (length-bytes version) small in
     let count : length ws ≡ length bodies = sym (length-map ws bytesOf) in
-    let each : oneWordEach (map length bodies) ≡ true = rw (fours ws) (each-is-one (length ws)) in
+    let each : oneWordEach (map length bodies) ≡ true = ap oneWordEach (fours ws) ∙ each-is-one (length ws) in
     rw (count, r .0, r .1) each
 
 words-laid : (version : ℕ) (ws : List ℕ) → Below wordsTo ws → wordsIn (length ws) (blockOf version ws) ≡ ws
@@ -98,7 +100,7 @@ words-laid version ws below =
     let split : bytesOf version ++ (t ++ flatten (map bytesOf ws)) ≡ front ++ (encoded ws ++ []) =
     rw (bodies-encoded ws, append-nil (encoded ws)) (sym (append-assoc (bytesOf version) t (encoded ws))) in
     let sized : versionBytes + tableBytes (length ws) ≡ length front + 0 =
-    let each = ap length (fours ws) ∙ length-replicate (length ws) 4 in
+    let each = ap length (fours ws) ∙ length-replicate {A = ℕ} (length ws) 4 in
     omega
     (arith, each, length-append (bytesOf version) t, length-bytes version, length-encoded (table versionBytes (map length (map bytesOf ws))),
     length-table versionBytes (map length (map bytesOf ws)))
@@ -136,6 +138,15 @@ total-fours : (n : ℕ) → total (replicate n 4) ≡ 4 * n
 total-fours zero = refl
 total-fours (suc n) = let rest = total-fours n in omega (arith, rest)
 
+-- what is read of it, laid down again
+remade : (n : ℕ) (block : List ℕ) → take versionBytes block ≡ bytesOf (wordAt block 0)
+    → cut (lengthsIn versionBytes n block) (drop (versionBytes + tableBytes n) block) ≡ map bytesOf (wordsIn n block)
+    → take versionBytes block ++ filed versionBytes (bodiesIn versionBytes n block) ≡ blockOf (wordAt block 0) (wordsIn n block)
+unfolding blockOf bodiesIn
+remade n block front bodies =
+    ap (λ (xs : List ℕ). xs ++ filed versionBytes (bodiesIn versionBytes n block)) front
+    ∙ ap (λ (bs : List (List ℕ)). bytesOf (wordAt block 0) ++ filed versionBytes bs) bodies
+
 pub has-form : (n : ℕ) (block : List ℕ) → formed n block ≡ true → Formed n block
 unfolding formed
 has-form n block h = record { sized = length-is; again = λ below. sym (made below) }
@@ -156,9 +167,7 @@ has-form n block h = record { sized = length-is; again = λ below. sym (made bel
 
     made : Below bytesTo block → block ≡ blockOf (wordAt block 0) (wordsIn n block)
     made below =
-        let r = read-is-filed versionBytes n block below (tests .0) .0 in
-        let front : take versionBytes block ≡ bytesOf (wordAt block 0) = word-bytes block 0 below (omega (arith, length-is)) in
-        let bodies : bodiesIn versionBytes n block ≡ map bytesOf (wordsIn n block) =
-        unfold bodiesIn in rw lens-are (cut-words n (versionBytes + tableBytes n) block below (omega (arith, length-is)))
-        in
-        r ∙ unfold blockOf in rw (front, bodies) refl
+        read-is-filed versionBytes n block below (tests .0) .0
+        ∙ remade n block (word-bytes block 0 below (omega (arith, length-is)))
+        (ap (λ (lens : List ℕ). cut lens (drop (versionBytes + tableBytes n) block)) lens-are
+        ∙ cut-words n (versionBytes + tableBytes n) block below (omega (arith, length-is)))

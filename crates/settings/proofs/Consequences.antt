@@ -24,7 +24,7 @@ use Rattle.settings.specs.Settings.{partsV1, parts, wordsV1, words, sett
 use Rattle.settings.specs.Settings.{ofFirst, ofSecond, readV1, withHeldRun, read}
 use Rattle.settings.specs.Consequences.{HoldsV1, Holds, BlocksAreAsLong, WrittenIsReadV1, WrittenIsRead, ReadIsWrittenV1, ReadIsWritten}
 use Rattle.settings.specs.Consequences.{AcceptedAreAllowed, JustOneBlock, FirstWithHeldRun, FirstAlone}
-use Rattle.settings.proofs.Words.{settings-back-v1, settings-back, words-below-v1, words-below, words-are-kept}
+use Rattle.settings.proofs.Patterns.{settings-back-v1, settings-back, words-below-v1, words-below, words-are-kept}
 use Rattle.settings.proofs.Block.{length-block, Laid, laid, Formed, has-form}
 
 -- ---- What was accepted
@@ -41,11 +41,11 @@ no-refusal both =
     absurd (omega arith)
 
 -- the settings of an acceptance, or else others
-kept-v1 : SettingsV1 → KeptV1 → SettingsV1
+abbrev kept-v1 : SettingsV1 → KeptV1 → SettingsV1
 kept-v1 other (KnownV1 s) = s
 kept-v1 other (TurnedAwayV1 why) = other
 
-kept : Settings → Kept → Settings
+abbrev kept : Settings → Kept → Settings
 kept other (Known s) = s
 kept other (TurnedAway why) = other
 
@@ -95,25 +95,25 @@ second-kept block s h = go (truth (formed parts block)) (truth (allowed (setting
 
 reads-first-v1 : (block : List ℕ) → versionBytes ≤ length block → wordAt block 0 ≡ 1 → readV1 block ≡ ofFirst block
 unfolding readV1
-reads-first-v1 block long v = rw (le-ltb versionBytes (length block) long, eq-eqb (wordAt block 0) 1 v) refl
+reads-first-v1 block long v = rw (le-ltb (length block) versionBytes long, eq-eqb (wordAt block 0) 1 v) refl
 
 reads-second : (block : List ℕ) → versionBytes ≤ length block → wordAt block 0 ≡ 2 → read block ≡ ofSecond block
 unfolding read
 reads-second block long v =
     let other : eqb (wordAt block 0) 1 ≡ false = ne-eqb (wordAt block 0) 1 (λ e. absurd (omega arith)) in
-    rw (le-ltb versionBytes (length block) long, other, eq-eqb (wordAt block 0) 2 v) refl
+    rw (le-ltb (length block) versionBytes long, other, eq-eqb (wordAt block 0) 2 v) refl
 
 pub first-with-held-run : FirstWithHeldRun
 unfolding readV1 read
 first-with-held-run block v =
     elim (truth (ltb (length block) versionBytes)) [
-      | inl short ↦ rw (short, short) refl
-      | inr long ↦ rw (long, long, eq-eqb (wordAt block 0) 1 v) refl
+      | inl short ↦ rw short refl
+      | inr long ↦ rw (long, eq-eqb (wordAt block 0) 1 v) refl
     ]
 
 pub first-alone : FirstAlone
 unfolding readV1
-first-alone block long other = rw (le-ltb versionBytes (length block) long, ne-eqb (wordAt block 0) 1 other) refl
+first-alone block long other = rw (le-ltb (length block) versionBytes long, ne-eqb (wordAt block 0) 1 other) refl
 
 -- an accepted block has a version that is known, and is one of it
 accepted-v1 : (block : List ℕ) (s : SettingsV1) → readV1 block ≡ KnownV1 s → (wordAt block 0 ≡ 1) × (ofFirst block ≡ KnownV1 s)
@@ -129,12 +129,12 @@ accepted-v1 block s h = go (truth (ltb (length block) versionBytes)) (truth (eqb
 -- the settings of version 1 with a run length beside them come from settings of version 1
 record Beside (k : KeptV1) (s : Settings) : Type 0 where
   first : k ≡ KnownV1 (s .first)
-  sixteen : s .held_run ≡ heldRun
+  sixteen : s .held ≡ heldRun
 
 beside : (k : KeptV1) (s : Settings) → withHeldRun k ≡ Known s → Beside k s
 beside (KnownV1 t) s h =
     let same = ap (kept s) h in
-    record { first = ap (λ (r : Settings). KnownV1 (r .first)) same; sixteen = ap (λ (r : Settings). r .held_run) (sym same) }
+    record { first = ap (λ (r : Settings). KnownV1 (r .first)) same; sixteen = ap (λ (r : Settings). r .held) (sym same) }
 beside (TurnedAwayV1 why) s h = no-refusal h
 
 record OfFirst (block : List ℕ) (s : Settings) : Type 0 where

@@ -1,4 +1,4 @@
 -- Laws of stored settings: the words of settings, the bytes of a block, and what follows from the rules.
-pub mod Words
+pub mod Patterns
 pub mod Block
 pub mod Consequences

@@ -24,12 +24,12 @@ pub record HoldsV1 (s : SettingsV1) : Type 0 where
   pub sensitivity : fits binary32 (s .sensitivity) ≡ true
   pub strength : fits binary32 (s .strength) ≡ true
   pub bits : s .bits < wordsTo
-  pub longest-gap : fits binary32 (s .longest_gap) ≡ true
+  pub longest : fits binary32 (s .longest) ≡ true
   pub rate : s .rate < wordsTo
 
 pub record Holds (s : Settings) : Type 0 where
   pub first : HoldsV1 (s .first)
-  pub held-run : s .held_run < wordsTo
+  pub held : s .held < wordsTo
 
 -- ---- Both ways
 

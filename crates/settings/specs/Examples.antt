@@ -4,8 +4,9 @@ use Prim.Native.Nat.{ℕ}
 use mathlib.Core.Path.{_≡_, refl}
 use mathlib.Core.List.{List, [], _∷_, _++_, map}
 use lib.ListN.{take}
+use lib.Ieee.{lt, isNan}
 use Rattle.recording.specs.Answers.{reasonNumber}
-use Rattle.wire.specs.Wire.{decoded, encoded}
+use Rattle.wire.specs.Wire.{encoded}
 use Rattle.settings.specs.declared.KeptV1.{KeptV1}
 use Rattle.settings.specs.declared.KeptV1.the-variants.{KnownV1, TurnedAwayV1}
 use Rattle.settings.specs.declared.Kept.{Kept}
@@ -96,14 +97,14 @@ rows =
 
 pub rows-hold : (map (λ (r : Row). numberV1 (readV1 (r .block))) rows ≡ map (λ (r : Row). r .old) rows)
     × (map (λ (r : Row). number (read (r .block))) rows ≡ map (λ (r : Row). r .new) rows)
-unfolding readV1 read blockOf encoded
+unfolding readV1 read blockOf encoded lt isNan
 rows-hold = (refl, refl)
 
 -- the version 1 block through the new reader: its six, and 16
 abbrev pub heldOf : Kept → ℕ
-heldOf (Known s) = s .held_run
+heldOf (Known s) = s .held
 heldOf (TurnedAway why) = 0
 
 pub given-sixteen : heldOf (read (blockOf 1 six)) ≡ 16
-unfolding read blockOf encoded
+unfolding read blockOf encoded lt isNan
 given-sixteen = refl

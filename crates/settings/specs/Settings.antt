@@ -42,14 +42,14 @@ wordsV1 s =
     ∷ toBits binary32 (s .sensitivity)
     ∷ toBits binary32 (s .strength)
     ∷ s .bits
-    ∷ toBits binary32 (s .longest_gap)
+    ∷ toBits binary32 (s .longest)
     ∷ s .rate
     ∷ []
 
 -- and the run length behind them
 unfoldable pub words : Settings → List ℕ
 unfolding wordsV1
-words s = wordsV1 (s .first) ++ (s .held_run ∷ [])
+words s = wordsV1 (s .first) ++ (s .held ∷ [])
 
 -- the settings that words stand for
 unfoldable pub settingsV1 : List ℕ → SettingsV1
@@ -60,13 +60,13 @@ settingsV1 ws =
       sensitivity = float (getD ws 1 0);
       strength = float (getD ws 2 0);
       bits = getD ws 3 0;
-      longest_gap = float (getD ws 4 0);
+      longest = float (getD ws 4 0);
       rate = getD ws 5 0;
     }
 
 unfoldable pub settings : List ℕ → Settings
 unfolding settingsV1
-settings ws = record { first = settingsV1 ws; held_run = getD ws 6 0 }
+settings ws = record { first = settingsV1 ws; held = getD ws 6 0 }
 
 -- "a setting not allowed under document 01 or here": each as the repair that takes it has it, and any bits
 unfoldable pub allowedV1 : SettingsV1 → Bool
@@ -74,11 +74,11 @@ allowedV1 s =
     declip.allowed (s .threshold)
     && decrackle.allowed (s .sensitivity)
     && dequant.allowed (s .strength)
-    && scan.allowed (s .rate) (s .longest_gap)
+    && scan.allowed (s .rate) (s .longest)
 
 unfoldable pub allowed : Settings → Bool
 unfolding allowedV1
-allowed s = allowedV1 (s .first) && scan.heldAllowed (s .held_run)
+allowed s = allowedV1 (s .first) && scan.heldAllowed (s .held)
 
 -- ---- The block
 
@@ -137,7 +137,7 @@ readV1 block =
 
 -- "The new reader gives a version 1 block the run length 16."
 abbrev pub withHeldRun : KeptV1 → Kept
-withHeldRun (KnownV1 s) = Known (record { first = s; held_run = scan.heldRun })
+withHeldRun (KnownV1 s) = Known (record { first = s; held = scan.heldRun })
 withHeldRun (TurnedAwayV1 why) = TurnedAway why
 
 unfoldable pub read : List ℕ → Kept

@@ -21,7 +21,7 @@ pub fn allowed_v1(settings: SettingsV1) -> bool
     if settings.strength != settings.strength {
         return false;
     }
-    settings_allowed(settings.rate, settings.longest_gap)
+    settings_allowed(settings.rate, settings.longest)
 }
 
 // Whether those of version 2 are, which has the held run's length beside them.
@@ -31,5 +31,5 @@ pub fn allowed(settings: Settings) -> bool
     if !allowed_v1(settings.first) {
         return false;
     }
-    held_allowed(settings.held_run)
+    held_allowed(settings.held)
 }

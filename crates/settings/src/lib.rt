@@ -36,14 +36,14 @@ pub struct SettingsV1 {
     // The bits that samples were recorded with.
     pub bits: u32,
     // The longest gap that a scan repairs, in milliseconds, and the samples of a second.
-    pub longest_gap: f32,
+    pub longest: f32,
     pub rate: u32,
 }
 
 // The settings of version 2: those of version 1, and from how many equal words on a scan takes a run for held.
 pub struct Settings {
     pub first: SettingsV1,
-    pub held_run: u32,
+    pub held: u32,
 }
 
 // What a version 1 reader gives: settings, or why the block is turned away.

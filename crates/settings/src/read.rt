@@ -98,7 +98,7 @@ fn with_held_run(kept: KeptV1) -> Kept
     match kept {
         KeptV1::KnownV1(first) => Kept::Known(Settings {
             first,
-            held_run: HELD_RUN,
+            held: HELD_RUN,
         }),
         KeptV1::TurnedAwayV1(why) => Kept::TurnedAway(why),
     }

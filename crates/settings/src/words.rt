@@ -18,7 +18,7 @@ pub fn store_v1(area: &mut [u32], settings: SettingsV1)
     area[1] = word_of_f32(settings.sensitivity);
     area[2] = word_of_f32(settings.strength);
     area[3] = settings.bits;
-    area[4] = word_of_f32(settings.longest_gap);
+    area[4] = word_of_f32(settings.longest);
     area[5] = settings.rate;
 }
 
@@ -28,7 +28,7 @@ pub fn store(area: &mut [u32], settings: Settings)
     ensures { λ _. ⌜ now (area .exit) ≡ sets (now (area .entry)) 0 (words settings) ⌝ }
 {
     store_v1(area, settings.first);
-    area[6] = settings.held_run;
+    area[6] = settings.held;
 }
 
 // The settings of version 1 that the first words stand for.
@@ -41,7 +41,7 @@ pub fn settings_v1(words: &[u32]) -> SettingsV1
         sensitivity: f32_of_word(words[1]),
         strength: f32_of_word(words[2]),
         bits: words[3],
-        longest_gap: f32_of_word(words[4]),
+        longest: f32_of_word(words[4]),
         rate: words[5],
     }
 }
@@ -53,6 +53,6 @@ pub fn settings(words: &[u32]) -> Settings
 {
     Settings {
         first: settings_v1(words),
-        held_run: words[6],
+        held: words[6],
     }
 }

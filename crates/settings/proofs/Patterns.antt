@@ -35,12 +35,12 @@ settings-back-v1 s h =
       float-back (s .threshold) (h .threshold),
       float-back (s .sensitivity) (h .sensitivity),
       float-back (s .strength) (h .strength),
-      float-back (s .longest_gap) (h .longest-gap),
+      float-back (s .longest) (h .longest),
     ) refl
 
 pub settings-back : (s : Settings) → Holds s → settings (words s) ≡ s
 unfolding settings settingsV1 words wordsV1
-settings-back s h = ap (λ (first : SettingsV1). record { first = first; held_run = s .held_run }) (settings-back-v1 (s .first) (h .first))
+settings-back s h = ap (λ (first : SettingsV1). record { first = first; held = s .held }) (settings-back-v1 (s .first) (h .first))
 
 -- the words are of 32 bits
 pattern-below : (x : Float) → fits binary32 x ≡ true → toBits binary32 x < wordsTo
@@ -52,7 +52,7 @@ words-below-v1 s h zero = pattern-below (s .threshold) (h .threshold)
 words-below-v1 s h (suc zero) = pattern-below (s .sensitivity) (h .sensitivity)
 words-below-v1 s h (suc (suc zero)) = pattern-below (s .strength) (h .strength)
 words-below-v1 s h (suc (suc (suc zero))) = h .bits
-words-below-v1 s h (suc (suc (suc (suc zero)))) = pattern-below (s .longest_gap) (h .longest-gap)
+words-below-v1 s h (suc (suc (suc (suc zero)))) = pattern-below (s .longest) (h .longest)
 words-below-v1 s h (suc (suc (suc (suc (suc zero))))) = h .rate
 words-below-v1 s h (suc (suc (suc (suc (suc (suc i)))))) = omega arith
 
@@ -64,12 +64,13 @@ words-below s h (suc (suc zero)) = words-below-v1 (s .first) (h .first) 2
 words-below s h (suc (suc (suc zero))) = words-below-v1 (s .first) (h .first) 3
 words-below s h (suc (suc (suc (suc zero)))) = words-below-v1 (s .first) (h .first) 4
 words-below s h (suc (suc (suc (suc (suc zero))))) = words-below-v1 (s .first) (h .first) 5
-words-below s h (suc (suc (suc (suc (suc (suc zero)))))) = h .held-run
+words-below s h (suc (suc (suc (suc (suc (suc zero)))))) = h .held
 words-below s h (suc (suc (suc (suc (suc (suc (suc i))))))) = omega arith
 
 -- ---- From words to settings and back
 
 finite-not-nan : (x : Float) → finite x ≡ true → not (isNan x) ≡ true
+unfolding isNan
 finite-not-nan nan h = absurd (true≢false (sym h))
 finite-not-nan (inf s) h = refl
 finite-not-nan (fin s m e) h = refl
@@ -83,19 +84,19 @@ record Good (s : SettingsV1) : Type 0 where
   threshold : not (isNan (s .threshold)) ≡ true
   sensitivity : not (isNan (s .sensitivity)) ≡ true
   strength : not (isNan (s .strength)) ≡ true
-  longest-gap : not (isNan (s .longest_gap)) ≡ true
+  longest : not (isNan (s .longest)) ≡ true
 
 good : (s : SettingsV1) → allowedV1 s ≡ true → Good s
 unfolding allowedV1
 good s h =
-    let gap = both-hold _ (scan.allowed (s .rate) (s .longest_gap)) h in
+    let gap = both-hold _ (scan.allowed (s .rate) (s .longest)) h in
     let strong = both-hold _ (dequant.allowed (s .strength)) (gap .0) in
     let keen = both-hold (declip.allowed (s .threshold)) (decrackle.allowed (s .sensitivity)) (strong .0) in
     record {
       threshold = finite-not-nan (s .threshold) (both-hold (finite (s .threshold)) _ (keen .0) .0);
       sensitivity = keen .1;
       strength = strong .1;
-      longest-gap = finite-not-nan (s .longest_gap) (both-hold _ (finite (s .longest_gap)) (gap .1) .1);
+      longest = finite-not-nan (s .longest) (both-hold _ (finite (s .longest)) (gap .1) .1);
     }
 
 -- n words from place i on, place by place
@@ -104,7 +105,7 @@ placed ws i zero = []
 placed ws i (suc n) = getD ws i 0 ∷ placed ws (i + 1) n
 
 placed-all : (ws : List ℕ) (i n : ℕ) → length ws ≡ i + n → placed ws i n ≡ drop i ws
-placed-all ws i zero count = sym (drop-of-length-le ws (omega arith))
+placed-all ws i zero count = sym (drop-of-length-le ws {i = i} (omega arith))
 placed-all ws i (suc n) count =
     let next : suc i ≡ i + 1 = omega arith in
     sym (drop-cons ws i 0 (omega arith) ∙ rw (next, ← placed-all ws (i + 1) n (omega arith)) refl)
@@ -117,7 +118,7 @@ first-six ws below h =
       pattern-back (getD ws 0 0) (below 0) (g .threshold),
       pattern-back (getD ws 1 0) (below 1) (g .sensitivity),
       pattern-back (getD ws 2 0) (below 2) (g .strength),
-      pattern-back (getD ws 4 0) (below 4) (g .longest-gap),
+      pattern-back (getD ws 4 0) (below 4) (g .longest),
     ) refl
 
 pub words-are-kept : WordsAreKept
