@@ -1,44 +1,70 @@
+-- `settings::read::read` meets its contract: each way out is a line of the rule. Assumes nothing.
+use Prim.Native.Nat.{ℕ, _≤_, _<_}
+use native.Mathlib.Omega.{arith}
+use mathlib.Core.Path.{_≡_, refl, sym, ap, _∙_}
+use mathlib.Core.List.{List}
+use lib.ListN.{length}
 use borrow.Author.Needs.{needs}
+use borrow.Author.Tests.{lt-ltb, le-ltb, eq-eqb, ne-eqb}
+use Rattle.wire.specs.Wire.{wordAt}
+use Rattle.recording.specs.declared.Reason.the-variants.{Version, Stored}
+use Rattle.settings.specs.declared.KeptV1.{KeptV1}
+use Rattle.settings.specs.declared.Kept.{Kept}
+use Rattle.settings.specs.declared.Kept.the-variants.{TurnedAway}
+use Rattle.settings.specs.Settings.{versionBytes, ofFirst, ofSecond, withHeldRun, read}
 use Rattle.settings.proofs.read.read.Statement.{statement}
 use Rattle.settings.proofs.read.read.Tie as tie
-use Rattle.settings.proofs.read.read.Reads as reads
-use Rattle.settings.proofs.read.read.Lts as lts
-use Rattle.settings.proofs.read.of_first.Reads as of-first-reads
-use Rattle.settings.proofs.read.of_second.Reads as of-second-reads
-use Rattle.settings.proofs.read.with_held_run.Reads as with-held-run-reads
-use Rattle.wire.proofs.word_at.Reads as word-at-reads
 
--- src/read.rt:112:9
+no-version : (block : List ℕ) → length block < versionBytes → TurnedAway Stored ≡ read block
+unfolding read
+no-version block short = rw (lt-ltb (length block) versionBytes short) refl
+
+module _ (block : List ℕ) (long : versionBytes ≤ length block) (version : ℕ) (is : version ≡ wordAt block 0) where
+  the-first : version ≡ 1 → (k : KeptV1) (r : Kept) → k ≡ ofFirst block → r ≡ withHeldRun k → r ≡ read block
+  unfolding read
+  the-first same k r e f =
+      f ∙ ap withHeldRun e ∙ rw (le-ltb (length block) versionBytes long, ← is, eq-eqb version 1 same) refl
+
+  module _ (not-first : version ≡ 1 → ⊥) where
+    another : (version ≡ 2 → ⊥) → TurnedAway Version ≡ read block
+    unfolding read
+    another other = rw (le-ltb (length block) versionBytes long, ← is, ne-eqb version 1 not-first, ne-eqb version 2 other) refl
+
+    the-second : version ≡ 2 → (k : Kept) → k ≡ ofSecond block → k ≡ read block
+    unfolding read
+    the-second same k e =
+        e ∙ rw (le-ltb (length block) versionBytes long, ← is, ne-eqb version 1 not-first, eq-eqb version 2 same) refl
+
 returns : tie.Need-returns
-returns c = ?
+returns c = no-version _ (c .if1 .taken)
 
--- src/read.rt:114:9
 word-at-requires : tie.Need-word-at-requires
 word-at-requires c κs = search needs
 
--- src/read.rt:116:30
 of-first-requires : tie.Need-of-first-requires
 of-first-requires c κs = search needs
 
--- src/read.rt:116:9
 with-held-run-requires : tie.Need-with-held-run-requires
 with-held-run-requires c κs = search needs
 
--- src/read.rt:116:9
 returns-2 : tie.Need-returns-2
-returns-2 c = ?
+returns-2 c =
+    let first = c .before .before in
+    the-first _ (first .before .before .if1 .left) _ (first .before .word-at .ensures) (first .if2 .taken) _ _ (c .before .of-first .ensures) (c .with-held-run .ensures)
 
--- src/read.rt:119:9
 returns-3 : tie.Need-returns-3
-returns-3 c = ?
+returns-3 c =
+    let first = c .before in
+    another _ (first .before .before .if1 .left) _ (first .before .word-at .ensures) (first .if2 .left) (c .if3 .taken)
 
--- src/read.rt:121:5
 of-second-requires : tie.Need-of-second-requires
 of-second-requires c κs = search needs
 
--- src/read.rt:108:1
 returns-4 : tie.Need-returns-4
-returns-4 c = ?
+returns-4 c =
+    let second = c .before in
+    let first = second .before in
+    the-second _ (first .before .before .if1 .left) _ (first .before .word-at .ensures) (first .if2 .left) (second .if3 .left) _ (c .of-second .ensures)
 
 pub read-spec : {M : Type 1} → statement M
 read-spec =

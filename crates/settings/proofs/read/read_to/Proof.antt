@@ -1,40 +1,56 @@
+-- `settings::read::read_to` meets its contract: each way out is a line of the rule. Assumes nothing.
+use Prim.Native.Nat.{ℕ, _≤_, _<_}
+use mathlib.Core.Path.{_≡_, refl, sym, ap, _∙_}
+use mathlib.Core.List.{List}
+use lib.ListN.{length}
+use lib.Seq.{sets}
 use borrow.Author.Needs.{needs}
+use borrow.Author.Tests.{lt-ltb, le-ltb}
+use Rattle.recording.specs.declared.Reason.{Reason}
+use Rattle.recording.specs.declared.Reason.the-variants.{Workspace}
+use Rattle.recording.specs.declared.Answer.the-variants.{Done, Refused}
+use Rattle.settings.specs.declared.Settings.{Settings}
+use Rattle.settings.specs.declared.Kept.{Kept}
+use Rattle.settings.specs.declared.Kept.the-variants.{Known, TurnedAway}
+use Rattle.settings.specs.Settings.{parts, words, read, left, readTo}
 use Rattle.settings.proofs.read.read_to.Statement.{statement}
 use Rattle.settings.proofs.read.read_to.Tie as tie
-use Rattle.settings.proofs.read.read_to.Reads as reads
-use Rattle.settings.proofs.read.read_to.Lts as lts
-use Rattle.settings.proofs.read.read.Reads as read-reads
-use Rattle.settings.proofs.words.store.Reads as store-reads
 
--- src/read.rt:146:9
+short-area : (block area : List ℕ) → length area < parts → left (Refused Workspace) area ≡ readTo block area
+unfolding readTo
+short-area block area short = rw (lt-ltb (length area) parts short) refl
+
+module _ (block area : List ℕ) (room : parts ≤ length area) (k : Kept) (told : k ≡ read block) where
+  known : (s : Settings) (after : List ℕ) → k ≡ Known s → after ≡ sets area 0 (words s)
+      → left (Done parts) after ≡ readTo block area
+  unfolding readTo
+  known s after is e = rw (e, le-ltb (length area) parts room, sym told ∙ is) refl
+
+  turned-away : (why : Reason) → k ≡ TurnedAway why → left (Refused why) area ≡ readTo block area
+  unfolding readTo
+  turned-away why is = rw (le-ltb (length area) parts room, sym told ∙ is) refl
+
 returns : tie.Need-returns
-returns c = ?
+returns c = short-area _ _ (c .if1 .taken)
 
--- src/read.rt:148:11
 read-requires : tie.Need-read-requires
 read-requires c κs = search needs
 
--- src/read.rt:149:21
 enum-known-settings : tie.Need-enum-known-settings
 enum-known-settings c = search needs
 
--- src/read.rt:150:13
 store-requires : tie.Need-store-requires
 store-requires c κs = search needs
 
--- src/read.rt:153:26
 enum-known-why : tie.Need-enum-known-why
 enum-known-why c = search needs
 
--- src/read.rt:142:1
 same-length : tie.Need-same-length
 same-length c = search needs
 
--- src/read.rt:142:1
 returns-2 : tie.Need-returns-2
 returns-2 c = ?
 
--- src/read.rt:142:1
 returns-3 : tie.Need-returns-3
 returns-3 c = ?
 

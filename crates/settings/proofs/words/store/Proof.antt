@@ -1,25 +1,30 @@
+-- `settings::words::store` meets its contract: the run length is stored behind the words of version 1. Assumes nothing.
+use Prim.Native.Nat.{ℕ}
+use mathlib.Core.Path.{_≡_, refl}
+use mathlib.Core.List.{List}
+use lib.ListN.{set}
+use lib.Seq.{sets}
 use borrow.Author.Needs.{needs}
+use Rattle.settings.specs.declared.Settings.{Settings}
+use Rattle.settings.specs.Settings.{wordsV1, words}
 use Rattle.settings.proofs.words.store.Statement.{statement}
 use Rattle.settings.proofs.words.store.Tie as tie
-use Rattle.settings.proofs.words.store.Reads as reads
-use Rattle.settings.proofs.words.store.Lts as lts
-use Rattle.settings.proofs.words.store_v1.Reads as store-v1-reads
 
--- src/words.rt:30:5
+seventh-store : (area after : List ℕ) (s : Settings) → after ≡ sets area 0 (wordsV1 (s .first)) → set after 6 (s .held) ≡ sets area 0 (words s)
+unfolding words wordsV1
+seventh-store area after s e = rw e refl
+
 store-v1-requires : tie.Need-store-v1-requires
 store-v1-requires c κs = search needs
 
--- src/words.rt:31:5
 slice-write-area : tie.Need-slice-write-area
 slice-write-area c = search needs
 
--- src/words.rt:26:1
 same-length : tie.Need-same-length
 same-length c = search needs
 
--- src/words.rt:26:1
 returns : tie.Need-returns
-returns c = ?
+returns c = seventh-store _ _ _ (c .before .before .store-v1 .ensures)
 
 pub store-spec : {M : Type 1} → statement M
 store-spec = tie.close (tie.spec store-v1-requires slice-write-area same-length returns)
