@@ -21,7 +21,7 @@ use Rattle.settings.specs.Settings.{parts, versionBytes, blockOf, blockB
 -- ---- Bodies of one word each
 
 -- so long
-fours : (ws : List ℕ) → map length (map bytesOf ws) ≡ replicate (length ws) 4
+pub fours : (ws : List ℕ) → map length (map bytesOf ws) ≡ replicate (length ws) 4
 fours [] = refl
 fours (w ∷ ws) = rw (length-bytes w, fours ws) refl
 

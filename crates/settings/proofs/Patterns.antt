@@ -3,10 +3,10 @@ use Prim.Native.Nat.{ℕ, zero, suc, _+_, _<_}
 use native.Mathlib.Omega.{arith}
 use mathlib.Core.Path.{_≡_, refl, sym, ap, subst, _∙_}
 use mathlib.Core.Bool.{Bool, true, false, not, _&&_, true≢false}
-use mathlib.Core.List.{List, [], _∷_}
+use mathlib.Core.List.{List, [], _∷_, _++_}
 use lib.ListN.{length, getD, drop, drop-of-length-le}
 use lib.Seq.{drop-cons}
-use lib.Dec.{T}
+use lib.Dec.{T, leb}
 use lib.Ieee.{Float, nan, inf, fin, binary32, fits, isNan, ofBits, toBits}
 use lib.Ieee.Bits.{ofBits-toBits, toBits-ofBits, toBits-lt}
 use lib.Ieee.Scale.{finite}
@@ -96,7 +96,7 @@ good s h =
       threshold = finite-not-nan (s .threshold) (both-hold (finite (s .threshold)) _ (keen .0) .0);
       sensitivity = keen .1;
       strength = strong .1;
-      longest = finite-not-nan (s .longest) (both-hold _ (finite (s .longest)) (gap .1) .1);
+      longest = finite-not-nan (s .longest) (both-hold (leb (s .rate) 16777216) (finite (s .longest)) (gap .1) .1);
     }
 
 -- n words from place i on, place by place
@@ -127,5 +127,5 @@ words-are-kept = (
   λ ws count below h. first-six ws below h ∙ placed-all ws 0 6 count,
   λ ws count below h.
   let six = both-hold (allowedV1 (settingsV1 ws)) (scan.heldAllowed (getD ws 6 0)) (unfold allowed in h) .0 in
-  rw (first-six ws below six) (placed-all ws 0 7 count),
+  ap (λ (l : List ℕ). l ++ (getD ws 6 0 ∷ [])) (first-six ws below six) ∙ placed-all ws 0 7 count,
 )

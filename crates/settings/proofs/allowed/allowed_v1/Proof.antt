@@ -38,7 +38,11 @@ module _ (s : SettingsV1) where
   tested a d e f = rw (e, f, ← nan-test (s .sensitivity), ← nan-test (s .strength)) opened
 
   by-threshold : (a : Bool) → a ≡ declip.allowed (s .threshold) → a ≡ false → false ≡ allowedV1 s
-  by-threshold a e off = sym (ap (λ (b : Bool). all b _ _ _) off) ∙ tested a _ e refl
+  by-threshold a e off =
+      let b = not (ne (s .sensitivity) (s .sensitivity)) in
+      let c = not (ne (s .strength) (s .strength)) in
+      let d = scan.allowed (s .rate) (s .longest) in
+      sym (ap (λ (t : Bool). all t b c d) off) ∙ tested a d e refl
 
   by-sensitivity : ne (s .sensitivity) (s .sensitivity) ≡ true → false ≡ allowedV1 s
   by-sensitivity on =

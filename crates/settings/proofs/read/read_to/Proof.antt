@@ -49,10 +49,17 @@ same-length : tie.Need-same-length
 same-length c = search needs
 
 returns-2 : tie.Need-returns-2
-returns-2 c = ?
+returns-2 c =
+    let stored = c .before .before in
+    let found = stored .before .before .before in
+    let told = found .before .before in
+    known _ _ (told .before .if1 .left) _ (told .read .ensures) _ _ (found .settings .given .1) (stored .store .ensures)
 
 returns-3 : tie.Need-returns-3
-returns-3 c = ?
+returns-3 c =
+    let found = c .before in
+    let told = found .before .before in
+    turned-away _ _ (told .before .if1 .left) _ (told .read .ensures) _ (found .why .given .1)
 
 pub read-to-spec : {M : Type 1} → statement M
 read-to-spec =
