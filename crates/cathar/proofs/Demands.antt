@@ -297,7 +297,8 @@ pub rules-are-lawful : RulesAreLawful
 rules-are-lawful (gap start len passes work) s = (gap-lawful start len passes (length work), tt)
 rules-are-lawful (gaps starts lens passes work lists) s =
     picks single.Lawful (listsWrong starts lens lists) _ _ tt (list-lawful passes (length work) (spans starts lens))
-rules-are-lawful (scan rate millis held work) s = scanned-lawful (length work) (runsOf (s .samples) (limit millis rate) held) (scannable rate millis held s)
+rules-are-lawful (scan rate millis held work) s =
+    scanned-lawful (length work) (runsOf (s .samples) (limit millis rate) held) (scannable rate millis held s)
 rules-are-lawful (declip threshold work) s = (declip-lawful threshold (length work), tt)
 rules-are-lawful (decrackle start sensitivity work) s = (decrackle-lawful start sensitivity (length work), tt)
 rules-are-lawful (dequantize bits strength work) s = (dequantize-lawful bits strength (length work), tt)

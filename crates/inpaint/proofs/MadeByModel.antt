@@ -176,7 +176,8 @@ there room r s old m accepted model =
 pub marked-has-its-order : MarkedHasItsOrder
 marked-has-its-order rate ms held work s h orders j fresh one short =
     let runs = runsOf (s .samples) (limit ms rate) held in
-    let made = marked (length work) runs s j fresh (sym (ap (λ (t : State). getD (t .marks) j 0) (scan-is-its-runs rate ms held work s h)) ∙ one) in (
+    let same = ap (λ (t : State). getD (t .marks) j 0) (scan-is-its-runs rate ms held work s h) in
+    let made = marked (length work) runs s j fresh (sym same ∙ one) in (
       made,
       orders-at-runs rate ms held work s h orders (made .before) (made .later) (made .stretch) j (made .among) (made .from) (made .to) short
           ∙ there (length work) (made .stretch) (run (gapCalls (length work) (made .before)) s) (getD orders j 0) (made .m) (made .accepted)

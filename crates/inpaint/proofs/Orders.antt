@@ -233,7 +233,8 @@ refused-scan-keeps-list rate ms held work s orders why h = rw (h, scanOrders) re
 pub orders-at-runs : OrdersAtRuns
 orders-at-runs rate ms held work s h orders before later r j runs low high short =
     let most = limit ms rate in
-    let ordered = subst (Ascending 0) runs (ascending (s .samples) most held 0 (runsOf (s .samples) most held) (all-in-turn (s .samples) most held)) in
+    let in-turn = all-in-turn (s .samples) most held in
+    let ordered = subst (Ascending 0) runs (ascending (s .samples) most held 0 (runsOf (s .samples) most held) in-turn) in
     ap (λ (l : List ℕ). getD l j 0)
     (scanned rate ms held work s orders h ∙ ap (λ (rs : List Stretch). ordersOver (length work) rs s orders) runs)
     ∙ at-run (length work) before later r 0 j s orders ordered low high short

@@ -217,8 +217,8 @@ all-numbers P I most held room s step begin =
 
 -- ---- How much of the journal they take
 
--- Runs take at most 3 * p + 1 words for p places, where p is two more than a held run has at least: for i places three words each, and i
--- words for p of them. So all is counted in p-ths of a word.
+-- Runs take at most 3 * p + 1 words for p places, where p is two more than a held run has at least: for each place three words and a p-th
+-- of a word. So all is counted in p-ths of a word, of which these are those for i places.
 abbrev dense : ℕ → ℕ → ℕ
 dense p i = 3 * (p * i) + i
 
@@ -232,36 +232,36 @@ dense-rate held i two =
     ∙ ap (λ (m : ℕ). 3 * (p * i) + m) (one-mul i)
 
 module _ (p v : ℕ) (some : 1 ≤ p) where
-  -- an entry of three words for each of `len` samples and two more
+  -- what an entry adds: three words for each of `len` samples, and two more
   grows : (u u' len : ℕ) → u' ≤ u + entrySize len → p * u' ≤ p * u + 3 * (p * len) + 2 * p
   grows u u' len grown =
       omega (arith, mul-le-mul-left p grown, mul-add p u (3 * len + 2), mul-add p (3 * len) 2, mul-left-comm p 3 len)
 
-  -- one of zeros and NaN, the first from place `at` on: two words more than three for each of its samples
+  -- what is used behind a run of zeros and NaN from place `at` on, if before it no more was than the densest runs take;
   after-lost : (i at len u u' : ℕ) → u' ≤ u + entrySize len → 2 ≤ len → i ≤ at → p * u ≤ p * v + dense p i
       → p * u' ≤ p * v + dense p (at + len) + (2 * p - 2)
   after-lost i at len u u' grown two on h = omega (arith, grows u u' len grown, mul-le-mul-left p on, mul-add p at len)
 
-  -- behind another, of which it does not begin at the end
+  -- if before it as much was as another such run can leave, at whose end it does not begin;
   after-both : (i at len u u' : ℕ) → u' ≤ u + entrySize len → 2 ≤ len → i + 1 ≤ at → p * u ≤ p * v + dense p i + (2 * p - 2)
       → p * u' ≤ p * v + dense p (at + len) + (2 * p - 2)
   after-both i at len u u' grown two on h =
       omega (arith, grows u u' len grown, mul-le-mul-left p on, mul-add p i 1, mul-add p at len)
 
-  -- one of a held word, of one sample more than its gap: one word less than three for each of its samples
+  -- and behind a run of a held word, of one sample more than its gap has, so that its entry has a word less than three for each of its samples
   after-held : (i at len u u' : ℕ) → u' ≤ u + entrySize len → p ≤ len + 3 → i ≤ at → p * u ≤ p * v + dense p i + (2 * p - 2)
       → p * u' ≤ p * v + dense p (at + (len + 1))
   after-held i at len u u' grown long on h =
       omega (arith, grows u u' len grown, mul-le-mul-left p on, mul-add p at (len + 1), mul-add p len 1)
 
-  -- where the journal has so many words, a place more leaves room for an entry
+  -- where the journal has as many words as the densest runs take at n places, no more are used up to a place before the last of them
   no-more : (n j k x : ℕ) → p * v + dense p n ≤ p * j → k + 1 ≤ n → p * x ≤ p * v + dense p k + (2 * p - 2) → j < x → ⊥
   no-more n j k x long inside h full =
       let below : j ≤ x = omega arith in
       omega (arith, mul-le-mul-left p inside, mul-le-mul-left p below, mul-add p k 1)
 
 -- up to place i, with u words used from the v on that were used before: no more than the densest runs take; or, at the end of a run of zeros
--- and NaN, where no such sample follows, up to two words less two p-ths more
+-- and NaN, where no such sample follows, up to two words less two p-ths of a word more (34 eighteenths, where 16 words are held)
 abbrev UsedTo : List ℕ → ℕ → ℕ → ℕ → ℕ → Type 0
 UsedTo samples p v i u =
     (p * u ≤ p * v + dense p i) ⊎ ((p * u ≤ p * v + dense p i + (2 * p - 2)) × (zeroOrNan (getD samples i 0) ≡ false))
