@@ -12,7 +12,8 @@ use Rattle.crackle.specs.Pieces as pieces
 use Rattle.frames.specs.Frames.{Delivered, delivered}
 use Rattle.splice.specs.Several.{AnswerLists, Several, several}
 use Rattle.cathar.specs.Calls.{Work, none, doubles, outcome, told, framesTold, toldOf, spanTold, spanToldOf}
-use Rattle.cathar.specs.Calls.{crackleTold, begunTold, heardTold}
+use Rattle.cathar.specs.Calls.{crackleTold, begunTold, heardTold, settingsTold, settingsToldOf}
+use Rattle.settings.specs.Settings as settings
 
 -- an opening
 pub tells : (call : Ended) (a : Answer) (s : State) (result : ℕ) → ended a s ≡ call → result ≡ number a
@@ -56,3 +57,8 @@ pub hears : (call : pieces.Told (List ℕ)) (a : Answer) (words room : List ℕ)
     → result ≡ number a → given ≡ value a
     → crackleTold result (given ∷ []) words room ≡ heardTold call
 hears call a words room result given e r v = rw (r, v, ← e) refl
+
+-- a call on stored settings
+pub stores : (call : settings.Left) (a : Answer) (lent : List ℕ) (result : ℕ) → settings.left a lent ≡ call → result ≡ number a
+    → settingsTold result lent ≡ settingsToldOf call
+stores call a lent result e r = rw (r, ← e) refl

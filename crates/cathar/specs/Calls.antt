@@ -20,6 +20,7 @@ use Rattle.decrackle.specs.Decrackle.{decrackleRepair}
 use Rattle.dequant.specs.Dequant.{dequantizeRepair, cosparseRepair}
 use Rattle.proposed.specs.Proposed.{proposedRepair}
 use Rattle.crackle.specs.Pieces.{Told}
+use Rattle.settings.specs.Settings.{Left}
 use Rattle.frames.specs.Frames.{Delivered}
 
 -- a call with its settings and the workspace that it is lent: doubles for a gap, for several and for the automatic scan, 32-bit words for
@@ -137,3 +138,15 @@ begunTold c = crackleTold (number (c .answer)) [] (c .held) (c .room)
 
 abbrev pub heardTold : Told (List ℕ) → CrackleTold
 heardTold c = crackleTold (number (c .answer)) (value (c .answer) ∷ []) (c .held) (c .room)
+
+-- reading and writing stored settings, which is no call on a recording either, leaves its number and the memory that was lent to be written: a
+-- reader's area for settings, or a writer's room for the block
+pub record SettingsTold : Type 0 where
+  pub number : ℕ
+  pub lent : List ℕ
+
+abbrev pub settingsTold : ℕ → List ℕ → SettingsTold
+settingsTold k lent = record { number = k; lent = lent }
+
+abbrev pub settingsToldOf : Left → SettingsTold
+settingsToldOf l = settingsTold (number (l .answer)) (l .lent)

@@ -9,7 +9,7 @@ ghost use Rattle.leaves.specs.Root.{Rooted};
 ghost use Rattle.cathar.specs.Calls.{gap, gaps, answersOf, scan, declip, decrackle, dequantize, cosparse, proposed, undo};
 ghost use Rattle.cathar.specs.Calls.{none, doubles, words, outcome, ran};
 ghost use Rattle.cathar.specs.Calls.{asMeasured, asReceived, opening, framesTold, toldOf, spanTold, spanToldOf};
-ghost use Rattle.cathar.specs.Calls.{crackleTold, begunTold, heardTold};
+ghost use Rattle.cathar.specs.Calls.{crackleTold, begunTold, heardTold, settingsTold, settingsToldOf};
 ghost use Rattle.crackle.specs.Kept.{beginKept, pieceKept, endKept};
 ghost use Rattle.decrackle.specs.declared.Start.the-variants.{Mean, Old};
 ghost use Rattle.frames.specs.Frames.{framesRead};
@@ -17,6 +17,7 @@ ghost use Rattle.inpaint.specs.Order.{gapOrder, scanOrders};
 ghost use Rattle.splice.specs.Several.{answersLent, answersLeft};
 ghost use Rattle.recording.specs.Lent.{left, lent, leftReading};
 ghost use Rattle.recording.specs.Question.{spanVerdict};
+ghost use Rattle.settings.specs.Settings.{readTo, readToV1, writeFrom, writeFromV1};
 use decrackle::Start;
 use dequant::passes::dequantize;
 use recording::numbers::number_of;
@@ -457,6 +458,47 @@ pub extern "C" fn cathar_crackle_end(state: &mut [u32], flags: &mut [u8], value:
 {
     let answer = crackle::kept::finish(state, flags);
     *value = value_of(answer);
+    number_of(answer)
+}
+
+// Reads a stored block of settings of version 1 or 2: seven words, floats as their patterns, in the first places of
+// `settings`; a block of version 1 gets the held run's length 16. The number of the refusal, 6, 17 or 18, with
+// nothing written, or 0.
+#[no_mangle]
+pub extern "C" fn cathar_read_settings(block: &[u8], settings: &mut [u32]) -> u32
+    ensures { λ r. ⌜ settingsTold r (now (settings .exit)) ≡ settingsToldOf (readTo (now (block .entry)) (now (settings .entry))) ⌝ }
+{
+    let answer = settings::read::read_to(block, settings);
+    number_of(answer)
+}
+
+// The version 1 reader, which turns a block of version 2 away with 17: six words. Answers as of
+// `cathar_read_settings`.
+#[no_mangle]
+pub extern "C" fn cathar_read_settings_v1(block: &[u8], settings: &mut [u32]) -> u32
+    ensures { λ r. ⌜ settingsTold r (now (settings .exit)) ≡ settingsToldOf (readToV1 (now (block .entry)) (now (settings .entry))) ⌝ }
+{
+    let answer = settings::read::read_to_v1(block, settings);
+    number_of(answer)
+}
+
+// Writes the first seven words as a stored block of version 2 in the first 120 bytes. The number of the refusal, 6 or
+// 18, with nothing written, or 0.
+#[no_mangle]
+pub extern "C" fn cathar_write_settings(settings: &[u32], block: &mut [u8]) -> u32
+    ensures { λ r. ⌜ settingsTold r (now (block .exit)) ≡ settingsToldOf (writeFrom (now (settings .entry)) (now (block .entry))) ⌝ }
+{
+    let answer = settings::write::write_from(settings, block);
+    number_of(answer)
+}
+
+// Writes the first six words as a stored block of version 1 in the first 104 bytes. Answers as of
+// `cathar_write_settings`.
+#[no_mangle]
+pub extern "C" fn cathar_write_settings_v1(settings: &[u32], block: &mut [u8]) -> u32
+    ensures { λ r. ⌜ settingsTold r (now (block .exit)) ≡ settingsToldOf (writeFromV1 (now (settings .entry)) (now (block .entry))) ⌝ }
+{
+    let answer = settings::write::write_from_v1(settings, block);
     number_of(answer)
 }
 

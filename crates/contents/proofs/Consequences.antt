@@ -117,8 +117,7 @@ read-is-filed before n bytes small h =
     let from = before + tableBytes n in
     let left = length-drop from bytes in
     let sizes : map length (cut ls (drop from bytes)) ≡ ls = as-long ls (drop from bytes) (omega (arith, left, t .ends)) in
-    let again : flatten (cut ls (drop from bytes)) ≡ drop from bytes = together-again ls (drop from bytes) (omega (arith, left, t .ends)) in
-    (
+    let again : flatten (cut ls (drop from bytes)) ≡ drop from bytes = together-again ls (drop from bytes) (omega (arith, left, t .ends)) in (
       sym
           (ap (λ (xs : List ℕ). take before bytes ++ (encoded (table before xs) ++ flatten (cut ls (drop from bytes)))) sizes
           ∙ ap (λ (ys : List ℕ). take before bytes ++ (encoded (table before ls) ++ ys)) again

@@ -101,9 +101,14 @@ words-laid version ws below =
     rw (bodies-encoded ws, append-nil (encoded ws)) (sym (append-assoc (bytesOf version) t (encoded ws))) in
     let sized : versionBytes + tableBytes (length ws) ≡ length front + 0 =
     let each = ap length (fours ws) ∙ length-replicate {A = ℕ} (length ws) 4 in
-    omega
-    (arith, each, length-append (bytesOf version) t, length-bytes version, length-encoded (table versionBytes (map length (map bytesOf ws))),
-    length-table versionBytes (map length (map bytesOf ws)))
+    omega (
+      arith,
+      each,
+      length-append (bytesOf version) t,
+      length-bytes version,
+      length-encoded (table versionBytes (map length (map bytesOf ws))),
+      length-table versionBytes (map length (map bytesOf ws)),
+    )
     in
     rw (split, sized) (decoded-behind front (encoded ws ++ []) 0 (length ws) ∙ words-back ws [] below)
 

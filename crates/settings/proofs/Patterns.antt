@@ -126,6 +126,6 @@ unfolding settings words
 words-are-kept = (
   λ ws count below h. first-six ws below h ∙ placed-all ws 0 6 count,
   λ ws count below h.
-  let six = both-hold (allowedV1 (settingsV1 ws)) (scan.heldAllowed (getD ws 6 0)) (unfold allowed in h) .0 in
-  ap (λ (l : List ℕ). l ++ (getD ws 6 0 ∷ [])) (first-six ws below six) ∙ placed-all ws 0 7 count,
+      let six = both-hold (allowedV1 (settingsV1 ws)) (scan.heldAllowed (getD ws 6 0)) (unfold allowed in h) .0 in
+      ap (λ (l : List ℕ). l ++ (getD ws 6 0 ∷ [])) (first-six ws below six) ∙ placed-all ws 0 7 count,
 )

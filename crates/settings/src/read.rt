@@ -54,7 +54,13 @@ fn of_first(block: &[u8]) -> KeptV1
         return KeptV1::TurnedAwayV1(Reason::Stored);
     }
     let mut words = [0u32; 6];
-    decode(block, bodies_at(VERSION_BYTES, SETTINGS_V1), &mut words, 0, SETTINGS_V1);
+    decode(
+        block,
+        bodies_at(VERSION_BYTES, SETTINGS_V1),
+        &mut words,
+        0,
+        SETTINGS_V1,
+    );
     let found = settings_v1(&words);
     if !allowed_v1(found) {
         return KeptV1::TurnedAwayV1(Reason::Stored);
@@ -70,7 +76,13 @@ fn of_second(block: &[u8]) -> Kept
         return Kept::TurnedAway(Reason::Stored);
     }
     let mut words = [0u32; 7];
-    decode(block, bodies_at(VERSION_BYTES, SETTINGS), &mut words, 0, SETTINGS);
+    decode(
+        block,
+        bodies_at(VERSION_BYTES, SETTINGS),
+        &mut words,
+        0,
+        SETTINGS,
+    );
     let found = settings(&words);
     if !allowed(found) {
         return Kept::TurnedAway(Reason::Stored);

@@ -75,8 +75,15 @@ module _ (words lens : List ℕ) (few : length words ≤ parts) (each : lens ≡
 
       there : bodies ≡ length front
       there =
-          omega (arith, at, count, length-append (bytesOf version) t, length-bytes version, length-encoded (table versionBytes lens),
-          length-table versionBytes lens)
+          omega (
+            arith,
+            at,
+            count,
+            length-append (bytesOf version) t,
+            length-bytes version,
+            length-encoded (table versionBytes lens),
+            length-table versionBytes lens,
+          )
 
       same : t ++ encoded words ≡ encoded (table versionBytes (map length (map bytesOf words))) ++ flatten (map bytesOf words)
       same =
