@@ -80,11 +80,11 @@ pub fn write_table(bytes: &mut [u8], before: usize, lens: &[u32])
     let parts = lens.len();
     store_word(bytes, before, parts as u32);
     let mut row = before + COUNT_BYTES;
-    let mut at = bodies_at(before, parts);
+    let mut offset = bodies_at(before, parts);
     let mut k: usize = 0;
     while k < parts {
-        write_row(bytes, row, (k + 1) as u32, at as u32, lens[k]);
-        at += lens[k] as usize;
+        write_row(bytes, row, (k + 1) as u32, offset as u32, lens[k]);
+        offset += lens[k] as usize;
         row += ROW_BYTES;
         k += 1;
     }

@@ -15,12 +15,12 @@ use Rattle.contents.proofs.write_table.Statement.{statement}
 use Rattle.contents.proofs.write_table.Tie as tie
 
 abbrev Inv-loop : tie.InvT-loop
-Inv-loop bytes₀ before lens parts row₀ at₀ k₀ bytes row at k =
-    (k ≤ parts) × (row ≡ before + 4 + 12 * k) × (length bytes ≡ length bytes₀) × Below wordsTo (rows (k + 1) at (drop k lens))
-    × (sets bytes row (encoded (rows (k + 1) at (drop k lens))) ≡ sets bytes₀ row₀ (encoded (rows 1 at₀ lens)))
+Inv-loop bytes₀ before lens parts row₀ offset₀ k₀ bytes row offset k =
+    (k ≤ parts) × (row ≡ before + 4 + 12 * k) × (length bytes ≡ length bytes₀) × Below wordsTo (rows (k + 1) offset (drop k lens))
+    × (sets bytes row (encoded (rows (k + 1) offset (drop k lens))) ≡ sets bytes₀ row₀ (encoded (rows 1 offset₀ lens)))
 
 abbrev μ-loop : tie.MeasureT-loop
-μ-loop bytes₀ before lens parts row₀ at₀ k₀ bytes row at k = parts - k
+μ-loop bytes₀ before lens parts row₀ offset₀ k₀ bytes row offset k = parts - k
 
 -- what is stored leaves as many bytes
 as-long : (bytes after stored : List ℕ) (i : ℕ) → after ≡ sets bytes i stored → length after ≡ length bytes
@@ -103,7 +103,7 @@ cast-write-row-2 : tie.Need-cast-write-row-2 Inv-loop μ-loop
 cast-write-row-2 c =
     let turn = c .before .before in
     let lens = turn .before .before .before .before .before .before .before .before .args .lens .now in
-    let below = offset-below [] [] [] lens 0 (turn .loop .k + 1) (turn .loop .at) (turn .loop .k) (c .before .loop-test .taken) (turn .loop .inv .3) in
+    let below = offset-below [] [] [] lens 0 (turn .loop .k + 1) (turn .loop .offset) (turn .loop .k) (c .before .loop-test .taken) (turn .loop .inv .3) in
     omega (arith, below)
 
 mul-write-row : tie.Need-mul-write-row Inv-loop μ-loop
@@ -115,23 +115,23 @@ shared-slice-read-write-row c = search needs
 write-row-requires : tie.Need-write-row-requires Inv-loop μ-loop
 write-row-requires c κs = search needs
 
-mul-at : tie.Need-mul-at Inv-loop μ-loop
-mul-at c = search needs
+mul-offset : tie.Need-mul-offset Inv-loop μ-loop
+mul-offset c = search needs
 
-shared-slice-read-at : tie.Need-shared-slice-read-at Inv-loop μ-loop
-shared-slice-read-at c = search needs
+shared-slice-read-offset : tie.Need-shared-slice-read-offset Inv-loop μ-loop
+shared-slice-read-offset c = search needs
 
-cast-at : tie.Need-cast-at Inv-loop μ-loop
-cast-at c =
+cast-offset : tie.Need-cast-offset Inv-loop μ-loop
+cast-offset c =
     let turn = c .before .before .before .before .before .before .before in
     omega (arith, c .shared-slice-known3 .given (turn .loop .k))
 
-add-at : tie.Need-add-at Inv-loop μ-loop
-add-at c =
+add-offset : tie.Need-add-offset Inv-loop μ-loop
+add-offset c =
     let turn = c .before .before .before .before .before .before .before in
     let lens = turn .before .before .before .before .before .before .before .before .args .lens .now in
     let below =
-    offset-below [] [] [] lens 0 (turn .loop .k + 1) (turn .loop .at) (turn .loop .k)
+    offset-below [] [] [] lens 0 (turn .loop .k + 1) (turn .loop .offset) (turn .loop .k)
     (c .before .before .before .before .before .before .loop-test .taken) (turn .loop .inv .3) in
     omega (arith, below, c .shared-slice-known3 .given (turn .loop .k))
 
@@ -152,9 +152,9 @@ loop-again c =
     let stored = c .before .before .before .write-row .ensures in (
       omega arith,
       omega arith,
-      as-long (turn .loop .bytes) _ (encoded ((turn .loop .k + 1) ∷ (turn .loop .at) ∷ (getD lens (turn .loop .k) 0) ∷ [])) (turn .loop .row) stored ∙ turn .loop .inv .2,
-      later-below [] [] [] lens 0 (turn .loop .k + 1) (turn .loop .at) (turn .loop .k) more (turn .loop .inv .3),
-      row-more _ _ _ lens (turn .loop .row) (turn .loop .k + 1) (turn .loop .at) (turn .loop .k) more stored (turn .loop .inv .4),
+      as-long (turn .loop .bytes) _ (encoded ((turn .loop .k + 1) ∷ (turn .loop .offset) ∷ (getD lens (turn .loop .k) 0) ∷ [])) (turn .loop .row) stored ∙ turn .loop .inv .2,
+      later-below [] [] [] lens 0 (turn .loop .k + 1) (turn .loop .offset) (turn .loop .k) more (turn .loop .inv .3),
+      row-more _ _ _ lens (turn .loop .row) (turn .loop .k + 1) (turn .loop .offset) (turn .loop .k) more stored (turn .loop .inv .4),
     )
 
 same-length : tie.Need-same-length Inv-loop μ-loop
@@ -187,10 +187,10 @@ write-table-spec =
     mul-write-row
     shared-slice-read-write-row
     write-row-requires
-    mul-at
-    shared-slice-read-at
-    cast-at
-    add-at
+    mul-offset
+    shared-slice-read-offset
+    cast-offset
+    add-offset
     add-row-2
     add-k
     loop-less
