@@ -36,11 +36,12 @@ pub fn each(version: Version, settings: &[u32]) -> Vec<Vec<u8>> {
         bytes(&block(version, &Form { first: right.first - 4, ..right }, settings)),
         bytes(&block(version, &Form { first: right.first - 8, ..right }, settings)),
         bytes(&block(version, &Form { first: right.first / 4, step: 1, ..right }, settings)),
-        // Lengths in words, in bits, or of the whole; parts that are numbered from 0; parts that are counted with the
-        // version, or not.
+        // Lengths in words, in bits, or of the whole; lengths with a word before the body; parts that are numbered from
+        // 0; parts that are counted with the version, or not at all.
         bytes(&block(version, &Form { length: 1, ..right }, settings)),
         bytes(&block(version, &Form { length: 32, ..right }, settings)),
         bytes(&block(version, &Form { length: 4 * parts, ..right }, settings)),
+        bytes(&block(version, &Form { first: right.first - 4, length: 8, ..right }, settings)),
         bytes(&block(version, &Form { number: 0, ..right }, settings)),
         bytes(&block(version, &Form { parts: parts + 1, ..right }, settings)),
         bytes(&block(version, &Form { parts: 0, ..right }, settings)),
