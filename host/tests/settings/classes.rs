@@ -60,12 +60,12 @@ pub const FAULTS: &[Class<Made>] = &[
     Class { name: "only part 5's length is wrong", least: 11_000, holds: |m| m.only(Fault::Length(5)) },
     Class { name: "only part 6's length is wrong", least: 11_000, holds: |m| m.only(Fault::Length(6)) },
     Class { name: "only part 7's length is wrong", least: 3_700, holds: |m| m.only(Fault::Length(7)) },
-    Class { name: "only the threshold is not allowed", least: 1_600, holds: |m| m.only(Fault::Setting(THRESHOLD)) },
-    Class { name: "only the sensitivity is not allowed", least: 2_600, holds: |m| m.only(Fault::Setting(SENSITIVITY)) },
-    Class { name: "only the strength is not allowed", least: 2_300, holds: |m| m.only(Fault::Setting(STRENGTH)) },
-    Class { name: "only the longest gap is not allowed", least: 240, holds: |m| m.only(Fault::Setting(LONGEST_GAP)) },
-    Class { name: "only the rate is not allowed", least: 4_200, holds: |m| m.only(Fault::Setting(RATE)) },
-    Class { name: "only the run length is not allowed", least: 2_900, holds: |m| m.only(Fault::Setting(RUN_LENGTH)) },
+    Class { name: "only the threshold is not allowed", least: 500, holds: |m| m.only(Fault::Setting(THRESHOLD)) },
+    Class { name: "only the sensitivity is not allowed", least: 1_000, holds: |m| m.only(Fault::Setting(SENSITIVITY)) },
+    Class { name: "only the strength is not allowed", least: 1_000, holds: |m| m.only(Fault::Setting(STRENGTH)) },
+    Class { name: "only the longest gap is not allowed", least: 100, holds: |m| m.only(Fault::Setting(LONGEST_GAP)) },
+    Class { name: "only the rate is not allowed", least: 2_000, holds: |m| m.only(Fault::Setting(RATE)) },
+    Class { name: "only the run length is not allowed", least: 1_500, holds: |m| m.only(Fault::Setting(RUN_LENGTH)) },
 ];
 
 /// Versions, and what stands behind them.
