@@ -68,7 +68,7 @@ pub fn one_of(draw: &mut Draw, of: &[u32]) -> u32 {
 
 /// A NaN of any payload and either sign.
 fn any_nan(draw: &mut Draw) -> u32 {
-    0x7f80_0000 | (draw.digits(1) as u32) << 31 | 1 + draw.below(0x7f_ffff) as u32
+    0x7f80_0000 | (draw.digits(1) as u32) << 31 | (1 + draw.below(0x7f_ffff) as u32)
 }
 
 /// Any word for a part: one of its edges, a NaN, any, or a float of a usual size.
