@@ -71,7 +71,8 @@ fn declared(name: &str) -> BTreeSet<String> {
         let (name, rest) = text.split_once('(').expect("parameters");
         let (parameters, rest) = rest.split_once(')').expect("the end of the parameters");
         let types = parameters.split(',').filter_map(|parameter| Some(in_c(parameter.split_once(':')?.1.trim())));
-        let result = rest.trim_start_matches(" -> ").split(|c: char| !c.is_alphanumeric()).next().expect("a result");
+        let result =
+            rest.trim_start().trim_start_matches("-> ").split(|c: char| !c.is_alphanumeric()).next().expect("a result");
         format!("{} cathar_{name}({})", in_c(result), types.collect::<Vec<_>>().join(", "))
     };
     text.split("fn cathar_").skip(1).map(function).collect()
