@@ -540,7 +540,7 @@ uint32_t cathar_crackle_end(uint32_t *state, size_t state_n, uint8_t *flags, siz
  * The readers. The block is block_n bytes, all of them, and is only read.
  * Refusals: 6, 17, 18, tested in this order, but 18 before 17 where there is no version. They are given where
  *   6    settings_n is less than the number of settings that the reader gives,
- *   17   the reader does not know the version, whatever follows it, 0 among these,
+ *   17   the reader does not know the version, 0 being unknown to both, whatever follows it, and
  *   18   the block is too short to have a version, which is 4 bytes; it is not of the form above, to the last byte; or
  *        a setting is not allowed. */
 

@@ -188,8 +188,8 @@ fn sound(draw: &mut Draw, most: u64) -> Vec<u32> {
     (0..few).map(|place| [0x3f00_0000, 0xbf20_0000, 0x3d80_0000][place as usize % 3]).collect()
 }
 
-/// Each held run, with runs of just as many words, one more and one less, at limits beside them: mostly between samples of
-/// sound, and at times at an end.
+/// Each held run, with runs of just as many words, one more and one less, at limits beside them: mostly between samples
+/// of sound, and at times at an end.
 pub fn beside(count: &mut Scans, draw: &mut Draw) {
     for run in RUNS {
         for _ in 0..TURNS {
@@ -258,7 +258,8 @@ pub fn random(count: &mut Scans, draw: &mut Draw) {
     }
 }
 
-/// Held runs that are not allowed: on recordings that have a run at 16 and that have none, and where other refusals apply.
+/// Held runs that are not allowed: on recordings that have a run at 16 and that have none, and where other refusals
+/// apply.
 pub fn refused(count: &mut Scans, draw: &mut Draw) {
     let above = |draw: &mut Draw| MOST_HELD_RUN + 1 + draw.below(u64::from(u32::MAX - MOST_HELD_RUN)) as u32;
     let drawn: Vec<u32> = (0..40).map(|_| above(draw)).collect();
