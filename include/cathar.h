@@ -1,6 +1,6 @@
 /* The functions of libcathar.a, for programs on x86-64 Linux, with names for limits, marks and answers, and
- * functions that say how much memory a call needs. examples/repair.c, examples/gaps.c, examples/crackle.c and
- * examples/propose.c are such programs, each with the command that compiles it.
+ * functions that say how much memory a call needs. examples/repair.c, examples/gaps.c, examples/crackle.c,
+ * examples/propose.c and examples/settings.c are such programs, each with the command that compiles it.
  *
  * Each is total: it asks nothing of its arguments but what C asks of a pointer, always returns, and touches
  * no memory but its own stack and what is lent to it. What each gives and leaves in that memory is proved,
@@ -65,7 +65,9 @@ float cathar_round(float x);
 #define CATHAR_MOST_BY_MODEL 2048       /* the longest gap that the model fills; a longer one becomes a line */
 #define CATHAR_MOST_GAPS 64             /* the most gaps that one call takes */
 #define CATHAR_MOST_RATE 16777216       /* the highest rate that a scan takes */
-#define CATHAR_HELD_RUN 16              /* so many equal words in range, or more, are a dropout; fewer are sound */
+#define CATHAR_HELD_RUN 16              /* the usual held run: so many equal words in range, or more, are a dropout */
+#define CATHAR_LEAST_HELD_RUN 2         /* the shortest held run that a scan takes, and the longest */
+#define CATHAR_MOST_HELD_RUN 4096
 #define CATHAR_LEAST_BITS 4             /* what the bits of both forms of dequantize are held to */
 #define CATHAR_MOST_BITS 24
 #define CATHAR_MOST_ITERATIONS 16       /* as many iterations are made at most */
@@ -75,6 +77,10 @@ float cathar_round(float x);
 #define CATHAR_MISSING_WORD 0x7FC00000  /* a NaN, the word of each sample of a missing frame */
 #define CATHAR_MEAN_OVER 1024           /* decrackle's floor starts at the mean over so many samples, or over all */
 #define CATHAR_CRACKLE_STATE 1032       /* the words that a run of the crackle detector needs between its calls */
+#define CATHAR_SETTINGS 7               /* the settings of a stored block of version 2, and its bytes */
+#define CATHAR_SETTINGS_BYTES 120
+#define CATHAR_SETTINGS_V1 6            /* the settings of a stored block of version 1, and its bytes */
+#define CATHAR_SETTINGS_V1_BYTES 104
 
 /* The marks. A repair names the samples that it writes, and no others. Each gets its result, which may be the word
  * that it had, and the repair's mark, which is 1 to 5, 7 or 8. So, where nothing but these calls writes a recording, a
@@ -105,11 +111,11 @@ static inline size_t cathar_counts(size_t n)
     return n / CATHAR_BLOCK + (n % CATHAR_BLOCK != 0);
 }
 
-/* The answers. Each call on a recording, the question cathar_measured, the reading of frames and the calls of the
- * crackle detector answer CATHAR_ACCEPTED, and else the number of the refusal. Where several apply, it is the first in
- * the list of the call's refusals: they are tested in the order of their numbers, but 14 directly after 1, 15 before
- * 9, and 4 of cathar_inpaint_gaps before all others. The crackle detector tests 13 before 6 and 7, and 6 for a state
- * that is too short before all else.
+/* The answers. Each call on a recording, the question cathar_measured, the reading of frames, the calls of the crackle
+ * detector and the readers and writers of settings answer CATHAR_ACCEPTED, and else the number of the refusal. Where
+ * several apply, it is the first in the list of the call's refusals: they are tested in the order of their numbers, but
+ * 14 directly after 1, 15 before 9, and 4 of cathar_inpaint_gaps before all others. The crackle detector tests 13
+ * before 6 and 7, and 6 for a state that is too short before all else.
  *
  * A call that is refused leaves samples, marks, counts, journal and used as they were. Of its workspace 8 and 9 leave
  * the needed part cleared, and the others leave all of it. A scan, cathar_inpaint_auto, is several repairs, and answers
@@ -122,7 +128,8 @@ static inline size_t cathar_counts(size_t n)
 #define CATHAR_REFUSED_USED 3           /* used exceeds the journal's length */
 #define CATHAR_REFUSED_SETTING 4        /* a setting is not allowed; too many gaps, or lists of different lengths */
 #define CATHAR_REFUSED_GAP 5            /* gap length 0, start at or past the end, or gap past the end; span past it */
-#define CATHAR_REFUSED_WORKSPACE 6      /* workspace shorter than needed; crackle: room for flags, or the state, is */
+#define CATHAR_REFUSED_WORKSPACE 6      /* workspace shorter than needed; crackle: room for flags, or the state, is;
+                                         * stored settings: they, or the room for their block, are */
 #define CATHAR_REFUSED_READ 7           /* a sample that the repair or the crackle detector reads is not in range */
 #define CATHAR_REFUSED_RESULT 8         /* a result at a named sample is not in range */
 #define CATHAR_REFUSED_ROOM 9           /* fewer than 3m+2 free journal words, where m samples are named, at least 1 */
@@ -132,6 +139,8 @@ static inline size_t cathar_counts(size_t n)
 #define CATHAR_REFUSED_PIECES 13        /* crackle: more samples than announced, fewer at the end, or the run is over */
 #define CATHAR_REFUSED_BLOCKS 14        /* the number of counts is not that of the blocks */
 #define CATHAR_REFUSED_PROPOSAL 15      /* the proposal has another length than the recording, or breaks the rule */
+#define CATHAR_REFUSED_VERSION 17       /* stored settings: a version that the reader does not know */
+#define CATHAR_REFUSED_STORED 18        /* stored settings: the block is malformed, or a setting is not allowed */
 
 /* Reads what the bus sent, frames_n bytes, into the samples and marks of a recording, which cathar_open_received
  * then opens. A frame is CATHAR_FRAME_BYTES bytes: its number, of 16 bits, and then CATHAR_FRAME_WORDS words of 32
@@ -164,11 +173,20 @@ uint32_t cathar_read_frames(const uint8_t *frames, size_t frames_n, uint32_t *sa
  * For so many repairs of n samples, whatever they name, this gives as many words as are enough, a scan counting as
  * one repair, and a list of gaps as one for each gap. (Those over the whole recording never name the first and the
  * last sample; where they name all others, as cathar_dequantize does, k of them take k times 3(n-2)+2 words. A proposal
- * may name every sample, and takes 3n+2 words then. The runs of a scan take most where two zeros stand directly before
- * CATHAR_HELD_RUN equal words, again and again: 55 words for each 18 samples.) */
+ * may name every sample, and takes 3n+2 words then. A scan counts so where its held run is CATHAR_HELD_RUN or longer.
+ * For one at a shorter held run cathar_scan_words, below, gives more.) */
 static inline size_t cathar_journal_words(size_t n, size_t repairs)
 {
     return repairs * (3 * n + n / (CATHAR_HELD_RUN + 2) + 2);
+}
+
+/* As many words of the journal as are enough for one scan of n samples at this held run, which is
+ * CATHAR_LEAST_HELD_RUN..CATHAR_MOST_HELD_RUN. Its runs take most where two zeros stand directly before held_run equal
+ * words, again and again: 3*held_run+7 words for each held_run+2 samples. At CATHAR_HELD_RUN these are 55 for each 18,
+ * at CATHAR_LEAST_HELD_RUN 13 for each 4. */
+static inline size_t cathar_scan_words(size_t n, uint32_t held_run)
+{
+    return 3 * n + n / ((size_t)held_run + 2) + 2;
 }
 
 /* Opens a recording: sets all marks, all counts, all journal words and used to 0. What they held has no say. The
@@ -311,9 +329,11 @@ uint32_t cathar_inpaint_gaps(uint32_t *samples, size_t n, uint8_t *marks, size_t
 /* Finds the dropouts, from the first on, and repairs each as cathar_inpaint_gap does. A dropout is a
  * longest run of
  *   at least 2 samples that are zeros or NaN, those of missing frames among them: all of it is the gap; or
- *   at least CATHAR_HELD_RUN samples of the same word, in range and not zero, as of a bus that went silent and
- *   holds its last word: the first sample was measured and stays, and the others are the gap. Nothing tells them
- *   from sound that is clipped, or stands still, at one word for as long: who declips does it before the scan.
+ *   at least held_run samples of the same word, in range and not zero, as of a bus that went silent and holds its
+ *   last word: the first sample was measured and stays, and the others are the gap. Nothing tells them from sound
+ *   that is clipped, or stands still, at one word for as long: who declips does it before the scan. The usual
+ *   held_run is CATHAR_HELD_RUN, by which 15 equal words are sound; at CATHAR_LEAST_HELD_RUN two equal words are a
+ *   dropout already, whose gap is one sample.
  * It qualifies if its gap has at most as many samples as the limit and touches neither end of the recording. The
  * runs are those of the recording as the call began. The limit is (max_gap_ms/1000)*rate in floats, raised to 1 and
  * cut to a whole number; a product of +infinity means no limit.
@@ -331,11 +351,12 @@ uint32_t cathar_inpaint_gaps(uint32_t *samples, size_t n, uint8_t *marks, size_t
  * refusal: 1, 14, 2, 3 or 4 for the whole scan, which then changes nothing, work and orders among it, or 6 to 9 for a
  * run, beside which others may have been repaired.
  * Refusals: 1, 14, 2, 3, 4, 6, 7, 8, 9. Refusal 4 is given where
- *   rate exceeds CATHAR_MOST_RATE, or
- *   max_gap_ms is an infinity or a NaN. */
+ *   rate exceeds CATHAR_MOST_RATE,
+ *   max_gap_ms is an infinity or a NaN, or
+ *   held_run is not CATHAR_LEAST_HELD_RUN..CATHAR_MOST_HELD_RUN. */
 uint32_t cathar_inpaint_auto(uint32_t *samples, size_t n, uint8_t *marks, size_t marks_n,
                              uint16_t *counts, size_t counts_n, uint32_t *journal, size_t journal_n, size_t *used,
-                             uint32_t rate, float max_gap_ms,
+                             uint32_t rate, float max_gap_ms, uint32_t held_run,
                              double *work, size_t work_n, uint32_t *orders, size_t orders_n,
                              size_t *qualified, size_t *repaired);
 
@@ -492,6 +513,56 @@ uint32_t cathar_crackle_piece(uint32_t *state, size_t state_n, const uint32_t *p
  *   13   the run is over, or fewer samples are in than were announced: the run is stopped, and
  *   6    flags_n is less than the number of these flags, or state_n than CATHAR_CRACKLE_STATE. */
 uint32_t cathar_crackle_end(uint32_t *state, size_t state_n, uint8_t *flags, size_t flags_n, size_t *value);
+
+/* A recorder's settings are kept in a stored block. All its numbers have 32 bits and the lowest byte first:
+ *   the version, 1 or 2;
+ *   the contents: how many parts there are, CATHAR_SETTINGS_V1 or CATHAR_SETTINGS, and for each of them its number,
+ *   its offset and its length in bytes, which is 4. Parts are numbered from 1, and offsets count from the block's first
+ *   byte, which is the version's: the first is 80 in version 1, and 92 in version 2;
+ *   the parts themselves, one word each, in the order of their numbers and touching; and nothing behind the last.
+ * So there is just one block of a version for a list of settings: CATHAR_SETTINGS_V1_BYTES or CATHAR_SETTINGS_BYTES
+ * bytes. The parts, of which the last is in version 2 alone, and what is allowed, as the calls that take them have it:
+ *   1  threshold, of cathar_declip           a float that is finite and above 0
+ *   2  sensitivity, of cathar_decrackle      any float but a NaN, infinities among them
+ *   3  strength, of cathar_dequantize        any float but a NaN, infinities among them
+ *   4  bits, of cathar_dequantize            any number
+ *   5  max_gap_ms, of cathar_inpaint_auto    any finite float
+ *   6  rate, of cathar_inpaint_auto          a number up to CATHAR_MOST_RATE
+ *   7  held_run, of cathar_inpaint_auto      CATHAR_LEAST_HELD_RUN..CATHAR_MOST_HELD_RUN
+ * settings are settings_n words, in the order of the parts; a float is its pattern. A call uses as many as there are
+ * parts, from the first on, and does not touch those behind them.
+ * Where a block is read and its settings are written in its version, the same bytes come; and where settings are
+ * written and read, the same words.
+ *
+ * A call that is refused writes nothing. Block and settings do not overlap, and no pointer is null, not even that of an
+ * area of length 0.
+ *
+ * The readers. The block is block_n bytes, all of them, and is only read.
+ * Refusals: 6, 17, 18, tested in this order, but 18 before 17 where there is no version. They are given where
+ *   6    settings_n is less than the number of settings that the reader gives,
+ *   17   the reader does not know the version, 0 being unknown to both, whatever follows it, and
+ *   18   the block is too short to have a version, which is 4 bytes; it is not of the form above, to the last byte; or
+ *        a setting is not allowed. */
+
+/* Reads a block of version 1 or 2, and gives CATHAR_SETTINGS settings. Those of a version 1 block have CATHAR_HELD_RUN
+ * for the last. */
+uint32_t cathar_read_settings(const uint8_t *block, size_t block_n, uint32_t *settings, size_t settings_n);
+
+/* Reads a block of version 1, and gives CATHAR_SETTINGS_V1 settings: those that cathar_read_settings gives of it, but
+ * for the last. It does not know version 2: a block of it is refused by 17, and nothing of it is shown. */
+uint32_t cathar_read_settings_v1(const uint8_t *block, size_t block_n, uint32_t *settings, size_t settings_n);
+
+/* The writers. The settings are only read. Of the room for the block, block_n bytes of any contents, as many are written
+ * as the block has, from the first on, and those behind them stay.
+ * Refusals: 6, 18, tested in this order. They are given where
+ *   6    settings_n is less than the number of the version's settings, or block_n than that of its bytes, and
+ *   18   a setting is not allowed. */
+
+/* Writes CATHAR_SETTINGS settings as a block of version 2: CATHAR_SETTINGS_BYTES bytes. */
+uint32_t cathar_write_settings(const uint32_t *settings, size_t settings_n, uint8_t *block, size_t block_n);
+
+/* Writes CATHAR_SETTINGS_V1 settings as a block of version 1: CATHAR_SETTINGS_V1_BYTES bytes. */
+uint32_t cathar_write_settings_v1(const uint32_t *settings, size_t settings_n, uint8_t *block, size_t block_n);
 
 #ifdef __cplusplus
 }

@@ -6,11 +6,13 @@ use crate::frames::{Read, Rooms};
 use crate::inpaint::{self, Gap, GapAnswer, Lists, Scan, Several};
 use crate::lent::crackle::Crackle;
 use crate::lent::frames::Frames;
+use crate::lent::stored::Stored;
 use crate::lent::{Lent, VALUE_BEFORE};
 use crate::proposed;
 use crate::question::{Span, Told};
 use crate::recording::{Answer, Recording};
 use crate::settings::OfScan;
+use crate::stored;
 use crate::whole::{self, Repair};
 use crate::wrong;
 
@@ -94,16 +96,11 @@ impl Both {
     }
 
     /// Both sides scan in a workspace of these patterns, with a list of these words for the orders.
-    pub fn inpaint_auto(
-        &mut self,
-        (rate, max_gap_ms): OfScan,
-        mut work: Vec<u64>,
-        mut orders: Vec<u32>,
-    ) -> (Scan, Wrong) {
+    pub fn inpaint_auto(&mut self, settings: OfScan, mut work: Vec<u64>, mut orders: Vec<u32>) -> (Scan, Wrong) {
         self.lent.lend_doubles(&work);
         self.lent.lend_orders(&orders);
-        let call = Call::Scan { rate, max_gap_ms };
-        let scan = self.by_model(call, |model| inpaint::inpaint_auto(model, rate, max_gap_ms, &mut work, &mut orders));
+        let call = Call::Scan(settings);
+        let scan = self.by_model(call, |model| inpaint::inpaint_auto(model, settings, &mut work, &mut orders));
         let number = self.lent.make(call);
         let wrong = self.lent.wrong_after_scan(&self.model, [scan.qualified(), scan.repaired()]);
         let wrong = with_part(with_answer(wrong, number, scan.number()), "workspace", self.lent.holds_doubles(&work));
@@ -153,6 +150,16 @@ pub fn read_frames(input: &[u8], rooms: &mut Rooms, lent: &mut Frames) -> (Read,
     let read = wrong::model_reader(input, rooms);
     let number = lent.read();
     (read, with_answer(lent.wrong(input, rooms, read), number, read.number))
+}
+
+/// Both sides make a call on a stored block: the model on these areas, and the library on the same that it is lent. What
+/// the model answers and leaves, what the library leaves, and what is not the same.
+pub fn keep(before: &stored::Areas, call: stored::Call) -> (u32, [stored::Areas; 2], Wrong) {
+    let (mut after, mut lent) = (before.clone(), Stored::new(before));
+    let number = wrong::model_keeper(&mut after, call);
+    let library = lent.make(call);
+    let wrong = with_answer(lent.wrong(&after), library, number);
+    (number, [after, lent.areas()], wrong)
 }
 
 /// The crackle detector on both sides: the model's areas, and the same lent to the library.

@@ -1,6 +1,7 @@
 //! A call of the library on a recording, without the memory that is lent to it, which has the lists of several gaps and
 //! a proposal among it.
 use crate::inpaint::Gap;
+use crate::settings::OfScan;
 use crate::whole::Repair;
 
 #[derive(Clone, Copy, Debug, PartialEq)]
@@ -10,7 +11,7 @@ pub enum Call {
     Undo,
     Gap { gap: Gap, passes: u32 },
     Gaps { passes: u32 },
-    Scan { rate: u32, max_gap_ms: f32 },
+    Scan(OfScan),
     Whole(Repair),
     Proposed { threshold: f32 },
 }

@@ -114,6 +114,7 @@ mod exports {
             used: *mut usize,
             rate: u32,
             max_gap_ms: f32,
+            held_run: u32,
             work: *mut f64,
             work_n: usize,
             orders: *mut u32,
@@ -232,6 +233,11 @@ mod exports {
             flags_n: usize,
             value: *mut usize,
         ) -> u32;
+        pub fn cathar_read_settings(block: *const u8, block_n: usize, settings: *mut u32, settings_n: usize) -> u32;
+        pub fn cathar_read_settings_v1(block: *const u8, block_n: usize, settings: *mut u32, settings_n: usize) -> u32;
+        pub fn cathar_write_settings(settings: *const u32, settings_n: usize, block: *mut u8, block_n: usize) -> u32;
+        pub fn cathar_write_settings_v1(settings: *const u32, settings_n: usize, block: *mut u8, block_n: usize)
+            -> u32;
     }
 }
 
@@ -458,6 +464,7 @@ pub fn inpaint_auto(
     used: &mut usize,
     rate: u32,
     max_gap_ms: f32,
+    held_run: u32,
     work: &mut [f64],
     orders: &mut [u32],
     qualified: &mut usize,
@@ -477,6 +484,7 @@ pub fn inpaint_auto(
             used,
             rate,
             max_gap_ms,
+            held_run,
             work.as_mut_ptr(),
             work.len(),
             orders.as_mut_ptr(),
@@ -730,4 +738,28 @@ pub fn crackle_piece(state: &mut [u32], piece: &[u32], flags: &mut [u8], value: 
 pub fn crackle_end(state: &mut [u32], flags: &mut [u8], value: &mut usize) -> u32 {
     // As above.
     unsafe { exports::cathar_crackle_end(state.as_mut_ptr(), state.len(), flags.as_mut_ptr(), flags.len(), value) }
+}
+
+/// Reads a block of version 1 or 2 into seven settings. Answers 0, or the number of the refusal, with nothing written.
+pub fn read_settings(block: &[u8], settings: &mut [u32]) -> u32 {
+    // As above.
+    unsafe { exports::cathar_read_settings(block.as_ptr(), block.len(), settings.as_mut_ptr(), settings.len()) }
+}
+
+/// Reads a block of version 1 into six settings. Answers as `read_settings` does.
+pub fn read_settings_v1(block: &[u8], settings: &mut [u32]) -> u32 {
+    // As above.
+    unsafe { exports::cathar_read_settings_v1(block.as_ptr(), block.len(), settings.as_mut_ptr(), settings.len()) }
+}
+
+/// Writes seven settings as a block of version 2. Answers 0, or the number of the refusal, with nothing written.
+pub fn write_settings(settings: &[u32], block: &mut [u8]) -> u32 {
+    // As above.
+    unsafe { exports::cathar_write_settings(settings.as_ptr(), settings.len(), block.as_mut_ptr(), block.len()) }
+}
+
+/// Writes six settings as a block of version 1. Answers as `write_settings` does.
+pub fn write_settings_v1(settings: &[u32], block: &mut [u8]) -> u32 {
+    // As above.
+    unsafe { exports::cathar_write_settings_v1(settings.as_ptr(), settings.len(), block.as_mut_ptr(), block.len()) }
 }

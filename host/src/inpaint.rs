@@ -1,11 +1,12 @@
-//! The repair of a gap and the automatic scan as document 01 has them, with the dropouts of request P1 of document 02,
-//! and the list of gaps of its request P6, over the model of the recording. What they turn away and what they leave is
-//! written from the documents' text. The new samples are those that the original Rust computes, from its own files. The
-//! original answers no order, which request P8 asks for: that is worked out by a prediction step of the host's own,
-//! whose fill has to be the original's.
+//! The repair of a gap and the automatic scan as document 01 has them, with the dropouts of requests P1 and P11 of
+//! document 02, and the list of gaps of its request P6, over the model of the recording. What they turn away and what
+//! they leave is written from the documents' text. The new samples are those that the original Rust computes, from its
+//! own files. The original answers no order, which request P8 asks for: that is worked out by a prediction step of the
+//! host's own, whose fill has to be the original's.
 use crate::original;
 use crate::prediction::{Reach, Window};
 use crate::recording::{in_range, Answer, Recording};
+use crate::settings::OfScan;
 use crate::wrong;
 use std::cell::Cell;
 use std::ops::Range;
@@ -25,9 +26,14 @@ const MOST_PASSES: u32 = 5;
 /// How many passes a scan makes.
 pub const SCAN_PASSES: u32 = 3;
 
-/// From how many samples on a run of zeros and NaN is a dropout, and from how many on one of equal words.
+/// From how many samples on a run of zeros and NaN is a dropout, and from how many on one of equal words, unless a scan
+/// is told otherwise.
 pub const LOST_RUN: usize = 2;
 pub const HELD_RUN: usize = 16;
+
+/// "P1's run length, 2 to 4,096."
+pub const LEAST_HELD_RUN: u32 = 2;
+pub const MOST_HELD_RUN: u32 = 4_096;
 
 thread_local! {
     /// How many gaps were filled by the host's own prediction step too.
@@ -349,17 +355,11 @@ impl Scan {
 /// The automatic scan. "Each run is one gap repair with its own answer from 6 to 9; the scan goes on after a
 /// refused one." "Runs of both kinds are those of the recording as the call began." A lent list gets the orders of the
 /// models, place by place.
-pub fn inpaint_auto(
-    recording: &mut Recording,
-    rate: u32,
-    max_gap_ms: f32,
-    work: &mut [u64],
-    orders: &mut [u32],
-) -> Scan {
+pub fn inpaint_auto(recording: &mut Recording, settings: OfScan, work: &mut [u64], orders: &mut [u32]) -> Scan {
     if let Some(number) = recording.refused_by_any_call() {
         return Scan::Refused(number);
     }
-    match qualified(&recording.samples, rate, max_gap_ms) {
+    match qualified(&recording.samples, settings) {
         None => Scan::Refused(4),
         Some(runs) => {
             let each = |run: Gap| {
@@ -382,30 +382,32 @@ fn note(orders: &mut [u32], run: Gap, answer: GapAnswer) {
 
 /// What the original leaves of these samples where a scan repairs each of these gaps: by its own scan, or, where there is
 /// one of a held word, which it does not know, by its repair of each gap in turn.
-pub fn scanned_by_original(before: &[u32], rate: u32, max_gap_ms: f32, gaps: &[Gap]) -> Vec<f32> {
+pub fn scanned_by_original(before: &[u32], settings: OfScan, gaps: &[Gap]) -> Vec<f32> {
     let samples: Vec<f32> = before.iter().map(|word| f32::from_bits(*word)).collect();
     if !gaps.iter().any(|gap| gap.is_held(before)) {
-        return original::inpaint_auto(&samples, rate, max_gap_ms);
+        return original::inpaint_auto(&samples, settings.rate, settings.max_gap_ms);
     }
     gaps.iter().fold(samples, |left, gap| original::inpaint_gap(&left, gap.start, gap.len, SCAN_PASSES))
 }
 
 /// The gaps that a scan of these samples repairs where there is room, in their order. Nothing, where the settings
-/// are not allowed: "Rate at most 16,777,216 and finite max_gap_ms, else 4."
-pub fn qualified(samples: &[u32], rate: u32, max_gap_ms: f32) -> Option<Vec<Gap>> {
-    if rate > MOST_RATE || !max_gap_ms.is_finite() {
+/// are not allowed: "Rate at most 16,777,216 and finite max_gap_ms, else 4"; "P1's run length, 2 to 4,096".
+pub fn qualified(samples: &[u32], settings: OfScan) -> Option<Vec<Gap>> {
+    let OfScan { rate, max_gap_ms, held_run } = settings;
+    let is_held_run = (LEAST_HELD_RUN..=MOST_HELD_RUN).contains(&held_run);
+    if rate > MOST_RATE || !max_gap_ms.is_finite() || !is_held_run {
         return None;
     }
-    let limit = limit(rate, max_gap_ms);
-    let mut gaps = dropouts(samples);
+    let limit = limit(settings);
+    let mut gaps = dropouts(samples, held_run as usize);
     gaps.retain(|gap| gap.is_allowed(samples.len(), limit));
     Some(gaps)
 }
 
 /// "The limit is (max_gap_ms/1000)*rate in f32, raised to 1, cut to a whole number; a product of plus infinity
 /// means no limit."
-pub fn limit(rate: u32, max_gap_ms: f32) -> usize {
-    let product = (max_gap_ms / 1000.0) * rate as f32;
+pub fn limit(settings: OfScan) -> usize {
+    let product = (settings.max_gap_ms / 1000.0) * settings.rate as f32;
     if product == f32::INFINITY {
         usize::MAX
     } else if product > 1.0 {
@@ -415,11 +417,11 @@ pub fn limit(rate: u32, max_gap_ms: f32) -> usize {
     }
 }
 
-/// The gaps of the dropout runs, in their order.
-fn dropouts(samples: &[u32]) -> Vec<Gap> {
+/// The gaps of the dropout runs, in their order, where so many equal words are held.
+fn dropouts(samples: &[u32], held_run: usize) -> Vec<Gap> {
     let mut gaps = lost(samples);
     gaps.retain(|gap| gap.len >= LOST_RUN);
-    gaps.extend(held(samples, HELD_RUN));
+    gaps.extend(held(samples, held_run));
     gaps.sort_unstable_by_key(|gap| gap.start);
     gaps
 }
@@ -443,7 +445,7 @@ pub fn lost(samples: &[u32]) -> Vec<Gap> {
 }
 
 /// "A longest run of 16 or more equal words, in range and not zero, is a dropout too: its first sample is measured and the
-/// rest are the gap." Of so many or more.
+/// rest are the gap." "P1's number becomes this setting": of so many or more, at least 2.
 pub fn held(samples: &[u32], least: usize) -> Vec<Gap> {
     let mut gaps = Vec::new();
     let mut start = 0;

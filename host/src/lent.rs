@@ -3,12 +3,14 @@
 pub mod crackle;
 pub mod frames;
 mod several;
+pub mod stored;
 
 use crate::call::Call;
 use crate::cathar;
 use crate::inpaint::{Gap, Lists};
 use crate::question::{Span, Told};
 use crate::recording::Recording;
+use crate::settings::OfScan;
 use crate::whole::{Repair, Start};
 use crate::wrong;
 use several::Several;
@@ -268,9 +270,9 @@ impl Lent {
                 cathar::inpaint_gap(samples, marks, counts, journal, used, start, len, passes, work, value, order)
             }
             Call::Gaps { passes } => self.inpaint_gaps(passes),
-            Call::Scan { rate, max_gap_ms: ms } => {
-                cathar::inpaint_auto(samples, marks, counts, journal, used, rate, ms, work, orders, value, other)
-            }
+            Call::Scan(OfScan { rate, max_gap_ms: ms, held_run }) => cathar::inpaint_auto(
+                samples, marks, counts, journal, used, rate, ms, held_run, work, orders, value, other,
+            ),
             Call::Whole(repair) => self.repair(repair),
             Call::Proposed { threshold } => {
                 let proposal = self.proposal.lent();

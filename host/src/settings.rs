@@ -1,6 +1,6 @@
 //! The settings of each repair: those on which something turns, and any.
 use crate::draw::Draw;
-use crate::inpaint::{Gap, MOST_RATE};
+use crate::inpaint::{Gap, HELD_RUN, MOST_RATE};
 use crate::whole::{Repair, Start};
 
 /// Thresholds that are not allowed.
@@ -176,21 +176,65 @@ pub fn outside(draw: &mut Draw, n: usize) -> Gap {
     }
 }
 
-/// A rate and a longest gap in milliseconds: the settings of a scan.
-pub type OfScan = (u32, f32);
+/// The settings of a scan: a rate, a longest gap in milliseconds, and from how many equal words on these are held.
+#[derive(Clone, Copy, Debug, PartialEq)]
+pub struct OfScan {
+    pub rate: u32,
+    pub max_gap_ms: f32,
+    pub held_run: u32,
+}
 
-/// 48 samples.
-pub const USUAL: OfScan = (48_000, 1.0);
+impl OfScan {
+    /// At this rate, with this longest gap, and with the usual held run.
+    pub const fn new(rate: u32, max_gap_ms: f32) -> OfScan {
+        OfScan { rate, max_gap_ms, held_run: HELD_RUN as u32 }
+    }
+
+    /// The same with this held run.
+    pub const fn holding(self, held_run: u32) -> OfScan {
+        OfScan { held_run, ..self }
+    }
+}
+
+/// 48 samples, and 16 equal words.
+pub const USUAL: OfScan = OfScan::new(48_000, 1.0);
 
 /// No limit.
-pub const UNLIMITED: OfScan = (48_000, f32::MAX);
+pub const UNLIMITED: OfScan = OfScan::new(48_000, f32::MAX);
 
 /// Settings that a scan does not allow.
-pub const NO_SCANS: [OfScan; 3] = [(MOST_RATE + 1, 1.0), (48_000, f32::NAN), (48_000, f32::INFINITY)];
+pub const NO_SCANS: [OfScan; 7] = [
+    OfScan::new(MOST_RATE + 1, 1.0),
+    OfScan::new(48_000, f32::NAN),
+    OfScan::new(48_000, f32::INFINITY),
+    USUAL.holding(0),
+    USUAL.holding(1),
+    USUAL.holding(4_097),
+    USUAL.holding(u32::MAX),
+];
+
+/// Any of them.
+pub fn no_scan(draw: &mut Draw) -> OfScan {
+    NO_SCANS[draw.below(NO_SCANS.len() as u64) as usize]
+}
 
 /// Settings whose limit is near so many samples, from below and from above: at the rate 1,000 the limit is the
 /// number of milliseconds, cut to a whole number.
 pub fn near(draw: &mut Draw, length: usize) -> OfScan {
     let beside = [-1.0, -0.5, -0.01, 0.0, 0.01, 0.5, 0.99][draw.below(7) as usize];
-    (1_000, length as f32 + beside)
+    OfScan::new(1_000, length as f32 + beside)
+}
+
+/// These settings, one time in four with another held run, mostly a short one. It is drawn aside.
+pub fn any_held_run(draw: &Draw, settings: OfScan) -> OfScan {
+    let mut draw = draw.aside();
+    match draw.below(32) {
+        0..=2 => settings.holding(2),
+        3 => settings.holding(3),
+        4 => settings.holding([15, 17][draw.below(2) as usize]),
+        5 => settings.holding(2 + draw.below(40) as u32),
+        6 => settings.holding(4_096),
+        7 => settings.holding(2 + draw.below(4_095) as u32),
+        _ => settings,
+    }
 }

@@ -17,6 +17,7 @@ mod either;
 mod frames;
 mod gaps;
 mod held;
+mod held_runs;
 mod leaves;
 mod opening;
 mod orders;
@@ -28,6 +29,7 @@ mod scans;
 mod second;
 mod sequences;
 mod several;
+mod stored;
 mod whole;
 
 use crate::call::Call;
@@ -37,9 +39,11 @@ use crate::either::Way;
 use crate::frames::{self as model_of_frames, Read, Rooms};
 use crate::lent::crackle::Crackle;
 use crate::lent::frames::Frames;
+use crate::lent::stored::Stored;
 use crate::lent::Lent;
 use crate::question::{self as model_of_question, Span, Told};
 use crate::recording::{not_measured, Answer, Recording, BLOCK};
+use crate::stored as model_of_stored;
 use crate::whole::{self as whole_repairs, Start};
 use std::env;
 
@@ -81,6 +85,11 @@ enum How {
     Asked(fn(&mut Lent, Span) -> u32),
     /// In the place of both answers alike.
     BothAsked(fn(&[u8], &[u16], Span) -> Told),
+    /// In the place of the library's readers and writers of settings: it makes the call, at times by the library's own,
+    /// and gives the answer.
+    Keeper(fn(&mut Stored, model_of_stored::Call) -> u32),
+    /// In the place of both sides' alike.
+    Keepers(fn(&mut model_of_stored::Areas, model_of_stored::Call) -> u32),
     /// In the place of a leaf.
     Root(fn(f64) -> f64),
     Narrow(fn(f64) -> f32),
@@ -113,13 +122,14 @@ pub enum Finds {
 }
 
 /// All of them.
-pub const TABLES: [&[Table]; 18] = [
+pub const TABLES: [&[Table]; 20] = [
     leaves::TABLES,
     recording::TABLES,
     received::TABLES,
     gaps::TABLES,
     scans::TABLES,
     held::TABLES,
+    held_runs::TABLES,
     orders::TABLES,
     several::TABLES,
     either::TABLES,
@@ -131,6 +141,7 @@ pub const TABLES: [&[Table]; 18] = [
     frames::TABLES,
     crackle::TABLES,
     crackle::HELD_TABLES,
+    stored::TABLES,
     second::TABLES,
 ];
 
@@ -275,6 +286,28 @@ pub(crate) fn model_asked(marks: &[u8], counts: &[u16], span: Span) -> Told {
     match how() {
         Some(How::BothAsked(tells)) => tells(marks, counts, span),
         _ => model_of_question::measured(marks, counts, span),
+    }
+}
+
+/// The library reads or writes the stored block that it is lent, or what stands in for it does.
+pub(crate) fn keeper(lent: &mut Stored, call: model_of_stored::Call) -> u32 {
+    match how() {
+        Some(How::Keeper(makes)) => makes(lent, call),
+        Some(How::Keepers(makes)) => {
+            let mut areas = lent.areas();
+            let number = makes(&mut areas, call);
+            lent.put(&areas);
+            number
+        }
+        _ => lent.call(call),
+    }
+}
+
+/// The model reads or writes a stored block, or what stands in for it does.
+pub(crate) fn model_keeper(areas: &mut model_of_stored::Areas, call: model_of_stored::Call) -> u32 {
+    match how() {
+        Some(How::Keepers(makes)) => makes(areas, call),
+        _ => areas.make(call),
     }
 }
 

@@ -2,7 +2,7 @@
 //! is said. What it declares is what the crate `cathar` exports, type by type, as are the declarations in Rust. Its
 //! names for limits, marks and answers have the numbers of the sources, and its functions on memory give what the model
 //! says is needed.
-use cathar_host::inpaint::{Gap, HELD_RUN, LOST_RUN};
+use cathar_host::inpaint::{Gap, HELD_RUN, LEAST_HELD_RUN, LOST_RUN, MOST_HELD_RUN};
 use cathar_host::machine::{c_compiler, file, runner};
 use cathar_host::recording::{blocks, entry_words, MOST_SAMPLES};
 use cathar_host::whole;
@@ -13,7 +13,7 @@ use std::path::Path;
 use std::process::{Command, Stdio};
 
 /// How many functions there are.
-const EXPORTS: usize = 21;
+const EXPORTS: usize = 25;
 
 fn compiles(compiler: &str, standard: &str, language: &str) {
     let header = file("include/cathar.h");
@@ -71,7 +71,8 @@ fn declared(name: &str) -> BTreeSet<String> {
         let (name, rest) = text.split_once('(').expect("parameters");
         let (parameters, rest) = rest.split_once(')').expect("the end of the parameters");
         let types = parameters.split(',').filter_map(|parameter| Some(in_c(parameter.split_once(':')?.1.trim())));
-        let result = rest.trim_start_matches(" -> ").split(|c: char| !c.is_alphanumeric()).next().expect("a result");
+        let result =
+            rest.trim_start().trim_start_matches("-> ").split(|c: char| !c.is_alphanumeric()).next().expect("a result");
         format!("{} cathar_{name}({})", in_c(result), types.collect::<Vec<_>>().join(", "))
     };
     text.split("fn cathar_").skip(1).map(function).collect()
@@ -174,6 +175,8 @@ fn in_sources() -> BTreeMap<String, u64> {
         ("MOST_GAPS", "MOST_SPANS", "crates/splice/src/lib.rt"),
         ("MOST_RATE", "MOST_RATE", "crates/inpaint/src/auto.rt"),
         ("HELD_RUN", "HELD_RUN", "crates/inpaint/src/auto.rt"),
+        ("LEAST_HELD_RUN", "LEAST_HELD_RUN", "crates/inpaint/src/auto.rt"),
+        ("MOST_HELD_RUN", "MOST_HELD_RUN", "crates/inpaint/src/auto.rt"),
         ("LEAST_BITS", "LEAST_BITS", "crates/dequant/src/lattice.rt"),
         ("MOST_BITS", "MOST_BITS", "crates/dequant/src/lattice.rt"),
         ("MOST_ITERATIONS", "MOST_ITERATIONS", "crates/dequant/src/cosparse.rt"),
@@ -183,6 +186,10 @@ fn in_sources() -> BTreeMap<String, u64> {
         ("MISSING_WORD", "MISSING_WORD", "crates/frames/src/lib.rt"),
         ("MEAN_OVER", "MEAN_OVER", "crates/decrackle/src/lib.rt"),
         ("CRACKLE_STATE", "STATE_WORDS", "crates/crackle/src/kept.rt"),
+        ("SETTINGS", "SETTINGS", "crates/settings/src/lib.rt"),
+        ("SETTINGS_BYTES", "SETTINGS_BYTES", "crates/settings/src/lib.rt"),
+        ("SETTINGS_V1", "SETTINGS_V1", "crates/settings/src/lib.rt"),
+        ("SETTINGS_V1_BYTES", "SETTINGS_V1_BYTES", "crates/settings/src/lib.rt"),
     ] {
         found.insert(format!("CATHAR_{name}"), constant(of, source));
     }
@@ -196,7 +203,8 @@ fn names_as_in_the_sources() {
 
 /// What the header's functions on memory give for each of these lines of three numbers, n, start and length: what a gap
 /// needs, what is enough for any gap up to that length, what a repair over the whole recording needs, the journal for so
-/// many repairs, and how many counts. They are compiled and run as a C program.
+/// many repairs, how many counts, and the journal for a scan at the least, the usual and the most held run. They are
+/// compiled and run as a C program.
 fn given(lines: &str) -> String {
     let folder = Path::new(env!("CARGO_TARGET_TMPDIR"));
     let (source, program) = (folder.join("needs.c"), folder.join("needs"));
@@ -222,8 +230,10 @@ int main(void)
 {
     size_t n, start, len;
     while (scanf(\"%zu %zu %zu\", &n, &start, &len) == 3)
-        printf(\"%zu %zu %zu %zu %zu\\n\", cathar_gap_work(n, start, len), cathar_longest_gap_work(n, len),
-               cathar_whole_work(n), cathar_journal_words(n, len), cathar_counts(n));
+        printf(\"%zu %zu %zu %zu %zu %zu %zu %zu\\n\", cathar_gap_work(n, start, len), cathar_longest_gap_work(n, len),
+               cathar_whole_work(n), cathar_journal_words(n, len), cathar_counts(n),
+               cathar_scan_words(n, CATHAR_LEAST_HELD_RUN), cathar_scan_words(n, CATHAR_HELD_RUN),
+               cathar_scan_words(n, CATHAR_MOST_HELD_RUN));
     return 0;
 }
 ";
@@ -260,8 +270,10 @@ fn memory_as_needed() {
                 let gap = if within { Gap { start, len }.needed(n) } else { 0 };
                 lines += &format!("{n} {start} {len}\n");
                 let (words, counts) = (whole::needed(n), blocks(n));
-                let journal = len * (entry_words(n) + n / (LOST_RUN + HELD_RUN));
-                expected += &format!("{gap} {enough} {words} {journal} {counts}\n");
+                let at = |held_run: usize| entry_words(n) + n / (LOST_RUN + held_run);
+                let [least, usual, most] = [LEAST_HELD_RUN as usize, HELD_RUN, MOST_HELD_RUN as usize].map(at);
+                let journal = len * usual;
+                expected += &format!("{gap} {enough} {words} {journal} {counts} {least} {usual} {most}\n");
             }
         }
     }
@@ -275,7 +287,7 @@ fn as_exported() {
     assert_eq!(exports.len(), EXPORTS);
     assert_eq!(declared_in_header(), exports, "the header, and what is exported");
     assert_eq!(declared("host/src/cathar.rs"), exports, "the declarations of this package, and what is exported");
-    for example in ["examples/repair.rs", "examples/gaps.rs", "examples/crackle.rs", "examples/propose.rs"] {
-        assert!(declared(example).is_subset(&exports), "the declarations of {example}");
+    for example in ["repair", "gaps", "crackle", "propose", "settings"].map(|name| format!("examples/{name}.rs")) {
+        assert!(declared(&example).is_subset(&exports), "the declarations of {example}");
     }
 }

@@ -6,6 +6,7 @@
 mod inpaint {
     pub mod gaps;
     pub mod held;
+    pub mod held_runs;
     pub mod lengths;
     pub mod limits;
     pub mod lists;
@@ -32,7 +33,7 @@ use inpaint::limits::{self, louder, Faults, LOUD, LOUDER_GAP, LOUD_GAP};
 use inpaint::orders::{self, Orders};
 use inpaint::scans::{self, dropped, scan, scan_any, Scans};
 use inpaint::several::Splices;
-use inpaint::{held, lengths, lists, short, spans};
+use inpaint::{held, held_runs, lengths, lists, short, spans};
 
 /// How many gaps are tried: in random short recordings over the alphabet, in short ones of each shape, by
 /// model and longer than 500, and by line.
@@ -152,25 +153,39 @@ fn repair_large(count: &mut Gaps, draw: &mut Draw) {
     });
 }
 
+/// Held runs at the ends of what is allowed and past them, and beside the usual one; and one of which only the last 16
+/// or 12 binary digits are that.
+const HELD_RUNS: [u32; 13] = [0, 1, 2, 3, 15, 16, 17, 4_095, 4_096, 4_097, 65_552, u32::MAX - 1, u32::MAX];
+
 /// Rates and milliseconds at the ends of what is allowed and past them, and where the limit is 1, a few
-/// samples, many, or none.
+/// samples, many, or none; and each held run, at times beside another setting that is not allowed.
 fn each_setting(put: &mut dyn FnMut(OfScan)) {
     for rate in [0, 1, 999, 1000, 48_000, MOST_RATE - 1, MOST_RATE, MOST_RATE + 1, u32::MAX] {
         for max_gap_ms in [0.0, -0.0, -1.0, 1e-38, 0.06, 1.0, 2.0, 2.5, 2.999, 3.0, 3.5, 4000.0, 1e30, f32::MAX] {
-            put((rate, max_gap_ms));
+            put(OfScan::new(rate, max_gap_ms));
         }
         for max_gap_ms in [f32::MIN, f32::NAN, f32::INFINITY, f32::NEG_INFINITY] {
-            put((rate, max_gap_ms));
+            put(OfScan::new(rate, max_gap_ms));
+        }
+    }
+    for held_run in HELD_RUNS {
+        for settings in [settings::USUAL, settings::UNLIMITED].into_iter().chain(settings::NO_SCANS) {
+            put(settings.holding(held_run));
         }
     }
 }
 
 /// Limits that are another number where the product is taken first, where it is worked out in doubles, or where only
 /// its last 32 binary digits are kept.
-const LIMITS: [OfScan; 4] = [(19, 157.894_73), (48_000, 4.5), (1_000, 4_294_967_296.0), (1_000, 4_294_967_300.0)];
+const LIMITS: [OfScan; 4] = [
+    OfScan::new(19, 157.894_73),
+    OfScan::new(48_000, 4.5),
+    OfScan::new(1_000, 4_294_967_296.0),
+    OfScan::new(1_000, 4_294_967_300.0),
+];
 
-/// Scans of one recording with every setting. It has runs of 1 to 6 samples, one of 3 at each end, and subnormals, which
-/// are sound.
+/// Scans of one recording with every setting. It has runs of 1 to 6 samples, one of 3 at each end, subnormals, which are
+/// sound, and words that are held for 2, 3 and 15 to 17 samples.
 fn scan_settings(count: &mut Scans, draw: &mut Draw) {
     let mut samples = vec![0; 3];
     for run in 1..=6 {
@@ -178,6 +193,10 @@ fn scan_settings(count: &mut Scans, draw: &mut Draw) {
         samples.extend(vec![0x8000_0000; run]);
     }
     samples.extend([0x3f80_0000, 1, 0x8000_0001, 0x007f_ffff]);
+    for run in [2, 3, 15, 16, 17] {
+        samples.extend(vec![0x3e80_0000; run]);
+        samples.push(0xbe80_0000);
+    }
     samples.extend([0x3f80_0000, 0, 0, 0]);
     each_setting(&mut |settings| {
         scan_any(count, draw, &samples, settings);
@@ -197,7 +216,7 @@ fn scan_settings(count: &mut Scans, draw: &mut Draw) {
 fn scan_refused(count: &mut Scans, draw: &mut Draw) {
     for faults in Faults::each() {
         let (model, work) = faults.made(draw);
-        let settings = if faults.of_gap() { settings::NO_SCANS[draw.below(3) as usize] } else { settings::USUAL };
+        let settings = if faults.of_gap() { settings::no_scan(draw) } else { settings::USUAL };
         let orders = room::orders(&mut draw.aside(), model.samples.len());
         scan(count, &mut Both::new(model), settings, work, orders);
     }
@@ -210,6 +229,7 @@ fn scan_shapes(count: &mut Scans, draw: &mut Draw) {
             let n = 20 + draw.below(200) as usize;
             let samples = dropped(draw, shape, n, 12);
             let settings = if draw.below(2) == 0 { settings::USUAL } else { settings::near(draw, 6) };
+            let settings = settings::any_held_run(draw, settings);
             scan_any(count, draw, &samples, settings);
         }
     }
@@ -249,7 +269,8 @@ fn scanned() {
     count.begin("random ones of 6 to 60 samples");
     for _ in 0..RANDOM_SCANS {
         let samples = short::random(&mut draw);
-        scan_any(&mut count, &mut draw, &samples, settings::USUAL);
+        let settings = settings::any_held_run(&draw, settings::USUAL);
+        scan_any(&mut count, &mut draw, &samples, settings);
     }
     count.begin("each shape with dropouts");
     scan_shapes(&mut count, &mut draw);
@@ -291,6 +312,23 @@ fn held_words() {
     held::lines(&mut count, &mut draw);
     count.begin("two to nine pieces");
     held::random(&mut count, &mut draw);
+    count.close(seed);
+}
+
+#[test]
+fn held_runs() {
+    let seed = draw::seed();
+    let mut draw = Draw::new(seed);
+    let title = "cathar_inpaint_auto at each held run against model and original";
+    let mut count = Count::new(title, &[held_runs::CLASSES]);
+    count.begin("held runs that are not allowed");
+    held_runs::refused(&mut count, &mut draw);
+    count.begin("runs of just as many words, and beside it");
+    held_runs::beside(&mut count, &mut draw);
+    count.begin("all recordings of up to 6 samples, at 2 and 3");
+    held_runs::all(&mut count, &mut draw);
+    count.begin("two to nine pieces");
+    held_runs::random(&mut count, &mut draw);
     count.close(seed);
 }
 
@@ -456,7 +494,7 @@ fn where_the_original_takes_any_setting() {
         let words = |samples: &[f32]| samples.iter().map(|x| x.to_bits()).collect::<Vec<u32>>();
         assert_eq!(words(&after) != words(&samples), within, "rate {rate}, {max_gap_ms} ms: {after:?}");
         let model = room::recording(&mut Draw::new(1), words(&samples), 100);
-        let scan = scan(&mut count, &mut Both::new(model), (rate, max_gap_ms), vec![1; 1000], vec![7; 4]);
+        let scan = scan(&mut count, &mut Both::new(model), OfScan::new(rate, max_gap_ms), vec![1; 1000], vec![7; 4]);
         assert_eq!(scan, Scan::Refused(4));
     }
     count.close(1);

@@ -8,6 +8,7 @@ use cathar_host::frames::{read_frames, Rooms, FRAME_BYTES};
 use cathar_host::inpaint::{inpaint_auto, HELD_RUN, LOST_RUN};
 use cathar_host::machine;
 use cathar_host::recording::{Answer, Recording};
+use cathar_host::settings::OfScan;
 use cathar_host::shapes::Shape;
 use cathar_host::sounds::Sound;
 use std::env;
@@ -81,7 +82,7 @@ fn received(input: &[u8]) -> String {
 /// Request P8 of document 02: "the program adds it as a fourth number on lines with mark 1".
 fn scanned(mut recording: Recording) -> String {
     let mut orders = vec![0; recording.samples.len()];
-    let scan = inpaint_auto(&mut recording, RATE, LIMIT, &mut vec![0; 10_000], &mut orders);
+    let scan = inpaint_auto(&mut recording, OfScan::new(RATE, LIMIT), &mut vec![0; 10_000], &mut orders);
     let counts = (scan.qualified(), scan.repaired(), scan.number());
     let mut text = format!("qualified {} repaired {} refused {}\n", counts.0, counts.1, counts.2);
     for (place, mark) in recording.marks.iter().enumerate().filter(|(_, mark)| **mark != 0) {

@@ -26,6 +26,7 @@ use cathar_host::draw::{Draw, SEED};
 use cathar_host::inpaint::{inpaint_auto, inpaint_gap, scanned_by_original, Gap, GapAnswer, Scan};
 use cathar_host::original;
 use cathar_host::recording::{in_range, Answer, Recording};
+use cathar_host::settings::OfScan;
 use cathar_host::shapes::Shape;
 use cathar_host::whole::{self, floats, needed, Repair, Start};
 use std::env;
@@ -48,8 +49,7 @@ const QUIET: [f64; 12] =
     [0.0, 5e-13, 1.01e-12, 1.05e-12, 1.3e-12, 1.05e-12, 1.2e-12, 3e-12, 1.1e-12, 2e-12, 1.2e-12, 2e-12];
 
 /// The rate of each scan and its limit in milliseconds, which is 48 samples.
-const RATE: u32 = 48_000;
-const LIMIT: f32 = 1.0;
+const SCAN: OfScan = OfScan::new(48_000, 1.0);
 
 /// The dropouts of each scan, which are as many samples apart as the rest of its n allows: 1 sample does not
 /// qualify and 2 do, 48 do and 49 do not.
@@ -185,11 +185,11 @@ fn dropped(draw: &mut Draw, shape: Shape, n: usize, dropouts: &[usize]) -> Vec<u
 
 fn scan_line(samples: &[u32]) -> String {
     let mut model = recording(samples);
-    let scan = inpaint_auto(&mut model, RATE, LIMIT, &mut vec![0; 10_000], &mut []);
+    let scan = inpaint_auto(&mut model, SCAN, &mut vec![0; 10_000], &mut []);
     assert!(scan.number() == 0 && scan.qualified() > 0, "the scan of a line: {scan:?}");
     assert!(model.samples.iter().all(|word| in_range(*word)), "a sample is not in range after the scan");
-    let left = scanned_by_original(samples, RATE, LIMIT, &scan.gaps());
-    line(('s', [RATE, LIMIT.to_bits(), 0]), of_scan(&scan), samples, &model, &left)
+    let left = scanned_by_original(samples, SCAN, &scan.gaps());
+    line(('s', [SCAN.rate, SCAN.max_gap_ms.to_bits(), 0]), of_scan(&scan), samples, &model, &left)
 }
 
 /// Samples of which words are held, and others are zero.

@@ -10,6 +10,7 @@ use cathar_host::lent::Lent;
 use cathar_host::original;
 use cathar_host::question::{by_each_mark, Span};
 use cathar_host::recording::{entry_words, Recording};
+use cathar_host::settings::OfScan;
 use cathar_host::whole::{self, Repair, Start, MEAN_OVER};
 use std::ptr;
 use std::time::{Duration, Instant};
@@ -161,7 +162,7 @@ fn scan(samples: &[f32]) -> Times {
             lent.lend_doubles(&work);
             lent.lend_orders(&orders);
         },
-        Call::Scan { rate: RATE, max_gap_ms: LIMIT },
+        Call::Scan(OfScan::new(RATE, LIMIT)),
     )
 }
 

@@ -547,7 +547,7 @@ fn refuse(lent: &mut Lent, call: Call) -> u32 {
     }
     let numbers = match call {
         Call::Open | Call::OpenReceived => 0,
-        Call::Scan { .. } => 2,
+        Call::Scan(_) => 2,
         _ => 1,
     };
     lent.numbers.iter_mut().take(numbers).for_each(|number| number.lend()[0] = 0);
@@ -579,8 +579,8 @@ fn scan_14_in_each_run(lent: &mut Lent, call: Call) -> u32 {
     let mut right = lent.recording();
     right.counts.resize(blocks(right.samples.len()), 0);
     match (number, call, right.refused_by_any_call()) {
-        (14, Call::Scan { .. }, Some(number)) => number,
-        (14, Call::Scan { rate, max_gap_ms }, None) => match qualified(&right.samples, rate, max_gap_ms) {
+        (14, Call::Scan(_), Some(number)) => number,
+        (14, Call::Scan(settings), None) => match qualified(&right.samples, settings) {
             Some(runs) => {
                 lent.numbers[0].lend()[0] = runs.len();
                 14 * u32::from(!runs.is_empty())

@@ -1,10 +1,10 @@
 //! Stand-ins for the automatic scan that are wrong in what request P1 of document 02 says of held words, each made of
 //! repairs of single gaps.
-use super::scans::{allowed, answer_of, in_order, qualifying, repair, with_runs};
+use super::scans::{allowed, answer_of, held_gaps, in_order, lost_runs, qualifying, repair, with_runs};
 use super::How::Library;
 use super::{Finds, Standin, Table};
 use crate::call::Call;
-use crate::inpaint::{held, is_lost, limit, lost, qualified, Gap, HELD_RUN};
+use crate::inpaint::{held, is_lost, limit, lost, qualified, Gap, HELD_RUN, LOST_RUN};
 use crate::lent::Lent;
 use crate::recording::{in_range, not_measured, BLOCK};
 
@@ -104,18 +104,18 @@ const STANDINS: &[Standin] = &[
 
 /// A scan whose gaps of held words are what this makes of the samples and the limit.
 fn with_held(lent: &mut Lent, call: Call, gaps: fn(&[u32], usize) -> Vec<Gap>) -> u32 {
-    with_runs(lent, call, |samples, (rate, max_gap_ms)| {
-        let most = limit(rate, max_gap_ms);
-        in_order(qualifying(lost(samples), samples.len(), most), gaps(samples, most))
+    with_runs(lent, call, |samples, settings| {
+        let most = limit(settings);
+        in_order(qualifying(lost_runs(samples), samples.len(), most), gaps(samples, most))
     })
 }
 
 /// A scan whose gaps of held words are those that this makes of each right one, where they are within the limit and
 /// touch neither end.
 fn with_each(lent: &mut Lent, call: Call, other: fn(Gap) -> Gap) -> u32 {
-    with_runs(lent, call, |samples, (rate, max_gap_ms)| {
-        let gaps = held(samples, HELD_RUN).into_iter().map(other).collect();
-        qualifying(in_order(lost(samples), gaps), samples.len(), limit(rate, max_gap_ms))
+    with_runs(lent, call, |samples, settings| {
+        let gaps = held_gaps(samples, settings).into_iter().map(other).collect();
+        qualifying(in_order(lost_runs(samples), gaps), samples.len(), limit(settings))
     })
 }
 
@@ -140,11 +140,11 @@ fn is_held(word: u32) -> bool {
 
 /// A scan in which words that are so are held.
 fn with_words(lent: &mut Lent, call: Call, so: fn(u32) -> bool, like: fn(u32, u32) -> bool) -> u32 {
-    with_runs(lent, call, |samples, (rate, max_gap_ms)| {
+    with_runs(lent, call, |samples, settings| {
         let gaps = held_where(samples, so, like);
         let apart = |run: &Gap| gaps.iter().all(|gap| run.end() < gap.start || gap.end() <= run.start);
-        let zeros = lost(samples).into_iter().filter(apart).collect();
-        qualifying(in_order(zeros, gaps.clone()), samples.len(), limit(rate, max_gap_ms))
+        let zeros = lost_runs(samples).into_iter().filter(apart).collect();
+        qualifying(in_order(zeros, gaps.clone()), samples.len(), limit(settings))
     })
 }
 
@@ -249,7 +249,7 @@ fn is_behind(gap: &Gap, zeros: &Gap) -> bool {
 }
 
 fn held_joined_to_zeros(lent: &mut Lent, call: Call) -> u32 {
-    with_runs(lent, call, |samples, (rate, max_gap_ms)| {
+    with_runs(lent, call, |samples, settings| {
         let mut runs = lost(samples);
         for gap in held(samples, HELD_RUN) {
             match runs.iter_mut().find(|zeros| is_behind(&gap, zeros)) {
@@ -257,7 +257,8 @@ fn held_joined_to_zeros(lent: &mut Lent, call: Call) -> u32 {
                 None => runs.push(gap),
             }
         }
-        qualifying(in_order(runs, Vec::new()), samples.len(), limit(rate, max_gap_ms))
+        runs.retain(|run| run.len >= LOST_RUN);
+        qualifying(in_order(runs, Vec::new()), samples.len(), limit(settings))
     })
 }
 
@@ -303,20 +304,20 @@ fn next(samples: &[u32], most: usize, from: usize, looks_back: bool) -> Option<G
             Gap { start: place, len: if is_lost(samples[place]) { len } else { 0 } }
         }
     };
-    let gaps = (from..samples.len()).filter(begins).map(gap_at);
+    let gaps = (from..samples.len()).filter(begins).map(gap_at).filter(|gap| gap.len >= LOST_RUN);
     qualifying(gaps.collect(), samples.len(), most).first().copied()
 }
 
 /// A scan that looks for one run after the other as the recording then stands, each from where this says of the gap
 /// before.
 fn searching(lent: &mut Lent, call: Call, looks_back: bool, on: fn(Gap) -> usize) -> u32 {
-    let (rate, max_gap_ms) = match allowed(lent, call) {
+    let settings = match allowed(lent, call) {
         Some(settings) => settings,
         None => return lent.call(call),
     };
     let mut numbers = Vec::new();
     let mut from = 0;
-    while let Some(gap) = next(lent.samples(), limit(rate, max_gap_ms), from, looks_back) {
+    while let Some(gap) = next(lent.samples(), limit(settings), from, looks_back) {
         numbers.extend(repair(lent, &[gap]));
         from = on(gap);
     }
@@ -339,7 +340,7 @@ fn held_reads_raw(lent: &mut Lent, call: Call) -> u32 {
     let before = lent.samples().to_vec();
     let mut after = before.clone();
     let mut numbers = Vec::new();
-    for gap in qualified(&before, settings.0, settings.1).unwrap_or_default() {
+    for gap in qualified(&before, settings).unwrap_or_default() {
         lent.samples.lend().copy_from_slice(&before);
         numbers.extend(repair(lent, &[gap]));
         let places = gap.start..gap.end();

@@ -482,7 +482,7 @@ fn list_marked_1(lent: &mut Lent, call: Call) -> u32 {
 /// Where the answer is so, those places of the list become 0 that are so.
 fn cleared(lent: &mut Lent, call: Call, so: impl Fn(u32) -> bool, place: impl Fn(usize) -> bool) -> u32 {
     let number = lent.call(call);
-    if matches!(call, Call::Scan { .. }) && so(number) {
+    if matches!(call, Call::Scan(_)) && so(number) {
         let places = lent.orders.lend().iter_mut().enumerate();
         places.filter(|(at, _)| place(*at)).for_each(|(_, order)| *order = 0);
     }

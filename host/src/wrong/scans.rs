@@ -3,7 +3,7 @@ use super::sequences::join_entries;
 use super::How::Library;
 use super::{Finds, Standin, Table};
 use crate::call::Call;
-use crate::inpaint::{held, is_lost, limit, lost, qualified, Gap, HELD_RUN, LOST_RUN, MOST_RATE, SCAN_PASSES};
+use crate::inpaint::{held, is_lost, limit, lost, qualified, Gap, LOST_RUN, MOST_RATE, SCAN_PASSES};
 use crate::lent::Lent;
 use crate::settings::OfScan;
 
@@ -184,8 +184,8 @@ const STANDINS: &[Standin] = &[
 /// The settings of a scan that is not refused as a whole.
 pub(super) fn allowed(lent: &Lent, call: Call) -> Option<OfScan> {
     match call {
-        Call::Scan { rate, max_gap_ms } if lent.recording().refused_by_any_call().is_none() => {
-            qualified(&[], rate, max_gap_ms).map(|_| (rate, max_gap_ms))
+        Call::Scan(settings) if lent.recording().refused_by_any_call().is_none() => {
+            qualified(&[], settings).map(|_| settings)
         }
         _ => None,
     }
@@ -193,7 +193,7 @@ pub(super) fn allowed(lent: &Lent, call: Call) -> Option<OfScan> {
 
 /// The runs that qualify in a scan; none, where it is refused as a whole.
 pub(super) fn runs_of(lent: &Lent, call: Call) -> Vec<Gap> {
-    let runs = allowed(lent, call).and_then(|(rate, max_gap_ms)| qualified(lent.samples(), rate, max_gap_ms));
+    let runs = allowed(lent, call).and_then(|settings| qualified(lent.samples(), settings));
     runs.unwrap_or_default()
 }
 
@@ -270,9 +270,25 @@ pub(super) fn in_order(mut gaps: Vec<Gap>, others: Vec<Gap>) -> Vec<Gap> {
     gaps
 }
 
-/// The runs of zeros and NaN, those of one sample among them, and the gaps of held words.
-fn dropouts(samples: &[u32]) -> Vec<Gap> {
-    in_order(lost(samples), held(samples, HELD_RUN))
+/// The runs of zeros and NaN of two samples or more.
+pub(super) fn lost_runs(samples: &[u32]) -> Vec<Gap> {
+    at_least_two(lost(samples))
+}
+
+/// Those of these runs that have two samples or more.
+fn at_least_two(mut runs: Vec<Gap>) -> Vec<Gap> {
+    runs.retain(|run| run.len >= LOST_RUN);
+    runs
+}
+
+/// The gaps of held words.
+pub(super) fn held_gaps(samples: &[u32], settings: OfScan) -> Vec<Gap> {
+    held(samples, settings.held_run as usize)
+}
+
+/// The runs of zeros and NaN, and the gaps of held words.
+pub(super) fn dropouts(samples: &[u32], settings: OfScan) -> Vec<Gap> {
+    in_order(lost_runs(samples), held_gaps(samples, settings))
 }
 
 fn touches_start(run: Gap) -> bool {
@@ -285,30 +301,30 @@ fn touches_end(run: Gap, n: usize) -> bool {
 
 /// The runs that qualify of these in n samples, with this limit.
 pub(super) fn qualifying(runs: Vec<Gap>, n: usize, limit: usize) -> Vec<Gap> {
-    runs.into_iter().filter(|run| run.len >= LOST_RUN && run.is_allowed(n, limit)).collect()
+    runs.into_iter().filter(|run| run.is_allowed(n, limit)).collect()
 }
 
 /// A scan with this limit.
 fn with_limit(lent: &mut Lent, call: Call, limit: fn(OfScan) -> usize) -> u32 {
-    with_runs(lent, call, |samples, settings| qualifying(dropouts(samples), samples.len(), limit(settings)))
+    with_runs(lent, call, |samples, settings| qualifying(dropouts(samples, settings), samples.len(), limit(settings)))
 }
 
 /// A scan with these for dropouts in the place of zeros and NaN.
 fn with_dropouts(lent: &mut Lent, call: Call, so: fn(f32) -> bool, like: fn(f32, f32) -> bool) -> u32 {
-    with_runs(lent, call, |samples, (rate, max_gap_ms)| {
-        let runs = in_order(runs_where(samples, so, like), held(samples, HELD_RUN));
-        qualifying(runs, samples.len(), limit(rate, max_gap_ms))
+    with_runs(lent, call, |samples, settings| {
+        let runs = in_order(at_least_two(runs_where(samples, so, like)), held_gaps(samples, settings));
+        qualifying(runs, samples.len(), limit(settings))
     })
 }
 
 /// Whether a dropout run keeps to the limit, whatever else holds of it.
-fn is_within(run: &Gap, (rate, max_gap_ms): OfScan) -> bool {
-    run.len <= limit(rate, max_gap_ms)
+fn is_within(run: &Gap, settings: OfScan) -> bool {
+    run.len <= limit(settings)
 }
 
 fn scan_run_of_one(lent: &mut Lent, call: Call) -> u32 {
     with_runs(lent, call, |samples, settings| {
-        let mut runs = dropouts(samples);
+        let mut runs = in_order(lost(samples), held_gaps(samples, settings));
         runs.retain(|run| is_within(run, settings) && !touches_start(*run) && !touches_end(*run, samples.len()));
         runs
     })
@@ -316,30 +332,30 @@ fn scan_run_of_one(lent: &mut Lent, call: Call) -> u32 {
 
 fn scan_run_at_start(lent: &mut Lent, call: Call) -> u32 {
     with_runs(lent, call, |samples, settings| {
-        let mut runs = dropouts(samples);
-        runs.retain(|run| is_within(run, settings) && run.len > 1 && !touches_end(*run, samples.len()));
+        let mut runs = dropouts(samples, settings);
+        runs.retain(|run| is_within(run, settings) && !touches_end(*run, samples.len()));
         runs
     })
 }
 
 fn scan_run_at_end(lent: &mut Lent, call: Call) -> u32 {
     with_runs(lent, call, |samples, settings| {
-        let mut runs = dropouts(samples);
-        runs.retain(|run| is_within(run, settings) && run.len > 1 && !touches_start(*run));
+        let mut runs = dropouts(samples, settings);
+        runs.retain(|run| is_within(run, settings) && !touches_start(*run));
         runs
     })
 }
 
 fn scan_limit_one_more(lent: &mut Lent, call: Call) -> u32 {
-    with_limit(lent, call, |(rate, max_gap_ms)| limit(rate, max_gap_ms).saturating_add(1))
+    with_limit(lent, call, |settings| limit(settings).saturating_add(1))
 }
 
 fn scan_limit_one_less(lent: &mut Lent, call: Call) -> u32 {
-    with_limit(lent, call, |(rate, max_gap_ms)| limit(rate, max_gap_ms) - 1)
+    with_limit(lent, call, |settings| limit(settings) - 1)
 }
 
 /// The product of which the limit is cut.
-fn product((rate, max_gap_ms): OfScan) -> f32 {
+fn product(OfScan { rate, max_gap_ms, .. }: OfScan) -> f32 {
     (max_gap_ms / 1000.0) * rate as f32
 }
 
@@ -363,15 +379,17 @@ fn scan_limit_of_infinity(lent: &mut Lent, call: Call) -> u32 {
 }
 
 fn scan_limit_product_first(lent: &mut Lent, call: Call) -> u32 {
-    with_limit(lent, call, |(rate, max_gap_ms)| (max_gap_ms * rate as f32 / 1000.0) as usize)
+    with_limit(lent, call, |OfScan { rate, max_gap_ms, .. }| (max_gap_ms * rate as f32 / 1000.0) as usize)
 }
 
 fn scan_limit_in_doubles(lent: &mut Lent, call: Call) -> u32 {
-    with_limit(lent, call, |(rate, max_gap_ms)| (f64::from(max_gap_ms) / 1000.0 * f64::from(rate)) as usize)
+    with_limit(lent, call, |OfScan { rate, max_gap_ms, .. }| {
+        (f64::from(max_gap_ms) / 1000.0 * f64::from(rate)) as usize
+    })
 }
 
 fn scan_limit_of_32_bits(lent: &mut Lent, call: Call) -> u32 {
-    with_limit(lent, call, |(rate, max_gap_ms)| limit(rate, max_gap_ms) as u32 as usize)
+    with_limit(lent, call, |settings| limit(settings) as u32 as usize)
 }
 
 fn scan_nan_is_none(lent: &mut Lent, call: Call) -> u32 {
@@ -395,9 +413,9 @@ fn scan_zeros_and_nan_apart(lent: &mut Lent, call: Call) -> u32 {
 }
 
 fn scan_shorter_runs_too(lent: &mut Lent, call: Call) -> u32 {
-    with_runs(lent, call, |samples, (rate, max_gap_ms)| {
-        let (n, most) = (samples.len(), limit(rate, max_gap_ms));
-        let mut runs = dropouts(samples);
+    with_runs(lent, call, |samples, settings| {
+        let (n, most) = (samples.len(), limit(settings));
+        let mut runs = dropouts(samples, settings);
         runs.retain(|run| !touches_end(*run, n));
         let cut = runs.into_iter().map(|run| Gap { start: run.start, len: run.len.min(most) }).collect();
         qualifying(cut, n, most)
@@ -406,20 +424,20 @@ fn scan_shorter_runs_too(lent: &mut Lent, call: Call) -> u32 {
 
 fn scan_stops_at_long_run(lent: &mut Lent, call: Call) -> u32 {
     with_runs(lent, call, |samples, settings| {
-        let runs = dropouts(samples).into_iter().take_while(|run| is_within(run, settings)).collect();
+        let runs = dropouts(samples, settings).into_iter().take_while(|run| is_within(run, settings)).collect();
         qualifying(runs, samples.len(), usize::MAX)
     })
 }
 
 fn scan_skips_two(lent: &mut Lent, call: Call) -> u32 {
-    with_runs(lent, call, |samples, (rate, max_gap_ms)| {
-        let (n, most) = (samples.len(), limit(rate, max_gap_ms));
+    with_runs(lent, call, |samples, settings| {
+        let (n, most) = (samples.len(), limit(settings));
         let mut from = 0;
         let mut found = Vec::new();
-        for run in dropouts(samples) {
+        for run in dropouts(samples, settings) {
             let start = run.start.max(from);
             let seen = Gap { start, len: (run.start + run.len).saturating_sub(start) };
-            if !qualifying(vec![seen], n, most).is_empty() {
+            if seen.len >= LOST_RUN && seen.is_allowed(n, most) {
                 from = run.start + run.len + 2;
                 found.push(seen);
             }
@@ -429,8 +447,8 @@ fn scan_skips_two(lent: &mut Lent, call: Call) -> u32 {
 }
 
 fn scan_from_last(lent: &mut Lent, call: Call) -> u32 {
-    with_runs(lent, call, |samples, (rate, max_gap_ms)| {
-        let runs = qualified(samples, rate, max_gap_ms).unwrap_or_default();
+    with_runs(lent, call, |samples, settings| {
+        let runs = qualified(samples, settings).unwrap_or_default();
         runs.into_iter().rev().collect()
     })
 }
@@ -550,13 +568,13 @@ fn scan_3_at_journal_end(lent: &mut Lent, call: Call) -> u32 {
 fn scan_4_before_3(lent: &mut Lent, call: Call) -> u32 {
     let number = lent.call(call);
     match call {
-        Call::Scan { rate, max_gap_ms } if number == 3 && qualified(&[], rate, max_gap_ms).is_none() => 4,
+        Call::Scan(settings) if number == 3 && qualified(&[], settings).is_none() => 4,
         _ => number,
     }
 }
 
 /// The scan is refused by 4 where the settings are so, and not by another number before.
-fn refusing(lent: &mut Lent, call: Call, so: fn(OfScan) -> bool) -> u32 {
+pub(super) fn refusing(lent: &mut Lent, call: Call, so: fn(OfScan) -> bool) -> u32 {
     match allowed(lent, call) {
         Some(settings) if so(settings) => answer(lent, 4, [0, 0]),
         _ => lent.call(call),
@@ -564,38 +582,45 @@ fn refusing(lent: &mut Lent, call: Call, so: fn(OfScan) -> bool) -> u32 {
 }
 
 fn scan_4_at_most_rate(lent: &mut Lent, call: Call) -> u32 {
-    refusing(lent, call, |(rate, _)| rate == MOST_RATE)
+    refusing(lent, call, |settings| settings.rate == MOST_RATE)
 }
 
 fn scan_4_below_zero(lent: &mut Lent, call: Call) -> u32 {
-    refusing(lent, call, |(_, max_gap_ms)| max_gap_ms < 0.0)
+    refusing(lent, call, |settings| settings.max_gap_ms < 0.0)
 }
 
 /// The scan is made with this limit where it would be refused by 4 for these settings.
-fn allowing(lent: &mut Lent, call: Call, so: fn(OfScan) -> bool, limit: fn(OfScan) -> usize) -> u32 {
+pub(super) fn allowing(lent: &mut Lent, call: Call, so: fn(OfScan) -> bool, limit: fn(OfScan) -> usize) -> u32 {
     let number = lent.call(call);
     match call {
-        Call::Scan { rate, max_gap_ms } if number == 4 && so((rate, max_gap_ms)) => {
+        Call::Scan(settings) if number == 4 && so(settings) => {
             let n = lent.samples().len();
-            let runs = qualifying(dropouts(lent.samples()), n, limit((rate, max_gap_ms)));
+            let runs = qualifying(dropouts(lent.samples(), settings), n, limit(settings));
             over(lent, &runs)
         }
         _ => number,
     }
 }
 
+/// Whether a scan allows these settings.
+pub(super) fn is_allowed(settings: OfScan) -> bool {
+    qualified(&[], settings).is_some()
+}
+
 fn scan_4_not_above_most_rate(lent: &mut Lent, call: Call) -> u32 {
-    let is_above = |(rate, max_gap_ms): OfScan| rate == MOST_RATE + 1 && max_gap_ms.is_finite();
-    allowing(lent, call, is_above, |(rate, max_gap_ms)| limit(rate, max_gap_ms))
+    let is_above = |settings: OfScan| settings.rate == MOST_RATE + 1 && is_allowed(OfScan { rate: 1, ..settings });
+    allowing(lent, call, is_above, limit)
 }
 
 fn scan_4_not_minus_infinity(lent: &mut Lent, call: Call) -> u32 {
-    let is_it = |(rate, max_gap_ms)| rate <= MOST_RATE && max_gap_ms == f32::NEG_INFINITY;
+    let is_it = |settings: OfScan| {
+        settings.max_gap_ms == f32::NEG_INFINITY && is_allowed(OfScan { max_gap_ms: 1.0, ..settings })
+    };
     allowing(lent, call, is_it, |_| usize::MAX)
 }
 
 fn scan_4_not_nan(lent: &mut Lent, call: Call) -> u32 {
-    let is_it = |(rate, max_gap_ms): OfScan| rate <= MOST_RATE && max_gap_ms.is_nan();
+    let is_it = |settings: OfScan| settings.max_gap_ms.is_nan() && is_allowed(OfScan { max_gap_ms: 1.0, ..settings });
     allowing(lent, call, is_it, |_| 1)
 }
 

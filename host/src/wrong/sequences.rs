@@ -846,13 +846,13 @@ fn entry_a_place_too_few(_: Call, before: &Recording, after: &mut Recording) {
 }
 
 fn scan_enters_first_run(call: Call, before: &Recording, after: &mut Recording) {
-    if let Call::Scan { .. } = call {
+    if let Call::Scan(_) = call {
         enter_first(before, after);
     }
 }
 
 fn scan_enters_runs_reversed(call: Call, before: &Recording, after: &mut Recording) {
-    if let Call::Scan { .. } = call {
+    if let Call::Scan(_) = call {
         reverse_entries(before, after);
     }
 }

@@ -26,7 +26,7 @@ pub struct Call {
 
 impl Call {
     fn limit(&self) -> usize {
-        limit(self.settings.0, self.settings.1)
+        limit(self.settings)
     }
 
     /// The gaps that were repaired, of held words or of zeros and NaN.
@@ -174,7 +174,7 @@ pub fn all(count: &mut Scans, draw: &mut Draw) {
         for number in 0..base.pow(pieces) {
             let chosen = (0..pieces).map(|place| PIECES[number / base.pow(place) % base]);
             let samples: Vec<u32> = chosen.flat_map(words).collect();
-            for settings in [USUAL, (1_000, 14.0), (1_000, 15.0), (1_000, 16.0)] {
+            for settings in [USUAL, OfScan::new(1_000, 14.0), OfScan::new(1_000, 15.0), OfScan::new(1_000, 16.0)] {
                 scan(count, draw, samples.clone(), settings);
             }
         }
@@ -222,7 +222,7 @@ pub fn random(count: &mut Scans, draw: &mut Draw) {
             6 => settings::near(draw, 20),
             _ => UNLIMITED,
         };
-        let most = limit(settings.0, settings.1);
+        let most = limit(settings);
         let pieces = 2 + draw.below(8);
         let samples: Vec<u32> = (0..pieces).flat_map(|_| any_piece(draw, shape, most)).collect();
         scan(count, draw, samples, settings);
@@ -282,8 +282,12 @@ pub fn smallest(count: &mut Scans) {
             samples[HELD_RUN] = ZEROS[0];
         }
         let floats: Vec<f32> = samples.iter().map(|word| f32::from_bits(*word)).collect();
-        assert_eq!(original::inpaint_auto(&floats, USUAL.0, USUAL.1), floats, "the original knows no held words");
-        let gaps = qualified(&samples, USUAL.0, USUAL.1).expect("the settings are allowed");
+        assert_eq!(
+            original::inpaint_auto(&floats, USUAL.rate, USUAL.max_gap_ms),
+            floats,
+            "the original knows no held words"
+        );
+        let gaps = qualified(&samples, USUAL).expect("the settings are allowed");
         let expected = if n > HELD_RUN { vec![Gap { start: 1, len: HELD_RUN - 1 }] } else { vec![] };
         assert_eq!(gaps, expected);
         scan(count, &mut Draw::new(1), samples, USUAL);

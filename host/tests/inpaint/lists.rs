@@ -5,7 +5,7 @@ use cathar_host::both::Both;
 use cathar_host::count::{Class, Count};
 use cathar_host::damage;
 use cathar_host::draw::Draw;
-use cathar_host::inpaint::{held, qualified, Gap, GapAnswer, Scan, HELD_RUN};
+use cathar_host::inpaint::{held, qualified, Gap, GapAnswer, Scan};
 use cathar_host::room;
 use cathar_host::settings::{self, OfScan, UNLIMITED, USUAL};
 use cathar_host::shapes::Shape;
@@ -118,15 +118,16 @@ pub const CLASSES: &[Class<Call>] = &[
 
 /// Both sides scan, and the original too.
 fn scan(count: &mut Lists, both: &mut Both, settings: OfScan, work: Vec<u64>, orders: Vec<u32>) {
-    let (samples, list, held) = (both.model.samples.len(), orders.len(), held(&both.model.samples, HELD_RUN));
+    let (samples, list, held) =
+        (both.model.samples.len(), orders.len(), held(&both.model.samples, settings.held_run as usize));
     let (scan, wrong) = scanned(both, settings, work, orders);
     count.take(&Call { samples, list, scan, held }, &wrong);
 }
 
 /// A list for a scan of these samples: as long, longer or empty, or with an end within, directly before or directly
 /// behind one of the runs.
-fn any_list(draw: &mut Draw, samples: &[u32], (rate, max_gap_ms): OfScan) -> Vec<u32> {
-    let (n, runs) = (samples.len(), qualified(samples, rate, max_gap_ms).unwrap_or_default());
+fn any_list(draw: &mut Draw, samples: &[u32], settings: OfScan) -> Vec<u32> {
+    let (n, runs) = (samples.len(), qualified(samples, settings).unwrap_or_default());
     let any = draw.below(runs.len().max(1) as u64) as usize;
     let run = runs.get(any).copied().unwrap_or(Gap { start: n, len: 1 });
     let length = match draw.below(8) {
@@ -161,6 +162,7 @@ pub fn in_sound(count: &mut Lists, draw: &mut Draw, sound: Sound) {
         let n = 20 + draw.below(300) as usize;
         let samples = with_dropouts(draw, sound, n);
         let settings = if draw.below(3) == 0 { settings::near(draw, 20) } else { USUAL };
+        let settings = settings::any_held_run(draw, settings);
         scan_any(count, draw, &samples, settings);
     }
 }
@@ -208,7 +210,7 @@ pub fn lines(count: &mut Lists, draw: &mut Draw) {
 pub fn refused(count: &mut Lists, draw: &mut Draw) {
     for faults in Faults::each() {
         let (model, work) = faults.made(draw);
-        let settings = if faults.of_gap() { settings::NO_SCANS[draw.below(3) as usize] } else { USUAL };
+        let settings = if faults.of_gap() { settings::no_scan(draw) } else { USUAL };
         let orders = any_list(draw, &model.samples, settings);
         scan(count, &mut Both::new(model), settings, work, orders);
     }

@@ -68,7 +68,7 @@ pub const CLASSES: &[Class<Call>] = &[
         least: 5,
         holds: |c| c.is_clean() && c.scan.runs().iter().any(|r| r.0.is_line()),
     },
-    Class { name: "without a limit", least: 5, holds: |c| limit(c.settings.0, c.settings.1) == usize::MAX },
+    Class { name: "without a limit", least: 5, holds: |c| limit(c.settings) == usize::MAX },
     Class { name: "repaired in several blocks", least: 100, holds: Call::is_over_blocks },
     Class {
         name: "leaving a wrong count of another block",
@@ -107,7 +107,7 @@ pub fn scanned(both: &mut Both, settings: OfScan, work: Vec<u64>, orders: Vec<u3
     let before = both.model.samples.clone();
     let (scan, mut wrong) = both.inpaint_auto(settings, work, orders);
     if scan.number() == 0 {
-        let after = scanned_by_original(&before, settings.0, settings.1, &scan.gaps());
+        let after = scanned_by_original(&before, settings, &scan.gaps());
         if !after.iter().map(|x| x.to_bits()).eq(both.model.samples.iter().copied()) {
             wrong.push("the original's samples from the model's");
         }
@@ -123,7 +123,7 @@ pub fn scan_any(count: &mut Scans, draw: &mut Draw, samples: &[u32], settings: O
 
 /// What is lent to a scan of these samples.
 pub fn any_room(draw: &mut Draw, samples: &[u32], settings: OfScan) -> (Recording, Vec<u64>) {
-    let runs = qualified(samples, settings.0, settings.1).unwrap_or_default();
+    let runs = qualified(samples, settings).unwrap_or_default();
     any_room_for(draw, samples, &runs)
 }
 

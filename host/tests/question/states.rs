@@ -10,7 +10,7 @@ use cathar_host::inpaint::{Gap, Scan};
 use cathar_host::proposals;
 use cathar_host::recording::{entry_words, Answer, Recording, BLOCK, NOT_RECEIVED};
 use cathar_host::room;
-use cathar_host::settings;
+use cathar_host::settings::{self, OfScan};
 use cathar_host::shapes::Shape;
 use cathar_host::whole::{needed, Repair, Start};
 
@@ -127,7 +127,7 @@ pub fn call(draw: &mut Draw, on: &Recording) -> Call {
     match draw.below(51) {
         0..=11 => Call::Undo,
         12 => opening(draw),
-        13..=16 => Call::Scan { rate: settings::USUAL.0, max_gap_ms: settings::USUAL.1 },
+        13..=16 => Call::Scan(scan(draw, samples.len())),
         17..=20 => Call::Whole(settings::declip(draw, samples)),
         21..=22 => Call::Whole(settings::decrackle(draw, samples)),
         23..=24 => Call::Whole(settings::decrackle_old_start(draw, samples)),
@@ -136,6 +136,16 @@ pub fn call(draw: &mut Draw, on: &Recording) -> Call {
         27..=30 => Call::Gaps { passes: 1 },
         31..=33 => Call::Proposed { threshold: settings::threshold(draw, samples) },
         _ => Call::Gap { gap: run(draw, samples.len()), passes: 1 },
+    }
+}
+
+/// The settings of a scan of so many samples. Where there are many, only the usual number of equal words is held, since
+/// the original takes its time for each run.
+fn scan(draw: &Draw, n: usize) -> OfScan {
+    if n > 2 * BLOCK {
+        settings::USUAL
+    } else {
+        settings::any_held_run(draw, settings::USUAL)
     }
 }
 
@@ -172,9 +182,9 @@ pub fn make(draw: &mut Draw, both: &mut Both, call: Call) -> (Reached, Wrong) {
             let (several, wrong) = both.inpaint_gaps(lists, passes, work);
             (several.number(), several.repaired().map(|gap| gap.len).sum(), wrong)
         }
-        Call::Scan { rate, max_gap_ms } => {
+        Call::Scan(settings) => {
             let orders = room::orders(&mut draw.aside(), n);
-            of_scan(both.inpaint_auto((rate, max_gap_ms), room::work(draw, SCAN_WORK), orders))
+            of_scan(both.inpaint_auto(settings, room::work(draw, SCAN_WORK), orders))
         }
         Call::Whole(repair) => of_answer(both.repair(repair, room::words(draw, needed(n)))),
         Call::Proposed { threshold } => of_answer(propose(draw, both, threshold)),

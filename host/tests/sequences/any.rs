@@ -8,7 +8,7 @@ use cathar_host::proposals::{self, candidates, Among, Damage};
 use cathar_host::proposed::is_allowed;
 use cathar_host::recording::{entry_words, in_range, Recording, NOT_RECEIVED};
 use cathar_host::room::{self, Room};
-use cathar_host::settings::{self, NO_SCANS, UNLIMITED, USUAL};
+use cathar_host::settings::{self, UNLIMITED, USUAL};
 use cathar_host::shapes::Shape;
 use cathar_host::whole::needed;
 
@@ -231,16 +231,23 @@ fn within(draw: &mut Draw, n: usize) -> Gap {
     Gap { start, len: 1 + draw.below(most.min((n - start) as u64)) as usize }
 }
 
-/// Any scan.
+/// A scan with settings that are not allowed.
+fn refused_scan(draw: &mut Draw) -> Call {
+    Call::Scan { settings: settings::no_scan(draw), work: work_for(draw, Vec::new()) }
+}
+
+/// Any scan. Where there are many samples, only the usual number of equal words is held, since the original takes its
+/// time for each run.
 fn scan(draw: &mut Draw, samples: &[u32]) -> Call {
     let limit = from_to(draw, 3, 18);
     let settings = match draw.below(16) {
-        0 => NO_SCANS[draw.below(NO_SCANS.len() as u64) as usize],
+        0 => return refused_scan(draw),
         1..=8 => USUAL,
         9..=13 => settings::near(draw, limit),
         _ => UNLIMITED,
     };
-    let runs = qualified(samples, settings.0, settings.1).unwrap_or_default();
+    let settings = if samples.len() > FULL_OF_RUNS { settings } else { settings::any_held_run(draw, settings) };
+    let runs = qualified(samples, settings).unwrap_or_default();
     let work = work_for(draw, runs.iter().map(|run| run.needed(samples.len())).collect());
     Call::Scan { settings, work }
 }

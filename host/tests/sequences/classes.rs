@@ -2,6 +2,7 @@
 use super::calls::Call;
 use super::history::{History, Several, Step, Survivor};
 use cathar_host::count::Class;
+use cathar_host::inpaint::HELD_RUN;
 use cathar_host::recording::{entry_words, NOT_RECEIVED};
 use cathar_host::whole::{Repair, Start};
 
@@ -78,6 +79,11 @@ impl Step {
         !self.outcome.refused.is_empty()
     }
 
+    /// Whether it is a scan at another held run than the usual one.
+    fn holds_other(&self) -> bool {
+        matches!(self.call, Call::Scan { settings, .. } if settings.held_run != HELD_RUN as u32)
+    }
+
     /// Whether it is a list of so many gaps.
     fn is_list(&self, so: fn(usize) -> bool) -> bool {
         matches!(self.call, Call::Gaps { spans, .. } if so(spans.gaps().len()))
@@ -125,6 +131,7 @@ pub const CALLS: &[Class<Step>] = &[
         least: 50,
         holds: |s| s.outcome.held_runs > 0 && s.outcome.named.len() > s.outcome.held_runs,
     },
+    Class { name: "at a held run other than 16", least: 250, holds: |s| s.holds_other() && s.outcome.held_runs > 0 },
     Class { name: "refused in part", least: 150, holds: |s| s.names_by(Kind::Scan) && s.is_refused_in_part() },
     Class { name: "a list", least: 1_000, holds: |s| s.names_by(Kind::List) },
     Class { name: "of several gaps", least: 1_000, holds: |s| s.is(Kind::List) && s.outcome.named.len() > 1 },
@@ -173,6 +180,7 @@ pub const CALLS: &[Class<Step>] = &[
     Class { name: "a list answered 4", least: 300, holds: |s| s.number() == 4 && s.is(Kind::List) },
     Class { name: "of 65 gaps", least: 30, holds: |s| s.number() == 4 && s.is_list(|gaps| gaps == 65) },
     Class { name: "a scan answered 4", least: 1_000, holds: |s| s.number() == 4 && s.is(Kind::Scan) },
+    Class { name: "for its held run", least: 500, holds: |s| s.number() == 4 && s.holds_other() },
     Class { name: "a repair of all samples answered 4", least: 1_000, holds: |s| s.number() == 4 && s.is_whole() },
     Class { name: "a gap answered 5", least: 2_500, holds: |s| s.number() == 5 },
     Class { name: "a gap of a list answered 5", least: 500, holds: |s| s.lists_refused(5) },
