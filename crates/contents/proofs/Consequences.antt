@@ -5,7 +5,7 @@ use mathlib.Core.Path.{_≡_, refl, sym, ap, _∙_}
 use mathlib.Core.Bool.{true}
 use mathlib.Core.List.{List, [], _∷_, _++_, map, flatten}
 use lib.ListN.{length, getD, take, drop, take-append-drop, length-append, length-drop, length-map}
-use lib.Seq.{take-append-seam, drop-append-seam, drop-append-add, take-all, length-take-le}
+use lib.Seq.{take-append-seam, drop-append-seam, drop-append-add, length-take-le}
 use borrow.Author.Tests.{eq-eqb}
 use Rattle.wire.specs.Wire.{wordAt, decoded, encoded, Below, bytesTo, wordsTo}
 use Rattle.wire.proofs.Laws.{length-encoded, words-back, decoded-behind, encoded-back}

@@ -2,18 +2,17 @@
 -- laid down. Assumes nothing.
 use Prim.Native.Nat.{ℕ, zero, suc, _+_, _*_, _≤_, _<_}
 use native.Mathlib.Omega.{arith}
-use native.Mathlib.Nat.{add-zero}
 use mathlib.Core.Path.{_≡_, refl, sym, ap, subst, _∙_}
-use mathlib.Core.Bool.{true, _&&_}
+use mathlib.Core.Bool.{true}
 use mathlib.Core.List.{List, [], _∷_, _++_, map, flatten, append-assoc, append-nil}
-use lib.ListN.{length, getD, take, drop, replicate, length-append, length-map, length-replicate}
+use lib.ListN.{length, take, drop, replicate, length-append, length-map, length-replicate}
 use lib.Seq.{take-at, drop-drop}
 use lib.Dec.{eqb}
 use borrow.Author.Tests.{eqb-true}
 use Rattle.leaves.proofs.Choice.{both-hold}
 use Rattle.wire.specs.Wire.{wordAt, decoded, bytesOf, encoded, Below, bytesTo, wordsTo}
-use Rattle.wire.proofs.Laws.{length-bytes, length-encoded, length-decoded, word-back, words-back, decoded-behind, bytes-back}
-use Rattle.contents.specs.Contents.{tableBytes, rows, table, filed, lengthsFrom, lengthsIn, laidOut, cut, bodiesIn}
+use Rattle.wire.proofs.Laws.{length-bytes, length-encoded, word-back, words-back, decoded-behind, bytes-back}
+use Rattle.contents.specs.Contents.{tableBytes, rows, table, filed, lengthsIn, laidOut, cut, bodiesIn}
 use Rattle.contents.proofs.Rows.{length-table, length-lengths, total, laid-out}
 use Rattle.contents.proofs.Consequences.{filed-is-read, read-is-filed}
 use Rattle.settings.specs.Settings.{parts, versionBytes, blockOf, blockBytes, oneWordEach, formed, wordsIn}

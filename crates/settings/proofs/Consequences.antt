@@ -1,31 +1,32 @@
 -- What follows from the rules of the readers and the writers. Assumes nothing.
-use Prim.Native.Nat.{ℕ, _+_, _*_, _≤_, _<_}
+use Prim.Native.Nat.{ℕ, _+_, _*_, _≤_}
 use native.Mathlib.Omega.{arith}
-use mathlib.Core.Path.{_≡_, refl, sym, ap, subst, _∙_}
-use mathlib.Core.Bool.{Bool, true, false}
+use mathlib.Core.Path.{_≡_, refl, sym, ap, _∙_}
+use mathlib.Core.Bool.{true, false}
 use mathlib.Core.Logic.{_⊎_, inl, inr}
 use mathlib.Core.List.{List}
-use lib.ListN.{length, getD}
+use lib.ListN.{length}
 use lib.Dec.{ltb, eqb}
-use borrow.Author.Tests.{le-ltb, lt-ltb, eq-eqb, ne-eqb, eqb-true, ltb-true, ltb-false}
+use borrow.Author.Tests.{le-ltb, eq-eqb, ne-eqb, eqb-true}
 use Rattle.leaves.proofs.Choice.{truth, EitherWay}
-use Rattle.wire.specs.Wire.{wordAt, decoded, Below, bytesTo, wordsTo}
-use Rattle.wire.proofs.Laws.{length-decoded, decoded-at, decoded-below}
+use Rattle.wire.specs.Wire.{wordAt, Below, bytesTo}
+use Rattle.wire.proofs.Laws.{length-decoded, decoded-below}
 use Rattle.recording.specs.declared.Reason.{Reason}
-use Rattle.recording.specs.declared.Reason.the-variants.{Version, Stored}
+use Rattle.recording.specs.declared.Reason.the-variants.{Stored}
 use Rattle.inpaint.specs.Auto.{heldRun}
 use Rattle.settings.specs.declared.SettingsV1.{SettingsV1}
 use Rattle.settings.specs.declared.Settings.{Settings}
 use Rattle.settings.specs.declared.KeptV1.{KeptV1}
 use Rattle.settings.specs.declared.KeptV1.the-variants.{KnownV1, TurnedAwayV1}
-use Rattle.settings.specs.declared.Kept.{Kept}
+use Rattle.settings.specs.declared.Kept as new
 use Rattle.settings.specs.declared.Kept.the-variants.{Known, TurnedAway}
 use Rattle.settings.specs.Settings.{partsV1, parts, wordsV1, words, settingsV1, settings, allowedV1, allowed, versionBytes, blockOf, formed, wordsIn}
 use Rattle.settings.specs.Settings.{ofFirst, ofSecond, readV1, withHeldRun, read}
-use Rattle.settings.specs.Consequences.{HoldsV1, Holds, BlocksAreAsLong, WrittenIsReadV1, WrittenIsRead, ReadIsWrittenV1, ReadIsWritten}
+use Rattle.settings.specs.Consequences.{BlocksAreAsLong, WrittenIsReadV1, WrittenIsRead, ReadIsWrittenV1, ReadIsWritten}
 use Rattle.settings.specs.Consequences.{AcceptedAreAllowed, JustOneBlock, FirstWithHeldRun, FirstAlone}
 use Rattle.settings.proofs.Patterns.{settings-back-v1, settings-back, words-below-v1, words-below, words-are-kept}
-use Rattle.settings.proofs.Block.{length-block, Laid, laid, Formed, has-form}
+use Rattle.settings.proofs.Block.{length-block, Laid, laid, has-form}
+use Rattle.settings.proofs.Keeping.{is-known, Kept, tells}
 
 -- ---- What was accepted
 
@@ -45,51 +46,37 @@ abbrev kept-v1 : SettingsV1 → KeptV1 → SettingsV1
 kept-v1 other (KnownV1 s) = s
 kept-v1 other (TurnedAwayV1 why) = other
 
-abbrev kept : Settings → Kept → Settings
+abbrev kept : Settings → new.Kept → Settings
 kept other (Known s) = s
 kept other (TurnedAway why) = other
 
--- of a block of version 1 the form, and what its words stand for
-record FirstKept (block : List ℕ) (s : SettingsV1) : Type 0 where
-  form : formed partsV1 block ≡ true
-  good : allowedV1 (settingsV1 (wordsIn partsV1 block)) ≡ true
-  those : settingsV1 (wordsIn partsV1 block) ≡ s
+-- of a block of version 1 the form, and what its words stand for; and of one of version 2
+abbrev FirstKept : List ℕ → SettingsV1 → Type 0
+FirstKept = Kept SettingsV1 KeptV1 partsV1 settingsV1 allowedV1 KnownV1 (TurnedAwayV1 Stored)
+
+abbrev SecondKept : List ℕ → Settings → Type 0
+SecondKept = Kept Settings new.Kept parts settings allowed Known (TurnedAway Stored)
 
 first-known : (block : List ℕ) → formed partsV1 block ≡ true → allowedV1 (settingsV1 (wordsIn partsV1 block)) ≡ true
     → ofFirst block ≡ KnownV1 (settingsV1 (wordsIn partsV1 block))
 unfolding ofFirst
-first-known block form good = rw (form, good) refl
+first-known block form good = is-known SettingsV1 KeptV1 partsV1 settingsV1 allowedV1 KnownV1 (TurnedAwayV1 Stored) block form good
 
 first-kept : (block : List ℕ) (s : SettingsV1) → ofFirst block ≡ KnownV1 s → FirstKept block s
 unfolding ofFirst
-first-kept block s h = go (truth (formed partsV1 block)) (truth (allowedV1 (settingsV1 (wordsIn partsV1 block))))
-  where
-    go : EitherWay (formed partsV1 block) → EitherWay (allowedV1 (settingsV1 (wordsIn partsV1 block))) → FirstKept block s
-    go (inl form) (inl good) =
-        record { form = form; good = good; those = ap (kept-v1 s) (sym (first-known block form good) ∙ h) }
-    go (inl form) (inr bad) = no-refusal-v1 (rw (form, bad) at h)
-    go (inr malformed) good = no-refusal-v1 (rw malformed at h)
-
--- and of one of version 2
-record SecondKept (block : List ℕ) (s : Settings) : Type 0 where
-  form : formed parts block ≡ true
-  good : allowed (settings (wordsIn parts block)) ≡ true
-  those : settings (wordsIn parts block) ≡ s
+first-kept block s h =
+    tells SettingsV1 KeptV1 partsV1 settingsV1 allowedV1 KnownV1 (TurnedAwayV1 Stored) block (λ t e. no-refusal-v1 e)
+    (λ t u e. ap (kept-v1 t) e) s h
 
 second-known : (block : List ℕ) → formed parts block ≡ true → allowed (settings (wordsIn parts block)) ≡ true
     → ofSecond block ≡ Known (settings (wordsIn parts block))
 unfolding ofSecond
-second-known block form good = rw (form, good) refl
+second-known block form good = is-known Settings new.Kept parts settings allowed Known (TurnedAway Stored) block form good
 
 second-kept : (block : List ℕ) (s : Settings) → ofSecond block ≡ Known s → SecondKept block s
 unfolding ofSecond
-second-kept block s h = go (truth (formed parts block)) (truth (allowed (settings (wordsIn parts block))))
-  where
-    go : EitherWay (formed parts block) → EitherWay (allowed (settings (wordsIn parts block))) → SecondKept block s
-    go (inl form) (inl good) =
-        record { form = form; good = good; those = ap (kept s) (sym (second-known block form good) ∙ h) }
-    go (inl form) (inr bad) = no-refusal (rw (form, bad) at h)
-    go (inr malformed) good = no-refusal (rw malformed at h)
+second-kept block s h =
+    tells Settings new.Kept parts settings allowed Known (TurnedAway Stored) block (λ t e. no-refusal e) (λ t u e. ap (kept t) e) s h
 
 -- ---- The readers, version by version
 

@@ -2,4 +2,5 @@
 pub mod Patterns
 pub mod Block
 pub mod Storing
+pub mod Keeping
 pub mod Consequences

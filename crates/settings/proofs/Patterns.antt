@@ -2,12 +2,12 @@
 use Prim.Native.Nat.{ℕ, zero, suc, _+_, _<_}
 use native.Mathlib.Omega.{arith}
 use mathlib.Core.Path.{_≡_, refl, sym, ap, subst, _∙_}
-use mathlib.Core.Bool.{Bool, true, false, not, _&&_, true≢false}
+use mathlib.Core.Bool.{true, false, not, true≢false}
 use mathlib.Core.List.{List, [], _∷_, _++_}
 use lib.ListN.{length, getD, drop, drop-of-length-le}
 use lib.Seq.{drop-cons}
 use lib.Dec.{T, leb}
-use lib.Ieee.{Float, nan, inf, fin, binary32, fits, isNan, ofBits, toBits}
+use lib.Ieee.{Float, nan, inf, fin, binary32, fits, isNan, toBits}
 use lib.Ieee.Bits.{ofBits-toBits, toBits-ofBits, toBits-lt}
 use lib.Ieee.Scale.{finite}
 use Rattle.leaves.specs.Arithmetic.{float}
@@ -19,7 +19,7 @@ use Rattle.decrackle.specs.Decrackle as decrackle
 use Rattle.dequant.specs.Dequant as dequant
 use Rattle.settings.specs.declared.SettingsV1.{SettingsV1}
 use Rattle.settings.specs.declared.Settings.{Settings}
-use Rattle.settings.specs.Settings.{partsV1, parts, wordsV1, words, settingsV1, settings, allowedV1, allowed}
+use Rattle.settings.specs.Settings.{wordsV1, words, settingsV1, settings, allowedV1, allowed}
 use Rattle.settings.specs.Consequences.{HoldsV1, Holds, WordsAreKept}
 
 -- ---- From settings to words and back

@@ -1,6 +1,6 @@
 -- `contents::is_laid_out` meets its contract. The loop's invariant: the rows that are left decide. The measure is how many these are.
 -- Assumes nothing.
-use Prim.Native.Nat.{ℕ, zero, suc, _+_, _-_, _*_, _≤_, _<_}
+use Prim.Native.Nat.{ℕ, suc, _+_, _-_, _*_, _≤_, _<_}
 use native.Mathlib.Omega.{arith}
 use native.Mathlib.Nat.{sub-zero}
 use mathlib.Core.Path.{_≡_, refl, sym, ap, _∙_}
@@ -87,7 +87,12 @@ add-row : tie.Need-add-row Inv-loop μ-loop
 add-row c = search needs
 
 loop-holds : tie.Need-loop-holds Inv-loop μ-loop
-loop-holds c = (omega arith, omega arith, omega arith, same-count _ _ _ _ _ (c .before .word-at .ensures) (c .if2 .left) (c .before .before .before .bodies-at .ensures))
+loop-holds c = (
+  omega arith,
+  omega arith,
+  omega arith,
+  same-count _ _ _ _ _ (c .before .word-at .ensures) (c .if2 .left) (c .before .before .before .bodies-at .ensures),
+)
 
 word-at-requires-2 : tie.Need-word-at-requires-2 Inv-loop μ-loop
 word-at-requires-2 c κs = search needs

@@ -1,9 +1,9 @@
 -- `contents::write_table` meets its contract. The loop's invariant: storing the rows that are left gives the whole, and their figures are
 -- of 32 bits. The measure is how many rows are left. Assumes nothing.
-use Prim.Native.Nat.{ℕ, zero, suc, _+_, _-_, _*_, _≤_, _<_}
+use Prim.Native.Nat.{ℕ, suc, _+_, _-_, _*_, _≤_, _<_}
 use native.Mathlib.Omega.{arith}
 use mathlib.Core.Path.{_≡_, refl, sym, ap, subst, _∙_}
-use mathlib.Core.List.{List, [], _∷_, _++_}
+use mathlib.Core.List.{List, [], _∷_}
 use lib.ListN.{length, getD, drop, drop-of-length-le}
 use lib.Seq.{sets, length-sets, drop-cons}
 use borrow.Author.Needs.{needs}
@@ -91,7 +91,15 @@ bodies-at-requires : tie.Need-bodies-at-requires Inv-loop μ-loop
 bodies-at-requires c κs = search needs
 
 loop-holds : tie.Need-loop-holds Inv-loop μ-loop
-loop-holds c = (omega arith, omega arith, refl, rows-below _ _ _ _ _ (c .before .before .before .store-word .ensures) (c .bodies-at .ensures) (c .before .before .before .before .before .before .before .pre .2), refl)
+loop-holds c =
+    let stored = c .before .before .before in
+    let start = stored .before .before .before .before in (
+      omega arith,
+      omega arith,
+      refl,
+      rows-below _ _ _ _ _ (stored .store-word .ensures) (c .bodies-at .ensures) (start .pre .2),
+      refl,
+    )
 
 add-write-row : tie.Need-add-write-row Inv-loop μ-loop
 add-write-row c = search needs
@@ -152,7 +160,9 @@ loop-again c =
     let stored = c .before .before .before .write-row .ensures in (
       omega arith,
       omega arith,
-      as-long (turn .loop .bytes) _ (encoded ((turn .loop .k + 1) ∷ (turn .loop .offset) ∷ (getD lens (turn .loop .k) 0) ∷ [])) (turn .loop .row) stored ∙ turn .loop .inv .2,
+      as-long (turn .loop .bytes) _ (encoded ((turn .loop .k + 1) ∷ (turn .loop .offset) ∷ (getD lens (turn .loop .k) 0) ∷ []))
+          (turn .loop .row) stored
+          ∙ turn .loop .inv .2,
       later-below [] [] [] lens 0 (turn .loop .k + 1) (turn .loop .offset) (turn .loop .k) more (turn .loop .inv .3),
       row-more _ _ _ lens (turn .loop .row) (turn .loop .k + 1) (turn .loop .offset) (turn .loop .k) more stored (turn .loop .inv .4),
     )

@@ -7,8 +7,6 @@ use borrow.Author.Tests.{not-true, not-false}
 use Rattle.leaves.proofs.words.Laws.{nan-test}
 use Rattle.inpaint.specs.Auto as scan
 use Rattle.declip.specs.Declip as declip
-use Rattle.decrackle.specs.Decrackle as decrackle
-use Rattle.dequant.specs.Dequant as dequant
 use Rattle.settings.specs.declared.SettingsV1.{SettingsV1}
 use Rattle.settings.specs.Settings.{allowedV1}
 use Rattle.settings.proofs.allowed.allowed_v1.Statement.{statement}
@@ -87,7 +85,8 @@ returns-4 c =
     let third = c .before in
     let second = third .before .before in
     let first = second .before .before in
-    by-scan _ _ _ (first .before .threshold-allowed .ensures) (not-false _ (first .if1 .left)) (second .if2 .left) (third .if3 .left) (c .settings-allowed .ensures)
+    by-scan _ _ _ (first .before .threshold-allowed .ensures) (not-false _ (first .if1 .left)) (second .if2 .left)
+    (third .if3 .left) (c .settings-allowed .ensures)
 
 pub allowed-v1-spec : {M : Type 1} → statement M
 allowed-v1-spec =

@@ -7,7 +7,6 @@ use mathlib.Core.Bool.{Bool, true, false}
 use mathlib.Core.List.{List, _∷_}
 use lib.ListN.{length, getD, drop, drop-of-length-le}
 use lib.Seq.{drop-cons}
-use lib.Dec.{eqb}
 use borrow.Author.Tests.{eq-eqb, ne-eqb, not-true, not-false}
 use borrow.Author.Needs.{needs}
 use Rattle.contents.specs.Contents.{tableBytes, lengthsIn, laidOut}
@@ -74,7 +73,9 @@ returns : tie.Need-returns Inv-loop μ-loop
 returns c = no-table _ _ _ (c .before .is-laid-out .ensures) (not-true _ (c .if1 .taken))
 
 loop-holds : tie.Need-loop-holds Inv-loop μ-loop
-loop-holds c = (omega arith, sym (c .before .is-laid-out .ensures) ∙ not-false _ (c .if1 .left), a-table _ _ _ (c .before .is-laid-out .ensures) (not-false _ (c .if1 .left)))
+loop-holds c =
+    let on = not-false _ (c .if1 .left) in
+    (omega arith, sym (c .before .is-laid-out .ensures) ∙ on, a-table _ _ _ (c .before .is-laid-out .ensures) on)
 
 length-of-requires : tie.Need-length-of-requires Inv-loop μ-loop
 length-of-requires c κs = (c .loop-test .taken, has-table _ _ (c .before .loop .inv .1))

@@ -1,7 +1,6 @@
 -- `settings::read::read` meets its contract: each way out is a line of the rule. Assumes nothing.
 use Prim.Native.Nat.{ℕ, _≤_, _<_}
-use native.Mathlib.Omega.{arith}
-use mathlib.Core.Path.{_≡_, refl, sym, ap, _∙_}
+use mathlib.Core.Path.{_≡_, refl, ap, _∙_}
 use mathlib.Core.List.{List}
 use lib.ListN.{length}
 use borrow.Author.Needs.{needs}
@@ -50,7 +49,8 @@ with-held-run-requires c κs = search needs
 returns-2 : tie.Need-returns-2
 returns-2 c =
     let first = c .before .before in
-    the-first _ (first .before .before .if1 .left) _ (first .before .word-at .ensures) (first .if2 .taken) _ _ (c .before .of-first .ensures) (c .with-held-run .ensures)
+    the-first _ (first .before .before .if1 .left) _ (first .before .word-at .ensures) (first .if2 .taken) _ _
+    (c .before .of-first .ensures) (c .with-held-run .ensures)
 
 returns-3 : tie.Need-returns-3
 returns-3 c =

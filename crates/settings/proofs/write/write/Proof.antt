@@ -33,7 +33,8 @@ returns-2 : tie.Need-returns-2
 returns-2 c =
     let start = c .before .before .before .before in
     let s = start .args .settings in
-    not-allowed 2 7 (words s) (start .args .room .now) (allowed s) (length-is s) (c .before .before .if1 .left) _ (c .before .allowed .ensures) (not-true _ (c .if2 .taken))
+    not-allowed 2 7 (words s) (start .args .room .now) (allowed s) (length-is s) (c .before .before .if1 .left) _
+    (c .before .allowed .ensures) (not-true _ (c .if2 .taken))
     ∙ opened s (start .args .room .now)
 
 slice-aggregate-store : tie.Need-slice-aggregate-store
@@ -54,8 +55,8 @@ write-block-requires c κs =
     let judged = kept .before .before in
     let start = judged .before .before .before .before in
     let s = start .args .settings in
-    room-for-it 2 7 (words s) (start .args .room .now) (allowed s) (length-is s) (judged .before .before .if1 .left) _ (judged .before .allowed .ensures) _ _ refl
-    (kept .store .ensures) (omega arith) _ refl
+    room-for-it 2 7 (words s) (start .args .room .now) (allowed s) (length-is s) (judged .before .before .if1 .left) _
+    (judged .before .allowed .ensures) _ _ refl (kept .store .ensures) (omega arith) _ refl
 
 same-length : tie.Need-same-length
 same-length c = search needs
@@ -67,8 +68,8 @@ returns-3 c =
     let judged = kept .before .before in
     let start = judged .before .before .before .before in
     let s = start .args .settings in
-    written 2 7 (words s) (start .args .room .now) (allowed s) (length-is s) (judged .before .before .if1 .left) _ (judged .before .allowed .ensures) _ _ refl
-    (kept .store .ensures) (not-false _ (judged .if2 .left)) _ (wrote .write-block .ensures)
+    written 2 7 (words s) (start .args .room .now) (allowed s) (length-is s) (judged .before .before .if1 .left) _
+    (judged .before .allowed .ensures) _ _ refl (kept .store .ensures) (not-false _ (judged .if2 .left)) _ (wrote .write-block .ensures)
     ∙ opened s (start .args .room .now)
 
 pub write-spec : {M : Type 1} → statement M

@@ -4,7 +4,7 @@ use Prim.Native.Nat.{ℕ, suc, _+_, _-_, _*_, _≤_, _<_}
 use native.Mathlib.Omega.{arith}
 use native.Mathlib.Nat.{add-zero, zero-add}
 use mathlib.Core.Path.{_≡_, refl, sym, ap, subst, _∙_}
-use mathlib.Core.List.{List, [], _∷_, _++_, map, flatten, append-assoc}
+use mathlib.Core.List.{List, _∷_, _++_, map, flatten, append-assoc}
 use lib.ListN.{length, getD, drop, drop-of-length-le, replicate, length-append, length-replicate}
 use lib.Seq.{sets, length-sets, drop-cons}
 use borrow.Author.Needs.{needs}

@@ -6,7 +6,6 @@ use lib.ListN.{length}
 use borrow.Author.Needs.{needs}
 use borrow.Author.Tests.{lt-ltb, le-ltb}
 use Rattle.recording.specs.declared.Reason.the-variants.{Workspace}
-use Rattle.recording.specs.declared.Answer.{Answer}
 use Rattle.recording.specs.declared.Answer.the-variants.{Refused}
 use Rattle.settings.specs.declared.SettingsV1.{SettingsV1}
 use Rattle.settings.specs.Settings.{partsV1, settingsV1, Left, left, writeV1, writeFromV1}

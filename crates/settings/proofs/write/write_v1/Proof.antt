@@ -33,7 +33,8 @@ returns-2 : tie.Need-returns-2
 returns-2 c =
     let start = c .before .before .before .before in
     let s = start .args .settings in
-    not-allowed 1 6 (wordsV1 s) (start .args .room .now) (allowedV1 s) (length-is s) (c .before .before .if1 .left) _ (c .before .allowed-v1 .ensures) (not-true _ (c .if2 .taken))
+    not-allowed 1 6 (wordsV1 s) (start .args .room .now) (allowedV1 s) (length-is s) (c .before .before .if1 .left) _
+    (c .before .allowed-v1 .ensures) (not-true _ (c .if2 .taken))
     ∙ opened s (start .args .room .now)
 
 slice-aggregate-store-v1 : tie.Need-slice-aggregate-store-v1
@@ -54,8 +55,8 @@ write-block-requires c κs =
     let judged = kept .before .before in
     let start = judged .before .before .before .before in
     let s = start .args .settings in
-    room-for-it 1 6 (wordsV1 s) (start .args .room .now) (allowedV1 s) (length-is s) (judged .before .before .if1 .left) _ (judged .before .allowed-v1 .ensures) _ _ refl
-    (kept .store-v1 .ensures) (omega arith) _ refl
+    room-for-it 1 6 (wordsV1 s) (start .args .room .now) (allowedV1 s) (length-is s) (judged .before .before .if1 .left) _
+    (judged .before .allowed-v1 .ensures) _ _ refl (kept .store-v1 .ensures) (omega arith) _ refl
 
 same-length : tie.Need-same-length
 same-length c = search needs
@@ -67,8 +68,8 @@ returns-3 c =
     let judged = kept .before .before in
     let start = judged .before .before .before .before in
     let s = start .args .settings in
-    written 1 6 (wordsV1 s) (start .args .room .now) (allowedV1 s) (length-is s) (judged .before .before .if1 .left) _ (judged .before .allowed-v1 .ensures) _ _ refl
-    (kept .store-v1 .ensures) (not-false _ (judged .if2 .left)) _ (wrote .write-block .ensures)
+    written 1 6 (wordsV1 s) (start .args .room .now) (allowedV1 s) (length-is s) (judged .before .before .if1 .left) _
+    (judged .before .allowed-v1 .ensures) _ _ refl (kept .store-v1 .ensures) (not-false _ (judged .if2 .left)) _ (wrote .write-block .ensures)
     ∙ opened s (start .args .room .now)
 
 pub write-v1-spec : {M : Type 1} → statement M
