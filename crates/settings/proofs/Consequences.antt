@@ -148,11 +148,11 @@ accepted block s h =
 
 -- ---- Both ways
 
-length-v1 : (s : SettingsV1) → length (wordsV1 s) ≡ partsV1
+pub length-v1 : (s : SettingsV1) → length (wordsV1 s) ≡ partsV1
 unfolding wordsV1
 length-v1 s = refl
 
-length-words : (s : Settings) → length (words s) ≡ parts
+pub length-words : (s : Settings) → length (words s) ≡ parts
 unfolding words wordsV1
 length-words s = refl
 
@@ -200,9 +200,13 @@ written-is-read s holds good =
     same : settings (wordsIn parts block) ≡ s
     same = ap settings (ap (λ (n : ℕ). wordsIn n block) (sym (length-words s)) ∙ there .words-are) ∙ settings-back s holds
 
--- a block of either version, written again
-first-again : (block : List ℕ) (s : SettingsV1) → Below bytesTo block → wordAt block 0 ≡ 1 → ofFirst block ≡ KnownV1 s
-    → blockOf 1 (wordsV1 s) ≡ block
+-- a block of either version, written again: its words stand for its settings, which are allowed, and its bytes are those of the block
+pub record AgainV1 (block : List ℕ) (s : SettingsV1) : Type 0 where
+  pub back : settingsV1 (wordsV1 s) ≡ s
+  pub good : allowedV1 s ≡ true
+  pub same : blockOf 1 (wordsV1 s) ≡ block
+
+first-again : (block : List ℕ) (s : SettingsV1) → Below bytesTo block → wordAt block 0 ≡ 1 → ofFirst block ≡ KnownV1 s → AgainV1 block s
 first-again block s below v h =
     let f = first-kept block s h in
     let from = versionBytes + 4 + 12 * partsV1 in
@@ -210,10 +214,18 @@ first-again block s below v h =
     let words-are : wordsV1 s ≡ ws =
     ap wordsV1 (sym (f .those))
     ∙ words-are-kept .0 ws (length-decoded block from partsV1) (decoded-below block from partsV1 below) (f .good) in
-    ap (blockOf 1) words-are ∙ ap (λ (k : ℕ). blockOf k ws) (sym v) ∙ has-form partsV1 block (f .form) .again below
+    record {
+      back = ap settingsV1 words-are ∙ f .those;
+      good = ap allowedV1 (sym (f .those)) ∙ f .good;
+      same = ap (blockOf 1) words-are ∙ ap (λ (k : ℕ). blockOf k ws) (sym v) ∙ has-form partsV1 block (f .form) .again below;
+    }
 
-second-again : (block : List ℕ) (s : Settings) → Below bytesTo block → wordAt block 0 ≡ 2 → ofSecond block ≡ Known s
-    → blockOf 2 (words s) ≡ block
+pub record Again (block : List ℕ) (s : Settings) : Type 0 where
+  pub back : settings (words s) ≡ s
+  pub good : allowed s ≡ true
+  pub same : blockOf 2 (words s) ≡ block
+
+second-again : (block : List ℕ) (s : Settings) → Below bytesTo block → wordAt block 0 ≡ 2 → ofSecond block ≡ Known s → Again block s
 second-again block s below v h =
     let f = second-kept block s h in
     let from = versionBytes + 4 + 12 * parts in
@@ -221,20 +233,34 @@ second-again block s below v h =
     let words-are : words s ≡ ws =
     ap words (sym (f .those))
     ∙ words-are-kept .1 ws (length-decoded block from parts) (decoded-below block from parts below) (f .good) in
-    ap (blockOf 2) words-are ∙ ap (λ (k : ℕ). blockOf k ws) (sym v) ∙ has-form parts block (f .form) .again below
+    record {
+      back = ap settings words-are ∙ f .those;
+      good = ap allowed (sym (f .those)) ∙ f .good;
+      same = ap (blockOf 2) words-are ∙ ap (λ (k : ℕ). blockOf k ws) (sym v) ∙ has-form parts block (f .form) .again below;
+    }
 
-pub read-is-written-v1 : ReadIsWrittenV1
-read-is-written-v1 block s below h =
+pub again-v1 : (block : List ℕ) (s : SettingsV1) → Below bytesTo block → readV1 block ≡ KnownV1 s → AgainV1 block s
+again-v1 block s below h =
     let a = accepted-v1 block s h in
     first-again block s below (a .0) (a .1)
+
+pub again : (block : List ℕ) (s : Settings) → Below bytesTo block → wordAt block 0 ≡ 2 → read block ≡ Known s → Again block s
+again block s below v h = go (accepted block s h)
+  where
+    go : OfFirst block s ⊎ OfSecond block s → Again block s
+    go (inl o) = absurd (omega (arith, o .version, v))
+    go (inr o) = second-again block s below v (o .from)
+
+pub read-is-written-v1 : ReadIsWrittenV1
+read-is-written-v1 block s below h = again-v1 block s below h .same
 
 pub read-is-written : ReadIsWritten
 read-is-written block s below h = go (accepted block s h)
   where
     go : OfFirst block s ⊎ OfSecond block s
         → (wordAt block 0 ≡ 1 → blockOf 1 (wordsV1 (s .first)) ≡ block) × (wordAt block 0 ≡ 2 → blockOf 2 (words s) ≡ block)
-    go (inl o) = (λ v. first-again block (s .first) below v (o .from .first), λ v. absurd (omega (arith, o .version, v)))
-    go (inr o) = (λ v. absurd (omega (arith, o .version, v)), λ v. second-again block s below v (o .from))
+    go (inl o) = (λ v. first-again block (s .first) below v (o .from .first) .same, λ v. absurd (omega (arith, o .version, v)))
+    go (inr o) = (λ v. absurd (omega (arith, o .version, v)), λ v. second-again block s below v (o .from) .same)
 
 pub accepted-are-allowed : AcceptedAreAllowed
 accepted-are-allowed block s h = go (accepted block s h)

@@ -4,3 +4,4 @@ pub mod Block
 pub mod Storing
 pub mod Keeping
 pub mod Consequences
+pub mod BothWays

@@ -1,21 +1,23 @@
 -- What follows from the rules of the readers and the writers: reading what was written gives the settings back, writing what was read gives the
 -- same bytes, and what the two readers make of a block of either version. Statements only, each proved under the same name, written small,
--- in proofs/Consequences.antt, which nobody has to read.
+-- in Consequences.antt, Patterns.antt or BothWays.antt of proofs/, which nobody has to read.
 use Prim.Native.Nat.{ℕ, _≤_, _<_}
 use mathlib.Core.Path.{_≡_}
 use mathlib.Core.Bool.{true}
 use mathlib.Core.List.{List}
 use mathlib.Core.Logic.{_⊎_}
-use lib.ListN.{length}
+use lib.ListN.{length, take}
+use lib.Seq.{sets}
 use lib.Ieee.{binary32, fits}
 use Rattle.wire.specs.Wire.{wordAt, Below, bytesTo, wordsTo}
 use Rattle.recording.specs.declared.Reason.the-variants.{Version}
+use Rattle.recording.specs.declared.Answer.the-variants.{Done}
 use Rattle.settings.specs.declared.SettingsV1.{SettingsV1}
 use Rattle.settings.specs.declared.Settings.{Settings}
 use Rattle.settings.specs.declared.KeptV1.the-variants.{KnownV1, TurnedAwayV1}
 use Rattle.settings.specs.declared.Kept.the-variants.{Known}
-use Rattle.settings.specs.Settings.{partsV1, parts, wordsV1, words, settingsV1, settings, allowedV1, allowed, versionBytes, blockOf}
-use Rattle.settings.specs.Settings.{readV1, withHeldRun, read}
+use Rattle.settings.specs.Settings.{partsV1, parts, wordsV1, words, settingsV1, settings, allowedV1, allowed, versionBytes, blockOf, blockBytes}
+use Rattle.settings.specs.Settings.{readV1, withHeldRun, read, left, readToV1, readTo, writeFromV1, writeFrom}
 
 -- ---- What a variable of the program can hold: floats of 32 bits and words
 
@@ -83,3 +85,25 @@ FirstWithHeldRun = (block : List ℕ) → wordAt block 0 ≡ 1 → read block �
 abbrev pub FirstAlone : Type 0
 FirstAlone =
     (block : List ℕ) → versionBytes ≤ length block → (wordAt block 0 ≡ 1 → ⊥) → readV1 block ≡ TurnedAwayV1 Version
+
+-- ---- Of the calls that take and give words
+
+-- what a writer left in its room, read into any area that has a place for each setting, gives the words that were written
+abbrev pub CallsReadBack : Type 0
+CallsReadBack =
+    ((ws room area : List ℕ) (m : ℕ) → length ws ≡ partsV1 → Below wordsTo ws → partsV1 ≤ length area
+    → writeFromV1 ws room .answer ≡ Done m
+    → readToV1 (take m (writeFromV1 ws room .lent)) area ≡ left (Done partsV1) (sets area 0 ws))
+    × ((ws room area : List ℕ) (m : ℕ) → length ws ≡ parts → Below wordsTo ws → parts ≤ length area
+    → writeFrom ws room .answer ≡ Done m
+    → readTo (take m (writeFrom ws room .lent)) area ≡ left (Done parts) (sets area 0 ws))
+
+-- what a reader left in its area of a block of its version, written into any room that is large enough, gives the block
+abbrev pub CallsWriteBack : Type 0
+CallsWriteBack =
+    ((block area room : List ℕ) (m : ℕ) → Below bytesTo block → length area ≡ partsV1 → blockBytes partsV1 ≤ length room
+    → readToV1 block area .answer ≡ Done m
+    → writeFromV1 (readToV1 block area .lent) room ≡ left (Done (blockBytes partsV1)) (sets room 0 block))
+    × ((block area room : List ℕ) (m : ℕ) → Below bytesTo block → length area ≡ parts → blockBytes parts ≤ length room
+    → wordAt block 0 ≡ 2 → readTo block area .answer ≡ Done m
+    → writeFrom (readTo block area .lent) room ≡ left (Done (blockBytes parts)) (sets room 0 block))

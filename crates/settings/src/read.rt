@@ -53,7 +53,7 @@ fn of_first(block: &[u8]) -> KeptV1
     if !is_formed(block, SETTINGS_V1) {
         return KeptV1::TurnedAwayV1(Reason::Stored);
     }
-    let mut words = [0u32; 6];
+    let mut words = [0u32; SETTINGS_V1];
     decode(
         block,
         bodies_at(VERSION_BYTES, SETTINGS_V1),
@@ -75,7 +75,7 @@ fn of_second(block: &[u8]) -> Kept
     if !is_formed(block, SETTINGS) {
         return Kept::TurnedAway(Reason::Stored);
     }
-    let mut words = [0u32; 7];
+    let mut words = [0u32; SETTINGS];
     decode(
         block,
         bodies_at(VERSION_BYTES, SETTINGS),

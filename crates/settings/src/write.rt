@@ -53,9 +53,9 @@ pub fn write_v1(settings: SettingsV1, room: &mut [u8]) -> Answer
     if !allowed_v1(settings) {
         return Answer::Refused(Reason::Stored);
     }
-    let mut words = [0u32; 6];
+    let mut words = [0u32; SETTINGS_V1];
     store_v1(&mut words, settings);
-    write_block(room, FIRST_VERSION, &words, &[4u32; 6]);
+    write_block(room, FIRST_VERSION, &words, &[4u32; SETTINGS_V1]);
     Answer::Done(SETTINGS_V1_BYTES)
 }
 
@@ -69,9 +69,9 @@ pub fn write(settings: Settings, room: &mut [u8]) -> Answer
     if !allowed(settings) {
         return Answer::Refused(Reason::Stored);
     }
-    let mut words = [0u32; 7];
+    let mut words = [0u32; SETTINGS];
     store(&mut words, settings);
-    write_block(room, SECOND_VERSION, &words, &[4u32; 7]);
+    write_block(room, SECOND_VERSION, &words, &[4u32; SETTINGS]);
     Answer::Done(SETTINGS_BYTES)
 }
 
