@@ -50,7 +50,7 @@ inTurn bytes i k at zero = eqb at (length bytes)
 inTurn bytes i k at (suc n) =
     eqb (wordAt bytes i) k && eqb (wordAt bytes (i + 4)) at && inTurn bytes (i + 12) (k + 1) (at + wordAt bytes (i + 8)) n
 
--- the bytes have this form, with n parts: what ends before its table does so is of none, since the last body ends where the bytes do
+-- the bytes have this form, with n parts. That they do not end within the table goes without saying: the last body ends where they do.
 unfoldable pub laidOut : ℕ → ℕ → List ℕ → Bool
 unfolding wordAt inTurn
 laidOut before n bytes = eqb (wordAt bytes before) n && inTurn bytes (before + 4) 1 (before + tableBytes n) n

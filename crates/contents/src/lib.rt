@@ -10,7 +10,7 @@ ghost use Rattle.contents.specs.Contents.{tableBytes, table, lengthsIn, 
 use wire::store_word;
 use wire::word_at;
 
-// The bytes of the number of parts, and of a part's row: its number, its offset and its length.
+// The bytes of the number of parts, and of a part's row: its number, its offset and its length, of four bytes each.
 const COUNT_BYTES: usize = 4;
 
 const ROW_BYTES: usize = 12;
@@ -24,7 +24,8 @@ pub fn bodies_at(before: usize, parts: usize) -> usize
 }
 
 // Whether the bytes are what stands before the table, a table of so many parts, their bodies, and nothing more:
-// each row has the number that is its turn, and its body begins where the one before it ended.
+// each row has the number that is its turn, and its body begins where the one before it ended. An offset has 32
+// bits, so that what equals one and a length more do not overflow.
 pub fn is_laid_out(bytes: &[u8], before: usize, parts: usize) -> bool
     requires { ⌜ before + tableBytes parts < wordsTo ⌝ }
     ensures { λ r. ⌜ r ≡ laidOut before parts (now (bytes .entry)) ⌝ }

@@ -127,7 +127,8 @@ ofSecond block =
     if not (allowed (settings (wordsIn parts block))) then TurnedAway Stored else
     Known (settings (wordsIn parts block))
 
--- "A version 1 reader turns a version 2 block away as such and shows none of it."
+-- "A version 1 reader turns a version 2 block away as such and shows none of it." Where there is no version, there is none that could be
+-- unknown.
 unfoldable pub readV1 : List ℕ → KeptV1
 unfolding wordAt ofFirst
 readV1 block =
@@ -140,6 +141,7 @@ abbrev pub withHeldRun : KeptV1 → Kept
 withHeldRun (KnownV1 s) = Known (record { first = s; held = scan.heldRun })
 withHeldRun (TurnedAwayV1 why) = TurnedAway why
 
+-- it knows both versions
 unfoldable pub read : List ℕ → Kept
 unfolding wordAt ofFirst ofSecond
 read block =

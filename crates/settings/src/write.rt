@@ -25,8 +25,8 @@ use recording::Answer;
 use recording::Reason;
 use wire::store_word;
 
-// Writes a block of a version with these words, each of which is a body of 4 bytes, in the first bytes; the others
-// stay.
+// Writes a block of a version with these words in the first bytes; the others stay. Each word is a body of four
+// bytes: `lens` says so of each of them.
 fn write_block(room: &mut [u8], version: u32, words: &[u32], lens: &[u32])
     requires { ⌜ (length (now words) ≤ parts) × (blockBytes (length (now words)) ≤ length (now room))
         × (now lens ≡ replicate (length (now words)) 4) ⌝ }
