@@ -3,6 +3,7 @@
 // marks and the counts of the blocks in decimal ones; and of a gap the order of its model. And *quiet* once
 // more by a list of gaps, a steady tone that decrackle redraws from the old start and leaves alone from the mean,
 // and proposals for three samples.
+#![tactic(auto)]
 ghost use Rattle.std.specs.Prelude.{◌≤◌, length};
 
 use decrackle::Start;

@@ -1,6 +1,7 @@
 // The static library: what a C or Rust program calls, each function a thin step over the proved one
 // of a crate below. None asks anything of its argument. Names begin with the crate's, since a name
 // is the whole program's, as in C.
+#![tactic(auto)]
 ghost use Rattle.std.specs.Prelude.{◌≡◌, [], ◌∷◌, length};
 ghost use Rattle.leaves.specs.Floats.{narrowed, rounded};
 ghost use Rattle.leaves.specs.Root.{Rooted};

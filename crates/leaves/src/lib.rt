@@ -1,6 +1,7 @@
 // The float leaves: what one operation on one number gives, worked out so that every repair above
 // rests on a result that is proved bit for bit. Each published function has an answer for every
 // argument, a NaN and the infinities among them.
+#![tactic(auto)]
 pub mod counts;
 pub mod narrow;
 pub mod order;

@@ -1,5 +1,6 @@
 // What the monitor's programs share: standard input read to its end, the scan of a recording that was opened,
 // with what it needs, and the lines that tell of it.
+#![tactic(auto)]
 ghost use Rattle.std.specs.Prelude.{◌≡◌, length};
 ghost use Rattle.inpaint.specs.Auto.{scan};
 ghost use Rattle.monitor.specs.Reading.{Within};

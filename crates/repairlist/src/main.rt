@@ -13,6 +13,7 @@
 // the three are the number of the first refusal, or 0, how many runs it repaired and how many qualified. A mark
 // is one digit. The m samples are the new ones at the places whose mark is not 0, in their order; all others are
 // to be what they were.
+#![tactic(auto)]
 ghost use Rattle.std.specs.Prelude.{◌+◌, ◌*◌, ◌^◌, ◌≤◌, ◌<◌, ◌≡◌, length};
 ghost use Rattle.repairlist.specs.Layout.{word_bytes, head_bytes, row_bytes};
 

@@ -9,6 +9,7 @@
 //   x  an f32 widened                             of which the lower half has the upper 16 bits
 //   m  the magnitude of an f32
 //   d  the magnitude of an f64
+#![tactic(auto)]
 ghost use Rattle.std.specs.Prelude.{◌+◌, ◌≤◌, length};
 
 use leaves::narrow::narrow;

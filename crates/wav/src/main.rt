@@ -3,6 +3,7 @@
 // many runs qualified and were repaired and the number of the first refusal, one line for each stretch of made
 // samples, with its first place, how many they are, their mark and, where a model made them, the model's order,
 // and `end`. Whatever is turned away is named in one line on standard error, and OUT is then not written.
+#![tactic(auto)]
 use wavfile::{repair_file, say_error, say_usage};
 
 // Two names that are whole are answered.

@@ -1,5 +1,6 @@
 // Holds the file that `wav` writes to the one that it is to write: repairs `pump.wav` as `wav` does, which writes
 // the report, and compares the file that comes of it with `expected.wav`, byte for byte.
+#![tactic(auto)]
 ghost use Rattle.std.specs.Prelude.{◌≡◌};
 ghost use Rattle.wavcheck.specs.Same.{same_bytes};
 

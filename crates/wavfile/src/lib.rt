@@ -1,6 +1,7 @@
 // The dropouts of a WAV file, repaired into another: a whole file in memory, the scan of its samples at its own
 // rate, the file that is written back, and the report of it. Whatever is turned away is named in one line on
 // standard error, and then nothing is written to the other file.
+#![tactic(auto)]
 mod bytes;
 mod files;
 mod report;

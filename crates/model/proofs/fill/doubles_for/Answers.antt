@@ -1,0 +1,16 @@
+-- `model::fill::doubles_for` meets its contract: none of its parts is large. Assumes nothing.
+use native.Mathlib.Omega.{arith}
+use Rattle.model.proofs.Parts.{band_most}
+use Rattle.model.proofs.fill.doubles_for.Goals as goal
+
+pub overflow_mul-result : goal.overflow_mul-result
+overflow_mul-result c = omega (arith, band_most c.args.len c.args.p (omega arith) (omega arith))
+
+pub overflow_add-result-2 : goal.overflow_add-result-2
+overflow_add-result-2 c = omega (arith, band_most c.args.len c.args.p (omega arith) (omega arith))
+
+pub overflow_add-result-3 : goal.overflow_add-result-3
+overflow_add-result-3 c = omega (arith, band_most c.args.len c.args.p (omega arith) (omega arith))
+
+pub overflow_add-result-5 : goal.overflow_add-result-5
+overflow_add-result-5 c = omega (arith, band_most c.args.len c.args.p (omega arith) (omega arith))

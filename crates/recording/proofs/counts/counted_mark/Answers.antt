@@ -1,0 +1,13 @@
+-- `recording::counts::counted_mark` meets its contract: the mark is measured, or it is not. Assumes nothing.
+use mathlib.Core.Path.{refl}
+use borrow.Author.Tests.{eq-eqb, ne_eqb}
+use Rattle.recording.specs.Counts.{counted_mark}
+use Rattle.recording.proofs.counts.counted_mark.Goals as goal
+
+pub returns-then-mark-eq-MEASURED : goal.returns-then-mark-eq-MEASURED
+unfolding counted_mark
+returns-then-mark-eq-MEASURED c = rw (eq-eqb _ _ c.if-mark-eq-MEASURED.true) refl
+
+pub returns-else-mark-eq-MEASURED : goal.returns-else-mark-eq-MEASURED
+unfolding counted_mark
+returns-else-mark-eq-MEASURED c = rw (ne_eqb _ _ c.if-mark-eq-MEASURED.false) refl
