@@ -17,6 +17,8 @@ import tempfile
 
 OPS = {"overflow": ["add", "sub", "mul", "shl", "shr", "cast", "step"], "nonzero": ["div", "rem"]}
 SWAP = {"bounds": "index", "offset-bounds": "offset", "slice-bounds": "part", "invariant-of": "ghost", "shape-of": "keeps"}
+WORDS = dict(taken="true", left="false", inv="invariant", last="new", entry="initial", kept="auto", pre="requires")
+FIRST = {"pre": "requires", "good": "well_formed", "well-formed": "well_formed", "fits": "ranges"}
 NAME = r"[A-Za-z_][\w'₀₁₂₃₄₅₆₇₈₉\-]*"
 DECL = re.compile(rf"^((?:abbrev |unfoldable |pub )*)({NAME})((?: \{{[^}}]*\}})*) : ?(.*)$")
 TOKEN = re.compile(rf"{NAME}(?:\.[\w'₀\-]+)*")
@@ -152,6 +154,9 @@ class Turn:
             self.say(f"no place {w}")
         return p
 
+    def fields_again(self, first, rest):
+        return self.fields([first] + rest[1:])
+
     def fields(self, rest):
         fn = self.fn
         first = norm(rest[0])
@@ -169,10 +174,11 @@ class Turn:
                 k += 1
             if rest[2 + k: 3 + k] == ["0"] and k < len(names):
                 rest = rest[:2] + [names[k]] + rest[3 + k:]
-        if rest[1:2] == ["pre"]:
-            rest[1] = "requires"
-        if rest[0] == "well-formed":
-            rest[0] = "well_formed"
+        if first in fn.steps and rest[1:2] and rest[1] in WORDS:
+            rest[1] = WORDS[rest[1]]
+            return self.fields_again(first, rest)
+        if rest[0] in FIRST:
+            rest[0] = FIRST[rest[0]]
         if rest[0].startswith("if-not-") and rest[1:] in (["true"], ["false"]):
             self.nots = True
             rest[1] += "@NOT"
@@ -294,7 +300,7 @@ def convert(folder, key, names, said):
                             pass
                         arg = r"((?:\([^()]*\)|[\w'-]+)(?:\.before)*)"
                         s = re.sub(rf"(?<![\w.'-])\(?{re.escape(h)} {arg}\)?(?=[\s.,)]|$)", lambda mm: "(" + TOKEN.sub(lambda w: mm[1] + w[0][len(var):] if w[0].split(".")[0] == var else w[0], " ".join(b.split())) + ")", s) if False else re.sub(rf"\({re.escape(h)} {arg}\)", lambda mm: "(" + TOKEN.sub(lambda w: mm[1] + w[0][len(var):] if w[0].split(".")[0] == var else w[0], " ".join(b.split())) + ")", s)
-                        s = re.sub(rf"(?<![\w.'(-]){re.escape(h)} {arg}(?![\w'])", lambda mm: "(" + TOKEN.sub(lambda w: mm[1] + w[0][len(var):] if w[0].split(".")[0] == var else w[0], " ".join(b.split())) + ")", s)
+                        s = re.sub(rf"(?<![\w.'-]){re.escape(h)} {arg}(?![\w'])", lambda mm: "(" + TOKEN.sub(lambda w: mm[1] + w[0][len(var):] if w[0].split(".")[0] == var else w[0], " ".join(b.split())) + ")", s)
                 it[part] = s.split("\n")
     for it in decls:
         if it.get("drop"):

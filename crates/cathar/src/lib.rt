@@ -14,7 +14,7 @@ ghost use Rattle.decrackle.specs.declared.Start.TheVariants.{Mean, Old};
 ghost use Rattle.frames.specs.Frames.{frames_read};
 ghost use Rattle.inpaint.specs.Order.{gap_order, scan_orders};
 ghost use Rattle.splice.specs.Several.{answers_lent, answers_left};
-ghost use Rattle.recording.specs.Lent.{left, lent, left_reading};
+ghost use Rattle.recording.specs.Lent.{left, lent, left_reading, lent_reading};
 ghost use Rattle.recording.specs.Question.{span_verdict};
 ghost use Rattle.riff.specs.Wav.{wav_read, wav_written};
 ghost use Rattle.settings.specs.Settings.{read_to, read_to_v1, write_from, write_from_v1};
@@ -33,7 +33,7 @@ pub extern "C" fn cathar_open(
     journal: &mut [u32],
     used: &mut usize,
 ) -> u32
-    ensures { outcome result [] (left_reading samples marks counts journal used) none ≡ opening as_measured (lent samples marks counts journal used) }
+    ensures { outcome result [] (left_reading samples marks counts journal used) none ≡ opening as_measured (lent_reading samples marks counts journal used) }
 {
     let answer = recording::open::open(samples, marks, counts, journal, used);
     number_of(answer)
@@ -50,7 +50,7 @@ pub extern "C" fn cathar_open_received(
     journal: &mut [u32],
     used: &mut usize,
 ) -> u32
-    ensures { outcome result [] (left_reading samples marks counts journal used) none ≡ opening as_received (lent samples marks counts journal used) }
+    ensures { outcome result [] (left_reading samples marks counts journal used) none ≡ opening as_received (lent_reading samples marks counts journal used) }
 {
     let answer = recording::open::open_received(samples, marks, counts, journal, used);
     number_of(answer)

@@ -129,8 +129,8 @@ reached_undone zero h (none sound empty) = unfold run in refl
 reached_undone zero h (more before p e) = absurd (omega arith)
 reached_undone {raw} (suc k) h (none sound empty) =
     rw (run_call, did_undo_none raw empty) (reached_undone k (omega arith) (none sound empty))
-reached_undone (suc k) h (more before p e) =
-    rw (run_call, did_undo_more before e) (reached_undone k (omega arith) before)
+reached_undone {raw = raw} (suc k) h (more {r = r} {kept = kept} {s = s} {mark = mark} {cs = cs} before p e) =
+    rw (run_call, did_undo_more before e) (reached_undone {kept = kept} k (omega arith) before)
 
 -- a sample whose mark is none that a repair sets has its raw word and its raw mark
 reached_unmade : (i : ℕ) {raw : State} {kept : List Repair} {s : State} → Reached raw kept s

@@ -59,7 +59,7 @@ did_keeps undo s =
 
 -- a reason's number is not 0
 pub above_zero : (why : Reason) → 0 < reason_number why
-above_zero why = elim why [
+above_zero why = elim why as (λ v. 0 < reason_number v) [
   | Counts ↦ omega arith
   | TooMany ↦ omega arith
   | Used ↦ omega arith

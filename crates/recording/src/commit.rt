@@ -3,7 +3,7 @@
 ghost use Rattle.std.specs.Prelude.{ℕ, ◌+◌, ◌*◌, ◌≤◌, ◌<◌, ◌≡◌, List, [], ◌∷◌, length};
 ghost use Rattle.std.proofs.lemmas.List.Edits.{sets};
 ghost use Rattle.recording.specs.Recording.{ended, most_samples, places, put, each, saved, three_words, entered, ranged, change, span, carried};
-ghost use Rattle.recording.specs.Lent.{left, left_reading, lent, given};
+ghost use Rattle.recording.specs.Lent.{left, left_reading, lent, lent_reading, given, given_reading};
 ghost use Rattle.recording.specs.Inner.{Fits, consecutive, filled, picked_by};
 
 use super::clear::set_marks;
@@ -67,10 +67,10 @@ pub fn enter_span(
     len: usize,
     mark: u8,
 ) -> Answer
-    requires { Fits (given samples marks counts journal used) × (start + len ≤ length samples.now) }
+    requires { Fits (given_reading samples marks counts journal used) × (start + len ≤ length samples.now) }
     ensures { (words : List ℕ) → length words ≡ len
         → ended result (filled result start words (left_reading samples marks counts journal used))
-        ≡ entered (lent samples marks counts journal used) mark (span start words) }
+        ≡ entered (lent_reading samples marks counts journal used) mark (span start words) }
 {
     if len == 0 {
         return Answer::Done(0);

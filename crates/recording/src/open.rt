@@ -2,7 +2,7 @@
 ghost use Rattle.std.specs.Prelude.{◌≡◌, [], map, length, replicate};
 ghost use Rattle.recording.specs.Counts.{blocks, counted};
 ghost use Rattle.recording.specs.Recording.{state, ended, alike, fitting, opened, kept_mark, opened_received};
-ghost use Rattle.recording.specs.Lent.{lent, left_reading, seen};
+ghost use Rattle.recording.specs.Lent.{lent_reading, left_reading, seen};
 
 use super::clear::{clear_words, set_marks};
 use super::counts::{block_count, count_all};
@@ -77,7 +77,7 @@ pub fn open(
     journal: &mut [u32],
     used: &mut usize,
 ) -> Answer
-    ensures { ended result (left_reading samples marks counts journal used) ≡ opened (lent samples marks counts journal used) }
+    ensures { ended result (left_reading samples marks counts journal used) ≡ opened (lent_reading samples marks counts journal used) }
 {
     let counted = check_counts(samples, marks, counts);
     let Answer::Done(_) = counted else {
@@ -120,7 +120,7 @@ pub fn open_received(
     journal: &mut [u32],
     used: &mut usize,
 ) -> Answer
-    ensures { ended result (left_reading samples marks counts journal used) ≡ opened_received (lent samples marks counts journal used) }
+    ensures { ended result (left_reading samples marks counts journal used) ≡ opened_received (lent_reading samples marks counts journal used) }
 {
     let counted = check_counts(samples, marks, counts);
     let Answer::Done(_) = counted else {

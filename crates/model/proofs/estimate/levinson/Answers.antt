@@ -86,37 +86,37 @@ overflow_sub-result c = omega arith
 
 pub returns-then-magnitude64 : goal.returns-then-magnitude64
 returns-then-magnitude64 c =
-    let made_up : c.order_shortfall-acc.result ≡ shortfall (area c.loop-i.work (lags c + 2 * (c.args.p + 1)) (c.args.p + 1)) (area c.start_unit.last.0 (c.args.r) (c.args.p + 1)) c.loop-i.i = let coefs-lent : (lags c + 2 * (c.args.p + 1)) + (c.args.p + 1) - (lags c + 2 * (c.args.p + 1)) ≡ (c.args.p + 1) = omega arith in
+    let made_up : c.order_shortfall-acc.result ≡ shortfall (area c.loop-i.work ((c.args.r) + 2 * (c.args.p + 1)) (c.args.p + 1)) (area c.start_unit.new.work (c.args.r) (c.args.p + 1)) c.loop-i.i = let coefs-lent : ((c.args.r) + 2 * (c.args.p + 1)) + (c.args.p + 1) - ((c.args.r) + 2 * (c.args.p + 1)) ≡ (c.args.p + 1) = omega arith in
     let lags-lent : (c.args.r) + (c.args.p + 1) - (c.args.r) ≡ (c.args.p + 1) = omega arith in
-    shortfall_here c.start_unit.last.0 c.loop-i.work (c.args.r) (lags c + (c.args.p + 1)) (lags c + 2 * (c.args.p + 1))
-    c.args.p (lags c + 3 * (c.args.p + 1)) _ _ _ _ coefs-lent lags-lent (omega arith) c.loop-i.inv.3
+    shortfall_here c.start_unit.new.work c.loop-i.work (c.args.r) ((c.args.r) + (c.args.p + 1)) ((c.args.r) + 2 * (c.args.p + 1))
+    c.args.p ((c.args.r) + 3 * (c.args.p + 1)) _ _ _ _ coefs-lent lags-lent (omega arith) c.loop-i.invariant.3
     c.order_shortfall-acc.ensures in
     let stopped =
-    orders_small _ _ _ _ _ _ c.loop-i.inv.4 _ _ _ _ c.loop-i-test.true c.magnitude64.ensures
+    orders_small _ _ _ _ _ _ c.loop-i.invariant.4 _ _ _ _ c.loop-i-test.true c.magnitude64.ensures
     made_up refl refl c.if-magnitude64.true in
-    levinson_ends c.args.work.now _ _ (c.args.r) c.args.p _ c.pre.0
-    c.start_unit.ensures c.loop-i.inv.3 stopped
+    levinson_ends c.args.work.now _ _ (c.args.r) c.args.p _ c.requires.0
+    c.start_unit.ensures c.loop-i.invariant.3 stopped
 
 pub overflow_add-p-in-loop-i-2 : goal.overflow_add-p-in-loop-i-2
 overflow_add-p-in-loop-i-2 c = omega arith
 
 pub returns-then-e : goal.returns-then-e
 returns-then-e c =
-    let raised_here : let k = neg c.order_shortfall-acc.result /₆₄ c.loop-i.e in (area c.copy_area.new.work (lags c + 2 * (c.args.p + 1)) (c.args.p + 1) ≡ raised (area c.loop-i.work (lags c + 2 * (c.args.p + 1)) (c.args.p + 1)) c.loop-i.i k) × Only (lags c + (c.args.p + 1)) (lags c + 3 * (c.args.p + 1)) c.loop-i.work c.copy_area.new.work = let roomy : (lags c + 2 * (c.args.p + 1)) + (c.args.p + 1) ≤ length c.loop-i.work = omega arith in
-    order_stands c.loop-i.work c.raise_order.new.work c.copy_area.new.work (lags c + (c.args.p + 1)) (lags c + 2 * (c.args.p + 1))
-    c.args.p _ (lags c + 3 * (c.args.p + 1)) _ (omega arith) roomy (omega arith)
+    let raised_here : let k = neg c.order_shortfall-acc.result /₆₄ c.loop-i.e in (area c.copy_area.new.work ((c.args.r) + 2 * (c.args.p + 1)) (c.args.p + 1) ≡ raised (area c.loop-i.work ((c.args.r) + 2 * (c.args.p + 1)) (c.args.p + 1)) c.loop-i.i k) × Only ((c.args.r) + (c.args.p + 1)) ((c.args.r) + 3 * (c.args.p + 1)) c.loop-i.work c.copy_area.new.work = let roomy : ((c.args.r) + 2 * (c.args.p + 1)) + (c.args.p + 1) ≤ length c.loop-i.work = omega arith in
+    order_stands c.loop-i.work c.raise_order.new.work c.copy_area.new.work ((c.args.r) + (c.args.p + 1)) ((c.args.r) + 2 * (c.args.p + 1))
+    c.args.p _ ((c.args.r) + 3 * (c.args.p + 1)) _ (omega arith) roomy (omega arith)
     c.raise_order.ensures c.copy_area.ensures in
-    let made_up : c.order_shortfall-acc.result ≡ shortfall (area c.loop-i.work (lags c + 2 * (c.args.p + 1)) (c.args.p + 1)) (area c.start_unit.last.0 (c.args.r) (c.args.p + 1)) c.loop-i.i = let coefs-lent : (lags c + 2 * (c.args.p + 1)) + (c.args.p + 1) - (lags c + 2 * (c.args.p + 1)) ≡ (c.args.p + 1) = omega arith in
+    let made_up : c.order_shortfall-acc.result ≡ shortfall (area c.loop-i.work ((c.args.r) + 2 * (c.args.p + 1)) (c.args.p + 1)) (area c.start_unit.new.work (c.args.r) (c.args.p + 1)) c.loop-i.i = let coefs-lent : ((c.args.r) + 2 * (c.args.p + 1)) + (c.args.p + 1) - ((c.args.r) + 2 * (c.args.p + 1)) ≡ (c.args.p + 1) = omega arith in
     let lags-lent : (c.args.r) + (c.args.p + 1) - (c.args.r) ≡ (c.args.p + 1) = omega arith in
-    shortfall_here c.start_unit.last.0 c.loop-i.work (c.args.r) (lags c + (c.args.p + 1)) (lags c + 2 * (c.args.p + 1))
-    c.args.p (lags c + 3 * (c.args.p + 1)) _ _ _ _ coefs-lent lags-lent (omega arith) c.loop-i.inv.3
+    shortfall_here c.start_unit.new.work c.loop-i.work (c.args.r) ((c.args.r) + (c.args.p + 1)) ((c.args.r) + 2 * (c.args.p + 1))
+    c.args.p ((c.args.r) + 3 * (c.args.p + 1)) _ _ _ _ coefs-lent lags-lent (omega arith) c.loop-i.invariant.3
     c.order_shortfall-acc.ensures in
     let done = raised_here in
     let ended =
-    orders_ended _ _ _ _ _ _ c.loop-i.inv.4 _ _ _ _ c.loop-i-test.taken
+    orders_ended _ _ _ _ _ _ c.loop-i.invariant.4 _ _ _ _ c.loop-i-test.true
     c.magnitude64.ensures made_up refl refl c.if-magnitude64.false c.if-e.true in
-    levinson_ends c.args.work.now _ _ (c.args.r) c.args.p _ c.pre.0
-    c.start_unit.ensures (only_then _ _ _ _ _ c.loop-i.inv.3 done.1) (ap (λ (a : List Float). stop a c.loop-i.i) done.0 ∙ ended)
+    levinson_ends c.args.work.now _ _ (c.args.r) c.args.p _ c.requires.0
+    c.start_unit.ensures (only_then _ _ _ _ _ c.loop-i.invariant.3 done.1) (ap (λ (a : List Float). stop a c.loop-i.i) done.0 ∙ ended)
 
 pub overflow_add-i : goal.overflow_add-i
 overflow_add-i c = omega arith
@@ -126,23 +126,23 @@ loop-i-smaller c = omega arith
 
 pub loop-i-preserved : goal.loop-i-preserved
 loop-i-preserved c =
-    let raised_here : let k = neg c.order_shortfall-acc.result /₆₄ c.loop-i.e in (area c.copy_area.new.work (lags c + 2 * (c.args.p + 1)) (c.args.p + 1) ≡ raised (area c.loop-i.work (lags c + 2 * (c.args.p + 1)) (c.args.p + 1)) c.loop-i.i k) × Only (lags c + (c.args.p + 1)) (lags c + 3 * (c.args.p + 1)) c.loop-i.work c.copy_area.new.work = let roomy : (lags c + 2 * (c.args.p + 1)) + (c.args.p + 1) ≤ length c.loop-i.work = omega arith in
-    order_stands c.loop-i.work c.raise_order.new.work c.copy_area.new.work (lags c + (c.args.p + 1)) (lags c + 2 * (c.args.p + 1))
-    c.args.p _ (lags c + 3 * (c.args.p + 1)) _ (omega arith) roomy (omega arith)
+    let raised_here : let k = neg c.order_shortfall-acc.result /₆₄ c.loop-i.e in (area c.copy_area.new.work ((c.args.r) + 2 * (c.args.p + 1)) (c.args.p + 1) ≡ raised (area c.loop-i.work ((c.args.r) + 2 * (c.args.p + 1)) (c.args.p + 1)) c.loop-i.i k) × Only ((c.args.r) + (c.args.p + 1)) ((c.args.r) + 3 * (c.args.p + 1)) c.loop-i.work c.copy_area.new.work = let roomy : ((c.args.r) + 2 * (c.args.p + 1)) + (c.args.p + 1) ≤ length c.loop-i.work = omega arith in
+    order_stands c.loop-i.work c.raise_order.new.work c.copy_area.new.work ((c.args.r) + (c.args.p + 1)) ((c.args.r) + 2 * (c.args.p + 1))
+    c.args.p _ ((c.args.r) + 3 * (c.args.p + 1)) _ (omega arith) roomy (omega arith)
     c.raise_order.ensures c.copy_area.ensures in
-    let made_up : c.order_shortfall-acc.result ≡ shortfall (area c.loop-i.work (lags c + 2 * (c.args.p + 1)) (c.args.p + 1)) (area c.start_unit.last.0 (c.args.r) (c.args.p + 1)) c.loop-i.i = let coefs-lent : (lags c + 2 * (c.args.p + 1)) + (c.args.p + 1) - (lags c + 2 * (c.args.p + 1)) ≡ (c.args.p + 1) = omega arith in
+    let made_up : c.order_shortfall-acc.result ≡ shortfall (area c.loop-i.work ((c.args.r) + 2 * (c.args.p + 1)) (c.args.p + 1)) (area c.start_unit.new.work (c.args.r) (c.args.p + 1)) c.loop-i.i = let coefs-lent : ((c.args.r) + 2 * (c.args.p + 1)) + (c.args.p + 1) - ((c.args.r) + 2 * (c.args.p + 1)) ≡ (c.args.p + 1) = omega arith in
     let lags-lent : (c.args.r) + (c.args.p + 1) - (c.args.r) ≡ (c.args.p + 1) = omega arith in
-    shortfall_here c.start_unit.last.0 c.loop-i.work (c.args.r) (lags c + (c.args.p + 1)) (lags c + 2 * (c.args.p + 1))
-    c.args.p (lags c + 3 * (c.args.p + 1)) _ _ _ _ coefs-lent lags-lent (omega arith) c.loop-i.inv.3
+    shortfall_here c.start_unit.new.work c.loop-i.work (c.args.r) ((c.args.r) + (c.args.p + 1)) ((c.args.r) + 2 * (c.args.p + 1))
+    c.args.p ((c.args.r) + 3 * (c.args.p + 1)) _ _ _ _ coefs-lent lags-lent (omega arith) c.loop-i.invariant.3
     c.order_shortfall-acc.ensures in
     let done = raised_here in
     let on =
-    orders_next _ _ _ _ _ _ c.loop-i.inv.4 _ _ _ _ c.loop-i-test.taken
+    orders_next _ _ _ _ _ _ c.loop-i.invariant.4 _ _ _ _ c.loop-i-test.true
     c.magnitude64.ensures made_up refl refl c.if-magnitude64.false c.if-e.false in (
       omega arith,
       omega arith,
-      done.1.count ∙ c.loop-i.inv.2,
-      only_then _ _ _ _ _ c.loop-i.inv.3 done.1,
+      done.1.count ∙ c.loop-i.invariant.2,
+      only_then _ _ _ _ _ c.loop-i.invariant.3 done.1,
       rw done.0 on,
     )
 

@@ -38,7 +38,7 @@ returns-then-journal-at c =
 pub recount-requires : goal.recount-requires
 recount-requires c =
     let written = c.write_picked.ensures in
-    picked_recountable (let a = c.args in state a.samples.now a.marks.now a.counts.now a.journal.now a.used.now) _ _ _ _ c.pre.0 c.count_picked-m.ensures c.if-journal-at.false
+    picked_recountable (let a = c.args in state a.samples.now a.marks.now a.counts.now a.journal.now a.used.now) _ _ _ _ c.requires.0 c.count_picked-m.ensures c.if-journal-at.false
     (ap length written.1 ∙ length_put _ _) c.save_picked.ensures
 
 pub seal-requires : goal.seal-requires

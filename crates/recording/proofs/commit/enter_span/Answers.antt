@@ -19,5 +19,5 @@ returns c =
     let marks = c.set_marks.ensures in
     let entry = c.seal.ensures in
     λ words count.
-    span_entered _ _ _ _ words count c.if-len-eq0.left _ _ _ _ _ c.if-journal-at.left marks c.save_span.ensures
+    span_entered _ _ _ _ words count c.if-len-eq0.false _ _ _ _ _ c.if-journal-at.false marks c.save_span.ensures
     c.recount.ensures entry.0 entry.1

@@ -35,12 +35,12 @@ returns-then-used-m c =
 
 pub returns-then-saved_wrong : goal.returns-then-saved_wrong
 returns-then-saved_wrong c =
-    let two : let a = c.args in malformed a.n a.journal.now a.used ≡ c.saved_wrong.result || not (made (last_mark a.journal.now a.used)) = two_left _ _ _ c.if-used-eq1.left _ c.index-m.ensures c.if-m-eq0.false
+    let two : let a = c.args in malformed a.n a.journal.now a.used ≡ c.saved_wrong.result || not (made (last_mark a.journal.now a.used)) = two_left _ _ _ c.if-used-eq1.false _ c.index-m.ensures c.if-m-eq0.false
     c.if-n-m.false c.if-used-m.false _ c.saved_wrong.ensures in
     malformed_saved _ _ _ _ two c.if-saved_wrong.true
 
 pub returns : goal.returns
 returns c =
-    let two : let a = c.args in malformed a.n a.journal.now a.used ≡ c.saved_wrong.result || not (made (last_mark a.journal.now a.used)) = two_left _ _ _ c.if-used-eq1.left _ c.index-m.ensures c.if-m-eq0.false
+    let two : let a = c.args in malformed a.n a.journal.now a.used ≡ c.saved_wrong.result || not (made (last_mark a.journal.now a.used)) = two_left _ _ _ c.if-used-eq1.false _ c.index-m.ensures c.if-m-eq0.false
     c.if-n-m.false c.if-used-m.false _ c.saved_wrong.ensures in
     malformed_mark _ _ _ _ two _ c.if-saved_wrong.false c.is_made.ensures
