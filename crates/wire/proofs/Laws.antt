@@ -122,7 +122,8 @@ words_back (w ∷ ws) rest h =
     let together : (bytes_of w ++ encoded ws) ++ rest ≡ bytes_of w ++ (encoded ws ++ rest) = append_assoc (bytes_of w) (encoded ws) rest in
     let first = word_back w (encoded ws ++ rest) (h 0) in
     let behind = decoded_behind (bytes_of w) (encoded ws ++ rest) 0 (length ws) ∙ words_back ws rest (λ i. h (suc i)) in
-    rw (together, first, behind) refl
+    let whole : decoded (bytes_of w ++ (encoded ws ++ rest)) 0 (suc (length ws)) ≡ w ∷ ws = cc in
+    ap (λ l. decoded l 0 (suc (length ws))) together ∙ whole
 
 -- the lowest byte, and what stands above it
 lowest : (a x : ℕ) → a < bytes_to → ((a + 256 * x) % 256 ≡ a) × ((a + 256 * x) / 256 ≡ x)
@@ -235,7 +236,8 @@ halves_back (h ∷ hs) rest small =
     append_assoc (half_bytes h) (encoded_halves hs) rest in
     let first = half_back h (encoded_halves hs ++ rest) (small 0) in
     let behind = halves_behind (half_bytes h) (encoded_halves hs ++ rest) 0 (length hs) ∙ halves_back hs rest (λ i. small (suc i)) in
-    rw (together, first, behind) refl
+    let whole : halves (half_bytes h ++ (encoded_halves hs ++ rest)) 0 (suc (length hs)) ≡ h ∷ hs = cc in
+    ap (λ l. halves l 0 (suc (length hs))) together ∙ whole
 
 -- the numbers that two bytes are are of 16 bits
 pub half_below : (bytes : List ℕ) (i : ℕ) → Below bytes_to bytes → half_at bytes i < halves_to

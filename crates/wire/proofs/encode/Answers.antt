@@ -40,9 +40,9 @@ loop-i-preserved c =
     let a = c.args in
     let word = get_or a.words.now c.loop-i.i 0 in (
       omega arith,
-      as_long c.loop-i.bytes _ (bytes_of word) (a.at + 4 * c.loop-i.i) c.Store-word.ensures ∙ c.loop-i.invariant.1,
+      as_long c.loop-i.bytes _ (bytes_of word) (a.at + 4 * c.loop-i.i) c.store_word.ensures ∙ c.loop-i.invariant.1,
       word_more c.loop-i.bytes _ _ a.words.now (a.at + 4 * c.loop-i.i) _ c.loop-i.i (omega arith) (omega arith)
-          c.Store-word.ensures c.loop-i.invariant.2,
+          c.store_word.ensures c.loop-i.invariant.2,
     )
 
 pub shape_of-bytes : goal.shape_of-bytes
