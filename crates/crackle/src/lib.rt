@@ -25,7 +25,7 @@ use recording::{Answer, Reason};
 
 // The detector between two calls: the running floor and the last two samples, beside what it counts by. The values
 // that it holds back stand in a room of 1,024 words that is lent with it.
-#[derive(Drop)]
+#[derive(Clone, Copy)]
 pub struct Detector {
     // Where the floor starts.
     pub start: Start,
@@ -44,14 +44,14 @@ pub struct Detector {
 }
 
 // How an announcement ends: with a detector, or with why it is turned away.
-#[derive(Drop)]
+#[derive(Clone, Copy)]
 pub enum Announced {
     Begun(Detector),
     TurnedAway(Reason),
 }
 
 // How a call on a detector ends: with its answer, and with the detector behind it.
-#[derive(Drop)]
+#[derive(Clone, Copy)]
 pub struct Heard {
     pub answer: Answer,
     pub detector: Detector,

@@ -25,7 +25,7 @@ use redraw::{begin, finish};
 pub const LEAST_SAMPLES: usize = 8;
 
 // Where the floor starts: at the mean of the first magnitudes, which is the default, or at 1e-6, as it used to.
-#[derive(Drop)]
+#[derive(Clone, Copy)]
 pub enum Start {
     Mean,
     Old,

@@ -11,7 +11,7 @@ use recording::Answer;
 
 // What the repair of a gap returns: its answer and, beside it, the highest order that its model used, which is
 // 0 for a straight line and for every refusal.
-#[derive(Drop)]
+#[derive(Clone, Copy)]
 pub struct GapAnswer {
     pub answer: Answer,
     pub order: u32,
@@ -19,7 +19,7 @@ pub struct GapAnswer {
 
 // What the search for a dropout run answers: a run, by the start and the length of its gap, or that there is
 // none.
-#[derive(Drop)]
+#[derive(Clone, Copy)]
 pub enum Run {
     At(usize, usize),
     Nowhere,
@@ -27,7 +27,7 @@ pub enum Run {
 
 // What the automatic scan returns: runs qualified, runs repaired, and the number of the first refusal,
 // or 0.
-#[derive(Drop)]
+#[derive(Clone, Copy)]
 pub struct Scanned {
     pub qualified: usize,
     pub repaired: usize,

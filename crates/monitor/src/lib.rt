@@ -28,7 +28,7 @@ const RATE: u32 = 48_000;
 const LIMIT_MS: f32 = 1.0;
 
 // Standard input: how many bytes it has, all of which were read, or that it is turned away.
-#[derive(Drop)]
+#[derive(Clone, Copy)]
 pub enum Input {
     Whole(usize),
     Bad,

@@ -15,7 +15,7 @@ pub mod undo;
 // Why a call is turned away, in the order of document 01's table, whose first line is number 1. The
 // two range cases carry the lowest place of a sample out of range, and a proposal's the lowest place that
 // breaks its rule.
-#[derive(Drop)]
+#[derive(Clone, Copy)]
 pub enum Reason {
     // 1: marks and samples differ in number.
     Counts,
@@ -61,14 +61,14 @@ pub enum Reason {
 }
 
 // How a call ends: accepted, with the number of samples that it named or took back, or refused.
-#[derive(Drop)]
+#[derive(Clone, Copy)]
 pub enum Answer {
     Done(usize),
     Refused(Reason),
 }
 
 // What the question whether a span was measured gives: an answer, or why it is turned away.
-#[derive(Drop)]
+#[derive(Clone, Copy)]
 pub enum Verdict {
     Yes,
     No,

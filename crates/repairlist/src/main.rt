@@ -60,7 +60,7 @@ const SAMPLES: usize = 6;
 const RENEWED: usize = 7;
 
 // What a call answers, as the list has it.
-#[derive(Drop)]
+#[derive(Clone, Copy)]
 struct Answered {
     number: u32,
     value: usize,

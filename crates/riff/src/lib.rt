@@ -31,14 +31,14 @@ const SAMPLE_BITS: u16 = 16;
 
 // Where the format and the data of a file begin, or that it is no whole WAVE file with the one before the other
 // and data of an even length.
-#[derive(Drop)]
+#[derive(Clone, Copy)]
 enum Sound {
     Stands(usize, usize),
     NoWave,
 }
 
 // How the reading of a file ends: with the number of samples or a refusal, and with the rate.
-#[derive(Drop)]
+#[derive(Clone, Copy)]
 pub struct WavRead {
     pub answer: Answer,
     pub rate: u32,

@@ -27,7 +27,7 @@ pub const SECOND_VERSION: u32 = 2;
 const VERSION_BYTES: usize = 4;
 
 // The settings of version 1, in the order of their parts.
-#[derive(Drop)]
+#[derive(Clone, Copy)]
 pub struct SettingsV1 {
     // From which magnitude on a sample is clipped.
     pub threshold: f32,
@@ -43,21 +43,21 @@ pub struct SettingsV1 {
 }
 
 // The settings of version 2: those of version 1, and from how many equal words on a scan takes a run for held.
-#[derive(Drop)]
+#[derive(Clone, Copy)]
 pub struct Settings {
     pub first: SettingsV1,
     pub held: u32,
 }
 
 // What a version 1 reader gives: settings, or why the block is turned away.
-#[derive(Drop)]
+#[derive(Clone, Copy)]
 pub enum KeptV1 {
     KnownV1(SettingsV1),
     TurnedAwayV1(Reason),
 }
 
 // What the new reader gives, likewise.
-#[derive(Drop)]
+#[derive(Clone, Copy)]
 pub enum Kept {
     Known(Settings),
     TurnedAway(Reason),

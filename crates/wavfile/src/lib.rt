@@ -28,7 +28,7 @@ pub const MOST_SAMPLES: usize = 262_144;
 pub const MOST_BYTES: usize = 655_360;
 
 // A file as it was read: all of its bytes, which are so many, or that it is turned away, which was said.
-#[derive(Drop)]
+#[derive(Clone, Copy)]
 pub enum Loaded {
     Bytes(usize),
     Away,
@@ -36,7 +36,7 @@ pub enum Loaded {
 
 // What the repair of a file in memory gives: the bytes of the file that stands there now, or a refusal; how many
 // samples there are, at which rate; and what the scan counted.
-#[derive(Drop)]
+#[derive(Clone, Copy)]
 struct Repaired {
     answer: Answer,
     samples: usize,

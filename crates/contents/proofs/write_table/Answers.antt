@@ -1,0 +1,122 @@
+-- `contents::write_table` meets its contract. The loop's invariant: storing the rows that are left gives the whole, and their figures are
+-- of 32 bits. The measure is how many rows are left. Assumes nothing.
+use Prim.Native.Nat.{ℕ, suc, ◌+◌, ◌≤◌, ◌<◌}
+use native.Mathlib.Omega.{arith}
+use mathlib.Core.Path.{◌≡◌, refl, sym, ap, subst, ◌∙◌}
+use mathlib.Core.List.{List, [], ◌∷◌}
+use lib.ListN.{length, get_or, drop, drop_of_length-le}
+use lib.Seq.{sets, drop-cons}
+use Rattle.leaves.proofs.Stores.{as_long, stored_behind}
+use Rattle.wire.specs.Wire.{bytes_of, encoded, Below, words_to}
+use Rattle.wire.proofs.Laws.{length_bytes, length_encoded, encoded_append}
+use Rattle.contents.specs.Contents.{table_bytes, rows, table}
+use Rattle.contents.proofs.write_table.Goals as goal
+
+module _ (bytes after lens : List ℕ) (before at : ℕ) (stored : after ≡ sets bytes before (bytes_of (length lens)))
+    (first : at ≡ before + table_bytes (length lens)) where
+  rows_left : sets after (before + 4) (encoded (rows 1 at lens)) ≡ sets bytes before (encoded (table before lens))
+  unfolding table encoded
+  rows_left =
+      let there : before + 4 ≡ before + length (bytes_of (length lens)) = ap (λ (n : ℕ). before + n) (sym (length_bytes (length lens))) in
+      rw (stored, there, first)
+      (stored_behind bytes (bytes_of (length lens)) (encoded (rows 1 (before + table_bytes (length lens)) lens)) before)
+
+  rows_below : Below words_to (table before lens) → Below words_to (rows 1 at lens)
+  unfolding table
+  rows_below below i = rw first (below (suc i))
+
+-- ---- A row is stored
+
+module _ (bytes after whole lens : List ℕ) (row number at k : ℕ) (more : k < length lens) where
+  abbrev len : ℕ
+  len = get_or lens k 0
+
+  opened : rows number at (drop k lens) ≡ number ∷ at ∷ len ∷ rows (number + 1) (at + len) (drop (k + 1) lens)
+  unfolding rows
+  opened =
+      let next : suc k ≡ k + 1 = omega arith in
+      ap (rows number at) (drop-cons lens k 0 more ∙ ap (λ (j : ℕ). len ∷ drop j lens) next)
+
+  row_more : after ≡ sets bytes row (encoded (number ∷ at ∷ len ∷ [])) → sets bytes row (encoded (rows number at (drop k lens))) ≡ whole
+      → sets after (row + 12) (encoded (rows (number + 1) (at + len) (drop (k + 1) lens))) ≡ whole
+  row_more stored rest =
+      let later = rows (number + 1) (at + len) (drop (k + 1) lens) in
+      let there : row + 12 ≡ row + length (encoded (number ∷ at ∷ len ∷ [])) = omega (arith, length_encoded (number ∷ at ∷ len ∷ [])) in
+      rw (stored, there)
+      (stored_behind bytes (encoded (number ∷ at ∷ len ∷ [])) (encoded later) row
+      ∙ ap (sets bytes row) (sym (encoded_append (number ∷ at ∷ len ∷ []) later) ∙ ap encoded (sym opened))
+      ∙ rest)
+
+  -- its offset and those behind it are of 32 bits
+  offset_below : Below words_to (rows number at (drop k lens)) → at < words_to
+  offset_below below = subst (λ (l : List ℕ). get_or l 1 0 < words_to) opened (below 1)
+
+  later_below : Below words_to (rows number at (drop k lens)) → Below words_to (rows (number + 1) (at + len) (drop (k + 1) lens))
+  later_below below i = subst (λ (l : List ℕ). get_or l (suc (suc (suc i))) 0 < words_to) opened (below (suc (suc (suc i))))
+
+-- ---- All are
+
+all_rows : (bytes whole lens : List ℕ) (row number at k : ℕ) → length lens ≤ k
+    → sets bytes row (encoded (rows number at (drop k lens))) ≡ whole → bytes ≡ whole
+unfolding rows encoded
+all_rows bytes whole lens row number at k end rest =
+    ap (λ (l : List ℕ). sets bytes row (encoded (rows number at l))) (sym (drop_of_length-le lens end)) ∙ rest
+
+pub loop-k-init : goal.loop-k-init
+loop-k-init c =
+    (
+      omega arith,
+      omega arith,
+      refl,
+      rows_below _ _ _ _ _ c.store_word.ensures c.bodies_at-offset.ensures c.requires.2,
+      refl,
+    )
+
+pub overflow_cast-k : goal.overflow_cast-k
+overflow_cast-k c = omega arith
+
+pub overflow_cast-offset : goal.overflow_cast-offset
+overflow_cast-offset c =
+    let lens = c.args.lens.now in
+    let below = offset_below [] [] [] lens 0 (c.loop-k.k + 1) c.loop-k.offset c.loop-k.k c.loop-k-test.true c.loop-k.invariant.3 in
+    omega (arith, below)
+
+pub overflow_cast-offset-in-loop-k : goal.overflow_cast-offset-in-loop-k
+overflow_cast-offset-in-loop-k c =
+    omega (arith, c.shared_slice_known-in-loop-k-2-1.given c.loop-k.k)
+
+pub overflow_add-offset : goal.overflow_add-offset
+overflow_add-offset c =
+    let lens = c.args.lens.now in
+    let below =
+    offset_below [] [] [] lens 0 (c.loop-k.k + 1) c.loop-k.offset c.loop-k.k
+    c.loop-k-test.true c.loop-k.invariant.3 in
+    omega (arith, below, c.shared_slice_known-in-loop-k-2-1.given c.loop-k.k)
+
+pub loop-k-smaller : goal.loop-k-smaller
+loop-k-smaller c = omega arith
+
+pub loop-k-preserved : goal.loop-k-preserved
+loop-k-preserved c =
+    let lens = c.args.lens.now in
+    let more = c.loop-k-test.true in
+    let stored = c.write_row.ensures in (
+      omega arith,
+      omega arith,
+      as_long c.loop-k.bytes _ (encoded ((c.loop-k.k + 1) ∷ c.loop-k.offset ∷ (get_or lens c.loop-k.k 0) ∷ []))
+          c.loop-k.row stored
+          ∙ c.loop-k.invariant.2,
+      later_below [] [] [] lens 0 (c.loop-k.k + 1) c.loop-k.offset c.loop-k.k more c.loop-k.invariant.3,
+      row_more _ _ _ lens c.loop-k.row (c.loop-k.k + 1) c.loop-k.offset c.loop-k.k more stored c.loop-k.invariant.4,
+    )
+
+pub shape_of-bytes : goal.shape_of-bytes
+shape_of-bytes c =
+    let args = c.args in
+    c.loop-k.invariant.2
+    ∙ as_long args.bytes.now _ (bytes_of (length args.lens.now)) args.before c.store_word.ensures
+
+pub returns : goal.returns
+returns c =
+    all_rows _ _ _ _ _ _ _ c.loop-k-test.false c.loop-k.invariant.4
+    ∙ rows_left _ _ _ _ _ c.store_word.ensures c.bodies_at-offset.ensures
