@@ -333,7 +333,7 @@ def convert(folder, key, names, said):
                 it["drop"] = True
                 continue
             new, vs, ch = loop
-            c = re.match(rf"^{re.escape(name)}((?: [^\s=]+)*?) =\s*(.*)$", body, re.S)
+            c = re.match(rf"^{re.escape(name)}((?:\s+[^\s=]+)*?) =\s*(.*)$", body, re.S)
             if not c:
                 t.say(f"clause of {name}")
                 continue
