@@ -2,15 +2,14 @@
 use mathlib.Core.Path.{◌≡◌, refl, sym, ap, ◌∙◌}
 use mathlib.Core.Bool.{Bool, true, false, not, ◌&&◌}
 use lib.Ieee.{ne, is_nan}
-use borrow.Author.Rules.{rules}
 use borrow.Author.Tests.{not-true, not-false}
 use Rattle.leaves.proofs.words.Laws.{nan_test}
 use Rattle.inpaint.specs.Auto as scan
 use Rattle.declip.specs.Declip as declip
 use Rattle.settings.specs.declared.SettingsV1.{SettingsV1}
 use Rattle.settings.specs.Settings.{allowed_v1}
-use Rattle.settings.proofs.allowed.allowed_v1.Statement.{statement}
-use Rattle.settings.proofs.allowed.allowed_v1.Tie as tie
+use Rattle.std.proofs.Common.{ap, not}
+use Rattle.settings.proofs.allowed.allowed_v1.Goals as goal
 
 -- four tests
 abbrev all : Bool → Bool → Bool → Bool → Bool
@@ -65,36 +64,16 @@ module _ (s : SettingsV1) where
       ∙ ap (λ (b : Bool). all true true (not b) d) strong)
       ∙ tested a d e f
 
-threshold-allowed-requires : tie.Need-threshold-allowed-requires
-threshold-allowed-requires c κs = search rules
+pub returns-then-not-threshold_allowed : goal.returns-then-not-threshold_allowed
+returns-then-not-threshold_allowed c = by_threshold _ _ c.threshold_allowed.ensures (not-true _ (ap not c.if-not-threshold_allowed.true))
 
-returns : tie.Need-returns
-returns c = by_threshold _ _ c.before.threshold-allowed.ensures (not-true _ c.if1.true)
+pub returns-then-settings : goal.returns-then-settings
+returns-then-settings c = by_sensitivity _ c.if-settings.true
 
-returns-2 : tie.Need-returns-2
-returns-2 c = by_sensitivity _ c.if2.true
+pub returns-then-settings-2 : goal.returns-then-settings-2
+returns-then-settings-2 c = by_strength _ c.if-settings-2.true
 
-returns-3 : tie.Need-returns-3
-returns-3 c = by_strength _ c.if3.true
-
-settings-allowed-requires : tie.Need-settings-allowed-requires
-settings-allowed-requires c κs = search rules
-
-returns-4 : tie.Need-returns-4
-returns-4 c =
-    let third = c.before in
-    let second = third.before.before in
-    let first = second.before.before in
-    by_scan _ _ _ first.before.threshold-allowed.ensures (not-false _ first.if1.false) second.if2.false
-    third.if3.false c.settings-allowed.ensures
-
-pub allowed_v1_spec : {M : Type 1} → statement M
-allowed_v1_spec =
-    tie.close
-    (tie.spec
-    threshold-allowed-requires
-    returns
-    returns-2
-    returns-3
-    settings-allowed-requires
-    returns-4)
+pub returns : goal.returns
+returns c =
+    by_scan _ _ _ c.threshold_allowed.ensures (not-false _ (ap not c.if-not-threshold_allowed.false)) c.if-settings.false
+    c.if-settings-2.false c.settings_allowed.ensures

@@ -3,7 +3,6 @@ use Prim.Native.Nat.{ℕ, ◌≤◌, ◌<◌}
 use mathlib.Core.Path.{◌≡◌, refl, ap, ◌∙◌}
 use mathlib.Core.List.{List}
 use lib.ListN.{length}
-use borrow.Author.Rules.{rules}
 use borrow.Author.Tests.{lt-ltb, le-ltb, eq-eqb, ne_eqb}
 use Rattle.wire.specs.Wire.{word_at}
 use Rattle.recording.specs.declared.Reason.TheVariants.{Version, Stored}
@@ -11,8 +10,7 @@ use Rattle.settings.specs.declared.KeptV1.{KeptV1}
 use Rattle.settings.specs.declared.Kept.{Kept}
 use Rattle.settings.specs.declared.Kept.TheVariants.{TurnedAway}
 use Rattle.settings.specs.Settings.{version_bytes, of_first, of_second, with_held_run, read}
-use Rattle.settings.proofs.read.read.Statement.{statement}
-use Rattle.settings.proofs.read.read.Tie as tie
+use Rattle.settings.proofs.read.read.Goals as goal
 
 no_version : (block : List ℕ) → length block < version_bytes → TurnedAway Stored ≡ read block
 unfolding read
@@ -34,47 +32,18 @@ module _ (block : List ℕ) (long : version_bytes ≤ length block) (version : �
     the_second same k e =
         e ∙ rw (le-ltb (length block) version_bytes long, ← is, ne_eqb version 1 not_first, eq-eqb version 2 same) refl
 
-returns : tie.Need-returns
-returns c = no_version _ c.if1.true
+pub returns-then-block-lt-VERSION_BYTES : goal.returns-then-block-lt-VERSION_BYTES
+returns-then-block-lt-VERSION_BYTES c = no_version _ c.if-block-lt-VERSION_BYTES.true
 
-word-at-requires : tie.Need-word-at-requires
-word-at-requires c κs = search rules
+pub returns-then-version-eq-FIRST_VERSION : goal.returns-then-version-eq-FIRST_VERSION
+returns-then-version-eq-FIRST_VERSION c =
+    the_first _ c.if-block-lt-VERSION_BYTES.false _ c.word_at-version.ensures c.if-version-eq-FIRST_VERSION.true _ _
+    c.of_first.ensures c.with_held_run.ensures
 
-of-first-requires : tie.Need-of-first-requires
-of-first-requires c κs = search rules
+pub returns-then-version-ne-SECOND_VERSION : goal.returns-then-version-ne-SECOND_VERSION
+returns-then-version-ne-SECOND_VERSION c =
+    another _ c.if-block-lt-VERSION_BYTES.false _ c.word_at-version.ensures c.if-version-eq-FIRST_VERSION.false c.if-version-ne-SECOND_VERSION.true
 
-with-held-run-requires : tie.Need-with-held-run-requires
-with-held-run-requires c κs = search rules
-
-returns-2 : tie.Need-returns-2
-returns-2 c =
-    let first = c.before.before in
-    the_first _ first.before.before.if1.false _ first.before.word_at.ensures first.if2.true _ _
-    c.before.of-first.ensures c.with-held-run.ensures
-
-returns-3 : tie.Need-returns-3
-returns-3 c =
-    let first = c.before in
-    another _ first.before.before.if1.false _ first.before.word_at.ensures first.if2.false c.if3.true
-
-of-second-requires : tie.Need-of-second-requires
-of-second-requires c κs = search rules
-
-returns-4 : tie.Need-returns-4
-returns-4 c =
-    let second = c.before in
-    let first = second.before in
-    the_second _ first.before.before.if1.false _ first.before.word_at.ensures first.if2.false second.if3.false _ c.of-second.ensures
-
-pub read_spec : {M : Type 1} → statement M
-read_spec =
-    tie.close
-    (tie.spec
-    returns
-    word-at-requires
-    of-first-requires
-    with-held-run-requires
-    returns-2
-    returns-3
-    of-second-requires
-    returns-4)
+pub returns : goal.returns
+returns c =
+    the_second _ c.if-block-lt-VERSION_BYTES.false _ c.word_at-version.ensures c.if-version-eq-FIRST_VERSION.false c.if-version-ne-SECOND_VERSION.false _ c.of_second.ensures

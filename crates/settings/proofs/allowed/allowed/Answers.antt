@@ -2,13 +2,12 @@
 -- Assumes nothing.
 use mathlib.Core.Path.{◌≡◌, refl, sym, ◌∙◌}
 use mathlib.Core.Bool.{Bool, true, false}
-use borrow.Author.Rules.{rules}
 use borrow.Author.Tests.{not-true, not-false}
 use Rattle.inpaint.specs.Auto.{held_allowed}
 use Rattle.settings.specs.declared.Settings.{Settings}
 use Rattle.settings.specs.Settings.{allowed_v1, allowed}
-use Rattle.settings.proofs.allowed.allowed.Statement.{statement}
-use Rattle.settings.proofs.allowed.allowed.Tie as tie
+use Rattle.std.proofs.Common.{ap, not}
+use Rattle.settings.proofs.allowed.allowed.Goals as goal
 
 module _ (s : Settings) (a : Bool) (tested : a ≡ allowed_v1 s.first) where
   by_first : a ≡ false → false ≡ allowed s
@@ -19,17 +18,8 @@ module _ (s : Settings) (a : Bool) (tested : a ≡ allowed_v1 s.first) where
   unfolding allowed
   by_held on b e = e ∙ rw (sym tested ∙ on) refl
 
-allowed-v1-requires : tie.Need-allowed-v1-requires
-allowed-v1-requires c κs = search rules
+pub returns-then-not-allowed_v1 : goal.returns-then-not-allowed_v1
+returns-then-not-allowed_v1 c = by_first _ _ c.allowed_v1.ensures (not-true _ (ap not c.if-not-allowed_v1.true))
 
-returns : tie.Need-returns
-returns c = by_first _ _ c.before.allowed-v1.ensures (not-true _ c.if1.true)
-
-held-allowed-requires : tie.Need-held-allowed-requires
-held-allowed-requires c κs = search rules
-
-returns-2 : tie.Need-returns-2
-returns-2 c = by_held _ _ c.before.before.allowed-v1.ensures (not-false _ c.before.if1.false) _ c.held-allowed.ensures
-
-pub allowed_spec : {M : Type 1} → statement M
-allowed_spec = tie.close (tie.spec allowed-v1-requires returns held-allowed-requires returns-2)
+pub returns : goal.returns
+returns c = by_held _ _ c.allowed_v1.ensures (not-false _ (ap not c.if-not-allowed_v1.false)) _ c.held_allowed.ensures

@@ -1,13 +1,12 @@
 -- `settings::write::write_block` meets its contract. The loop's invariant: storing the words that are left gives the whole. The measure is
 -- how many these are. Assumes nothing.
-use Prim.Native.Nat.{ℕ, suc, ◌+◌, ◌-◌, ◌*◌, ◌≤◌, ◌<◌}
+use Prim.Native.Nat.{ℕ, suc, ◌+◌, ◌*◌, ◌≤◌, ◌<◌}
 use native.Mathlib.Omega.{arith}
 use native.Mathlib.Nat.{add-zero, zero-add}
 use mathlib.Core.Path.{◌≡◌, refl, sym, ap, subst, ◌∙◌}
 use mathlib.Core.List.{List, ◌∷◌, ◌++◌, map, flatten, append_assoc}
 use lib.ListN.{length, get_or, drop, drop_of_length-le, replicate, length-append, length-replicate}
 use lib.Seq.{sets, length-sets, drop-cons}
-use borrow.Author.Rules.{rules}
 use Rattle.leaves.proofs.Stores.{stored_behind}
 use Rattle.wire.specs.Wire.{bytes_of, encoded, Below, words_to}
 use Rattle.wire.proofs.Laws.{length_bytes, length_encoded}
@@ -15,16 +14,7 @@ use Rattle.contents.specs.Contents.{table_bytes, table, filed}
 use Rattle.contents.proofs.Rows.{length_table}
 use Rattle.settings.specs.Settings.{parts, version_bytes, block_of, block_bytes}
 use Rattle.settings.proofs.Block.{fours, bodies_encoded, small_table}
-use Rattle.settings.proofs.write.write_block.Statement.{statement}
-use Rattle.settings.proofs.write.write_block.Tie as tie
-
-abbrev invariant-loop : tie.invariant-loop
-invariant-loop room₀ version words lens bodies k₀ room k =
-    (k ≤ length words) × (length room ≡ length room₀)
-    × (sets room (bodies + 4 * k) (encoded (drop k words)) ≡ sets room₀ bodies (encoded words))
-
-abbrev decreases-loop : tie.decreases-loop
-decreases-loop room₀ version words lens bodies k₀ room k = length words - k
+use Rattle.settings.proofs.write.write_block.Goals as goal
 
 -- what is stored leaves as many bytes
 as_long : (room after stored : List ℕ) (i : ℕ) → after ≡ sets room i stored → length after ≡ length room
@@ -111,90 +101,34 @@ unfolding encoded
 all_stored room whole words at k end rest =
     ap (λ (l : List ℕ). sets room at (encoded l)) (sym (drop_of_length-le words end)) ∙ rest
 
-store-word-requires : tie.Need-store-word-requires invariant-loop decreases-loop
-store-word-requires c κs = search rules
+pub write_table-requires : goal.write_table-requires
+write_table-requires c =
+    let long = as_long c.args.room.now _ (bytes_of c.args.version) 0 c.store_word.ensures in
+    table_fits c.args.words.now c.args.lens.now c.requires.0 c.requires.2 c.store_word.new.bytes
+    (subst (λ (n : ℕ). block_bytes (length c.args.words.now) ≤ n) (sym long) c.requires.1)
 
-write-table-requires : tie.Need-write-table-requires invariant-loop decreases-loop
-write-table-requires c κs =
-    let start = c.before.before.before.before.before.before.before.before in
-    let stored = c.before.before.before in
-    let long = as_long start.args.room.now _ (bytes_of start.args.version) 0 stored.Store-word.ensures in
-    table_fits start.args.words.now start.args.lens.now start.requires.0 start.requires.2 stored.Store-word.new.0
-    (subst (λ (n : ℕ). block_bytes (length start.args.words.now) ≤ n) (sym long) start.requires.1)
+pub loop-k-init : goal.loop-k-init
+loop-k-init c = (omega arith, refl, simp add-zero refl)
 
-bodies-at-requires : tie.Need-bodies-at-requires invariant-loop decreases-loop
-bodies-at-requires c κs = search rules
+pub loop-k-smaller : goal.loop-k-smaller
+loop-k-smaller c = omega arith
 
-loop-holds : tie.Need-loop-init invariant-loop decreases-loop
-loop-holds c = (omega arith, refl, simp add-zero refl)
-
-mul-store-word : tie.Need-overflow-mul-store-word invariant-loop decreases-loop
-mul-store-word c = search rules
-
-add-store-word : tie.Need-overflow-add-store-word invariant-loop decreases-loop
-add-store-word c = search rules
-
-mul-store-word-2 : tie.Need-overflow-mul-store-word-2 invariant-loop decreases-loop
-mul-store-word-2 c = search rules
-
-shared-slice-read-store-word : tie.Need-shared-slice-read-store-word invariant-loop decreases-loop
-shared-slice-read-store-word c = search rules
-
-store-word-requires-2 : tie.Need-store-word-requires-2 invariant-loop decreases-loop
-store-word-requires-2 c κs = search rules
-
-add-k : tie.Need-overflow-add-k invariant-loop decreases-loop
-add-k c = search rules
-
-loop-less : tie.Need-loop-smaller invariant-loop decreases-loop
-loop-less c = omega arith
-
-loop-again : tie.Need-loop-preserved invariant-loop decreases-loop
-loop-again c =
-    let turn = c.before.before.before.before.before.before in
-    let start = turn.before.before.before.before.before.before.before.before.before.before.before.before.before in
-    let more = c.before.before.before.before.before.loop-test.true in
-    let stored = c.before.before.store-word2.ensures in (
+pub loop-k-preserved : goal.loop-k-preserved
+loop-k-preserved c =
+    let more = c.loop-k-test.true in
+    let stored = c.store_word-in-loop-k.ensures in (
       omega arith,
-      as_long turn.loop.room _ (bytes_of (get_or start.args.words.now turn.loop.k 0)) _ stored ∙ turn.loop.invariant.1,
-      one_more _ _ _ _ _ _ more stored turn.loop.invariant.2,
+      as_long c.loop-k.room _ (bytes_of (get_or c.args.words.now c.loop-k.k 0)) _ stored ∙ c.loop-k.invariant.1,
+      one_more _ _ _ _ _ _ more stored c.loop-k.invariant.2,
     )
 
-same_length : tie.Need-same-length invariant-loop decreases-loop
-same_length c =
-    let wrote = c.before.before.before.before.before in
-    let stored = wrote.before.before.before.before in
-    let start = stored.before.before.before.before.before in
-    c.before.loop.invariant.1
-    ∙ as_long _ _ (encoded (table version_bytes start.args.lens.now)) version_bytes wrote.write-table.ensures
-    ∙ as_long start.args.room.now _ (bytes_of start.args.version) 0 stored.Store-word.ensures
+pub shape_of-room : goal.shape_of-room
+shape_of-room c =
+    c.loop-k.invariant.1
+    ∙ as_long _ _ (encoded (table version_bytes c.args.lens.now)) version_bytes c.write_table.ensures
+    ∙ as_long c.args.room.now _ (bytes_of c.args.version) 0 c.store_word.ensures
 
-returns : tie.Need-returns invariant-loop decreases-loop
+pub returns : goal.returns
 returns c =
-    let at = c.before.before in
-    let wrote = at.before.before.before in
-    let stored = wrote.before.before.before.before in
-    let start = stored.before.before.before.before.before in
-    whole _ _ start.requires.0 start.requires.2 _ _ _ _ _ _ stored.Store-word.ensures wrote.write-table.ensures at.bodies-at.ensures
-    (all_stored _ _ _ _ _ c.loop-test.false c.before.loop.invariant.2)
-
-pub write_block_spec : {M : Type 1} → statement M
-write_block_spec =
-    tie.close
-    (tie.spec
-    invariant-loop
-    decreases-loop
-    store-word-requires
-    write-table-requires
-    bodies-at-requires
-    loop-holds
-    mul-store-word
-    add-store-word
-    mul-store-word-2
-    shared-slice-read-store-word
-    store-word-requires-2
-    add-k
-    loop-less
-    loop-again
-    same_length
-    returns)
+    whole _ _ c.requires.0 c.requires.2 _ _ _ _ _ _ c.store_word.ensures c.write_table.ensures c.bodies_at-bodies.ensures
+    (all_stored _ _ _ _ _ c.loop-k-test.false c.loop-k.invariant.2)

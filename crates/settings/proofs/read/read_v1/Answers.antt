@@ -3,15 +3,13 @@ use Prim.Native.Nat.{ℕ, ◌≤◌, ◌<◌}
 use mathlib.Core.Path.{◌≡◌, refl, ◌∙◌}
 use mathlib.Core.List.{List}
 use lib.ListN.{length}
-use borrow.Author.Rules.{rules}
 use borrow.Author.Tests.{lt-ltb, le-ltb, eq-eqb, ne_eqb}
 use Rattle.wire.specs.Wire.{word_at}
 use Rattle.recording.specs.declared.Reason.TheVariants.{Version, Stored}
 use Rattle.settings.specs.declared.KeptV1.{KeptV1}
 use Rattle.settings.specs.declared.KeptV1.TheVariants.{TurnedAwayV1}
 use Rattle.settings.specs.Settings.{version_bytes, of_first, read_v1}
-use Rattle.settings.proofs.read.read_v1.Statement.{statement}
-use Rattle.settings.proofs.read.read_v1.Tie as tie
+use Rattle.settings.proofs.read.read_v1.Goals as goal
 
 no_version : (block : List ℕ) → length block < version_bytes → TurnedAwayV1 Stored ≡ read_v1 block
 unfolding read_v1
@@ -26,20 +24,11 @@ module _ (block : List ℕ) (long : version_bytes ≤ length block) (version : �
   unfolding read_v1
   the_first same k e = e ∙ rw (le-ltb (length block) version_bytes long, ← is, eq-eqb version 1 same) refl
 
-returns : tie.Need-returns
-returns c = no_version _ c.if1.true
+pub returns-then-block-lt-VERSION_BYTES : goal.returns-then-block-lt-VERSION_BYTES
+returns-then-block-lt-VERSION_BYTES c = no_version _ c.if-block-lt-VERSION_BYTES.true
 
-word-at-requires : tie.Need-word-at-requires
-word-at-requires c κs = search rules
+pub returns-then-word_at-ne-FIRST_VERSION : goal.returns-then-word_at-ne-FIRST_VERSION
+returns-then-word_at-ne-FIRST_VERSION c = another _ c.if-block-lt-VERSION_BYTES.false _ c.word_at.ensures c.if-word_at-ne-FIRST_VERSION.true
 
-returns-2 : tie.Need-returns-2
-returns-2 c = another _ c.before.before.if1.false _ c.before.word_at.ensures c.if2.true
-
-of-first-requires : tie.Need-of-first-requires
-of-first-requires c κs = search rules
-
-returns-3 : tie.Need-returns-3
-returns-3 c = the_first _ c.before.before.before.if1.false _ c.before.before.word_at.ensures c.before.if2.false _ c.of-first.ensures
-
-pub read_v1_spec : {M : Type 1} → statement M
-read_v1_spec = tie.close (tie.spec returns word-at-requires returns-2 of-first-requires returns-3)
+pub returns : goal.returns
+returns c = the_first _ c.if-block-lt-VERSION_BYTES.false _ c.word_at.ensures c.if-word_at-ne-FIRST_VERSION.false _ c.of_first.ensures

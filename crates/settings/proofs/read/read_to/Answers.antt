@@ -4,7 +4,6 @@ use mathlib.Core.Path.{◌≡◌, refl, sym, ◌∙◌}
 use mathlib.Core.List.{List}
 use lib.ListN.{length}
 use lib.Seq.{sets}
-use borrow.Author.Rules.{rules}
 use borrow.Author.Tests.{lt-ltb, le-ltb}
 use Rattle.recording.specs.declared.Reason.{Reason}
 use Rattle.recording.specs.declared.Reason.TheVariants.{Workspace}
@@ -13,8 +12,7 @@ use Rattle.settings.specs.declared.Settings.{Settings}
 use Rattle.settings.specs.declared.Kept.{Kept}
 use Rattle.settings.specs.declared.Kept.TheVariants.{Known, TurnedAway}
 use Rattle.settings.specs.Settings.{parts, words, read, left, read_to}
-use Rattle.settings.proofs.read.read_to.Statement.{statement}
-use Rattle.settings.proofs.read.read_to.Tie as tie
+use Rattle.settings.proofs.read.read_to.Goals as goal
 
 short_area : (block area : List ℕ) → length area < parts → left (Refused Workspace) area ≡ read_to block area
 unfolding read_to
@@ -30,46 +28,13 @@ module _ (block area : List ℕ) (room : parts ≤ length area) (k : Kept) (told
   unfolding read_to
   turned_away why is = rw (le-ltb (length area) parts room, sym told ∙ is) refl
 
-returns : tie.Need-returns
-returns c = short_area _ _ c.if1.true
+pub returns-then-area-lt-SETTINGS : goal.returns-then-area-lt-SETTINGS
+returns-then-area-lt-SETTINGS c = short_area _ _ c.if-area-lt-SETTINGS.true
 
-read-requires : tie.Need-read-requires
-read-requires c κs = search rules
+pub returns-in-Known : goal.returns-in-Known
+returns-in-Known c =
+    known _ _ c.if-area-lt-SETTINGS.false _ c.read.ensures _ _ c.in-Known.is c.store.ensures
 
-enum-known-settings : tie.Need-enum-known-settings
-enum-known-settings c = search rules
-
-store-requires : tie.Need-store-requires
-store-requires c κs = search rules
-
-enum-known-why : tie.Need-enum-known-why
-enum-known-why c = search rules
-
-same_length : tie.Need-same-length
-same_length c = search rules
-
-returns-2 : tie.Need-returns-2
-returns-2 c =
-    let stored = c.before.before in
-    let found = stored.before.before.before in
-    let told = found.before.before in
-    known _ _ told.before.if1.false _ told.read.ensures _ _ found.settings.given.1 stored.store.ensures
-
-returns-3 : tie.Need-returns-3
-returns-3 c =
-    let found = c.before in
-    let told = found.before.before in
-    turned_away _ _ told.before.if1.false _ told.read.ensures _ found.why.given.1
-
-pub read_to_spec : {M : Type 1} → statement M
-read_to_spec =
-    tie.close
-    (tie.spec
-    returns
-    read-requires
-    enum-known-settings
-    store-requires
-    enum-known-why
-    same_length
-    returns-2
-    returns-3)
+pub returns-in-TurnedAway : goal.returns-in-TurnedAway
+returns-in-TurnedAway c =
+    turned_away _ _ c.if-area-lt-SETTINGS.false _ c.read.ensures _ c.in-TurnedAway.is

@@ -1,6 +1,6 @@
 -- `settings::read::is_formed` meets its contract. The loop's invariant: the lengths that are left decide. The measure is how many these
 -- are. Assumes nothing.
-use Prim.Native.Nat.{ℕ, suc, ◌+◌, ◌-◌, ◌≤◌, ◌<◌}
+use Prim.Native.Nat.{ℕ, suc, ◌+◌, ◌≤◌, ◌<◌}
 use native.Mathlib.Omega.{arith}
 use mathlib.Core.Path.{◌≡◌, refl, sym, ap, ◌∙◌}
 use mathlib.Core.Bool.{Bool, true, false}
@@ -8,22 +8,11 @@ use mathlib.Core.List.{List, ◌∷◌}
 use lib.ListN.{length, get_or, drop, drop_of_length-le}
 use lib.Seq.{drop-cons}
 use borrow.Author.Tests.{eq-eqb, ne_eqb, not-true, not-false}
-use borrow.Author.Rules.{rules}
 use Rattle.contents.specs.Contents.{table_bytes, lengths_in, laid_out}
 use Rattle.contents.proofs.Rows.{length_lengths, laid_out_lem}
 use Rattle.settings.specs.Settings.{version_bytes, one_word_each, formed}
-use Rattle.settings.proofs.read.is_formed.Statement.{statement}
-use Rattle.settings.proofs.read.is_formed.Tie as tie
-
-abbrev invariant-loop : tie.invariant-loop
-invariant-loop block count k₀ k =
-    (k ≤ count) × (laid_out version_bytes count block ≡ true)
-    × (one_word_each (drop k (lengths_in version_bytes count block)) ≡ formed count block)
-
-abbrev decreases-loop : tie.decreases-loop
-decreases-loop block count k₀ k = count - k
-
--- ---- The table
+use Rattle.std.proofs.Common.{ap, not}
+use Rattle.settings.proofs.read.is_formed.Goals as goal
 
 module _ (n : ℕ) (block : List ℕ) (r : Bool) (tested : r ≡ laid_out version_bytes n block) where
   no_table : r ≡ false → false ≡ formed n block
@@ -66,54 +55,31 @@ some_left n k block h = let count = length_lengths block (version_bytes + 4) n i
 none_left : (n k : ℕ) (block : List ℕ) → n ≤ k → length (lengths_in version_bytes n block) ≤ k
 none_left n k block h = let count = length_lengths block (version_bytes + 4) n in omega (arith, count)
 
-is-laid-out-requires : tie.Need-is-laid-out-requires invariant-loop decreases-loop
-is-laid-out-requires c κs = search rules
+pub returns-then-not-is_laid_out : goal.returns-then-not-is_laid_out
+returns-then-not-is_laid_out c = no_table _ _ _ c.is_laid_out.ensures (not-true _ (ap not c.if-not-is_laid_out.true))
 
-returns : tie.Need-returns invariant-loop decreases-loop
-returns c = no_table _ _ _ c.before.is-laid-out.ensures (not-true _ c.if1.true)
+pub loop-k-init : goal.loop-k-init
+loop-k-init c =
+    let on = not-false _ (ap not c.if-not-is_laid_out.false) in
+    (omega arith, sym c.is_laid_out.ensures ∙ on, a_table _ _ _ c.is_laid_out.ensures on)
 
-loop-holds : tie.Need-loop-init invariant-loop decreases-loop
-loop-holds c =
-    let on = not-false _ c.if1.false in
-    (omega arith, sym c.before.is-laid-out.ensures ∙ on, a_table _ _ _ c.before.is-laid-out.ensures on)
+pub length_of-requires : goal.length_of-requires
+length_of-requires c = (c.loop-k-test.true, has_table _ _ c.loop-k.invariant.1)
 
-length-of-requires : tie.Need-length-of-requires invariant-loop decreases-loop
-length-of-requires c κs = (c.loop-test.true, has_table _ _ c.before.loop.invariant.1)
+pub returns-then-length_of-ne4 : goal.returns-then-length_of-ne4
+returns-then-length_of-ne4 c =
+    another_length _ _ _ _ (some_left _ _ _ c.loop-k-test.true) c.length_of.ensures c.loop-k.invariant.2 c.if-length_of-ne4.true
 
-returns-2 : tie.Need-returns-2 invariant-loop decreases-loop
-returns-2 c =
-    let turn = c.before.before.before in
-    another_length _ _ _ _ (some_left _ _ _ c.before.before.loop-test.true) c.before.length-of.ensures turn.loop.invariant.2 c.if2.true
+pub loop-k-smaller : goal.loop-k-smaller
+loop-k-smaller c = omega arith
 
-add-k : tie.Need-overflow-add-k invariant-loop decreases-loop
-add-k c = search rules
-
-loop-less : tie.Need-loop-smaller invariant-loop decreases-loop
-loop-less c = omega arith
-
-loop-again : tie.Need-loop-preserved invariant-loop decreases-loop
-loop-again c =
-    let turn = c.before.before.before in (
+pub loop-k-preserved : goal.loop-k-preserved
+loop-k-preserved c =
+    (
       omega arith,
-      turn.loop.invariant.1,
-      one_word _ _ _ _ (some_left _ _ _ c.before.before.loop-test.true) c.before.length-of.ensures turn.loop.invariant.2 c.if2.false,
+      c.loop-k.invariant.1,
+      one_word _ _ _ _ (some_left _ _ _ c.loop-k-test.true) c.length_of.ensures c.loop-k.invariant.2 c.if-length_of-ne4.false,
     )
 
-returns-3 : tie.Need-returns-3 invariant-loop decreases-loop
-returns-3 c = all_looked_at _ _ _ (none_left _ _ _ c.loop-test.false) c.before.loop.invariant.2
-
-pub is_formed_spec : {M : Type 1} → statement M
-is_formed_spec =
-    tie.close
-    (tie.spec
-    invariant-loop
-    decreases-loop
-    is-laid-out-requires
-    returns
-    loop-holds
-    length-of-requires
-    returns-2
-    add-k
-    loop-less
-    loop-again
-    returns-3)
+pub returns : goal.returns
+returns c = all_looked_at _ _ _ (none_left _ _ _ c.loop-k-test.false) c.loop-k.invariant.2
