@@ -5,4 +5,4 @@ use Rattle.std.proofs.Common.{ap, not}
 use Rattle.crackle.proofs.not_all.Goals as goal
 
 pub returns : goal.returns
-returns c = let d = c.args.detector in all_in d c.if-not-detector.false
+returns c = let d = c.args.detector in all_in d (not-false d.running c.if-not-detector.false)

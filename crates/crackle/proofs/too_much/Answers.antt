@@ -7,9 +7,9 @@ use Rattle.crackle.proofs.too_much.Goals as goal
 pub returns-then-detector : goal.returns-then-detector
 returns-then-detector c =
     let d = c.args.detector in
-    more_in d c.if-not-detector.false _ c.if-detector.true
+    more_in d (not-false d.running c.if-not-detector.false) _ c.if-detector.true
 
 pub returns : goal.returns
 returns c =
     let d = c.args.detector in
-    too_many_left d c.if-not-detector.false _ c.if-detector.false
+    too_many_left d (not-false d.running c.if-not-detector.false) _ c.if-detector.false
