@@ -33,9 +33,11 @@ def lent(callee):
         for folder, _, fs in os.walk("crates"):
             for f in fs:
                 if f.endswith(".rt") and "/out/" not in folder:
+                    crate = folder.split(os.sep)[1]
+                    module = crate if f in ("lib.rt", "main.rt") else crate + "::" + f[:-3]
                     for m in re.finditer(r"fn (\w+)(?:<[^>]*>)?\(([^{]*?)\)(?: ->|\s)", open(os.path.join(folder, f), encoding="utf-8").read()):
-                        LENT.setdefault(m[1], re.findall(r"(\w+): &(?:'\w+ )?mut ", m[2]))
-    return LENT.get(callee.split("::")[-1], [])
+                        LENT.setdefault(module + "::" + m[1], re.findall(r"(\w+): &(?:'\w+ )?mut ", m[2]))
+    return LENT.get(callee, [])
 
 
 def norm(w):
@@ -162,6 +164,10 @@ class Turn:
         first = norm(rest[0])
         if first not in fn.steps and first[0].isupper():
             first = first[0].lower() + first[1:]
+        if first not in fn.steps and first.endswith("-lem") and first[:-4] in fn.steps:
+            first = first[:-4]
+        if first not in fn.steps and re.match(r"is-Is[A-Z]", first):
+            first = "is-" + norm(re.sub(r"(?<=[a-z])([A-Z])", r"-\1", first[5:])).lower()
         for n in range(len(rest), 0, -1):
             if (first, tuple(rest[1:n])) in fn.arms:
                 return fn.arms[(first, tuple(rest[1:n]))].split(".") + rest[n:]
@@ -174,7 +180,7 @@ class Turn:
                 k += 1
             if rest[2 + k: 3 + k] == ["0"] and k < len(names):
                 rest = rest[:2] + [names[k]] + rest[3 + k:]
-        if first in fn.steps and rest[1:2] and rest[1] in WORDS:
+        if first in fn.steps and rest[1:2] and rest[1] in WORDS and not (rest[1] == "kept" and re.match(r"(if\d|match|joined)", first)):
             rest[1] = WORDS[rest[1]]
             return self.fields_again(first, rest)
         if rest[0] in FIRST:
@@ -327,7 +333,7 @@ def convert(folder, key, names, said):
                 it["drop"] = True
                 continue
             new, vs, ch = loop
-            c = re.match(rf"^{re.escape(name)}((?: [^\s=]+)*?) =\s*(.*)$", body, re.S)
+            c = re.match(rf"^{re.escape(name)}((?:\s+[^\s=]+)*?) =\s*(.*)$", body, re.S)
             if not c:
                 t.say(f"clause of {name}")
                 continue

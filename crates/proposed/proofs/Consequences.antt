@@ -197,9 +197,10 @@ under_not_among threshold j (w ∷ ws) zero k h a = none_before threshold j (j +
 under_not_among threshold j (w ∷ ws) (suc i) k h a =
     let next : j + suc i ≡ j + 1 + i = omega arith in
     let later = under_not_among threshold (j + 1) ws i (omega arith) h in
+    let there : Among (j + 1 + i) (clipped_places threshold j (w ∷ ws)) = subst (λ x. Among x (clipped_places threshold j (w ∷ ws))) next a in
     elim (truth (clipped threshold w)) [
-      | inl beyond ↦ not_first (j + 1 + i) j (clipped_places threshold (j + 1) ws) (λ e. omega arith) later (rw (beyond, next) at a)
-      | inr under ↦ later (rw (under, next) at a)
+      | inl beyond ↦ not_first (j + 1 + i) j (clipped_places threshold (j + 1) ws) (λ e. omega arith) later (rw beyond at there)
+      | inr under ↦ later (rw under at there)
     ]
 
 -- the side that a sample is on is that of its answer

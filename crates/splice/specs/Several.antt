@@ -1,7 +1,7 @@
 -- Several gaps in one call: request P6 of document 02 and one sentence of request P8, which the comments quote. A span is one gap, as
 -- specs/Gap.antt of the crate `inpaint` has it, with the order of its model, as Order.antt there does. Definitions only.
 use Rattle.std.specs.Prelude.{ℕ, Bool, not, ◌||◌, List, [], ◌∷◌, length, ltb, eqb, Float}
-use Rattle.std.specs.Borrow.{Bor}
+use Rattle.std.specs.Borrow.{MutBor}
 use denote.Triple.Both.{Both}
 use Rattle.leaves.specs.Arithmetic.{nought}
 use Rattle.leaves.specs.Choice.{if◌then◌else◌}
@@ -81,8 +81,8 @@ gaps_repair starts lens passes work lists s =
 
 -- ---- The lists as they are lent, in the words of contracts (`Lent` of the crate `recording`): as the call began, and as it ended
 
-abbrev pub answers_lent : {A B C : Type 0} → Both (Bor (List ℕ)) A → Both (Bor (List ℕ)) B → Both (Bor (List ℕ)) C → AnswerLists
+abbrev pub answers_lent : {A B C : Type 0} → Both (MutBor (List ℕ)) A → Both (MutBor (List ℕ)) B → Both (MutBor (List ℕ)) C → AnswerLists
 answers_lent numbers values orders = answer_lists numbers.entry.now values.entry.now orders.entry.now
 
-abbrev pub answers_left : {A B C : Type 0} → Both A (Bor (List ℕ)) → Both B (Bor (List ℕ)) → Both C (Bor (List ℕ)) → AnswerLists
+abbrev pub answers_left : {A B C : Type 0} → Both A (MutBor (List ℕ)) → Both B (MutBor (List ℕ)) → Both C (MutBor (List ℕ)) → AnswerLists
 answers_left numbers values orders = answer_lists numbers.exit.now values.exit.now orders.exit.now

@@ -5,6 +5,7 @@ use native.Mathlib.Omega.{arith}
 use Rattle.redraw.proofs.Workspace.{room_stays}
 use Rattle.declip.proofs.Laws.{runs_begin, run_bridged, run_passed, runs_end}
 use Rattle.declip.proofs.bridge_runs.Goals as goal
+use Rattle.declip.proofs.bridge_runs.Goals.{then-run_begins, else-run_begins}
 
 pub loop-i-init : goal.loop-i-init
 loop-i-init c = (omega arith, runs_begin _ _ _ c.requires.1)
@@ -32,10 +33,10 @@ loop-i-preserved c =
     let begun = c.run_begins.ensures in
     let going = c.loop-i.invariant.1 in (
       omega arith,
-      ⊎_elim
-          (λ t. run_bridged _ samples _ _ _ inside _ begun going _ _ _ t.0.taken t.2.ensures t.3.ensures t.4.given t.6)
-          (λ e. run_passed _ samples _ _ _ inside _ begun going _ e.0.left e.1)
-          c.if-run_begins.branch,
+      elim c.if-run_begins.branch [
+        | then-run_begins w ↦ run_bridged _ samples _ _ _ inside _ begun going _ _ _ w.if-run_begins.true w.run_end.ensures w.bridge.ensures w.bridge.auto.work w.work-is
+        | else-run_begins w ↦ run_passed _ samples _ _ _ inside _ begun going _ w.if-run_begins.false w.work-is
+      ],
     )
 
 pub shape_of-work : goal.shape_of-work

@@ -34,5 +34,5 @@ returns c =
     let rule_is : let a = c.args in called (whole_plan c.threshold_allowed.result (length a.work.now) cubic_declip (declipped a.threshold)) (let a = c.args in state a.samples.now a.marks.now a.counts.now a.journal.now a.used.now) ≡ declip_repair a.threshold (length a.work.now) (let a = c.args in state a.samples.now a.marks.now a.counts.now a.journal.now a.used.now) = declip_is _ _ _ (let a = c.args in state a.samples.now a.marks.now a.counts.now a.journal.now a.used.now) c.threshold_allowed.ensures in
     let a = c.args in
     whole_done _ a.work.now (let a = c.args in state a.samples.now a.marks.now a.counts.now a.journal.now a.used.now) _ c.begin-begun.ensures.0 cubic_declip (declipped a.threshold) _ rule_is
-    _ _ _ _ _ (let l = c.finish.new in state l.0 l.1.0 l.1.1.0 l.1.1.1.0 l.1.1.1.1.0) c.in-Done.is c.begin-begun.ensures.1 c.work-1.given
+    _ _ _ _ _ (let l = c.finish.new in state l.samples l.marks l.counts l.journal l.used) c.in-Done.is c.begin-begun.ensures.1 c.work-1.given
     c.bridge_runs.ensures c.work-2-1.given c.finish.ensures.0 c.finish.ensures.1

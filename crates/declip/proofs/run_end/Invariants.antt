@@ -10,7 +10,7 @@ use Rattle.declip.proofs.run_end.Given as goal
 abbrev pub invariant-loop-end : goal.invariant-loop-end
 invariant-loop-end l = let test = clipped_at l.threshold l.samples in
     let n = length l.samples in
-    (l.end ≤ n) × (l.end + run_length (clipped_at l.end.args.threshold l.end.args.samples.now) (n - l.end) ≡ l.start + run_length (clipped_at l.start.args.threshold l.start.args.samples.now) (n - l.start))
+    (l.end ≤ n) × (l.end + run_length test l.end (n - l.end) ≡ l.start + run_length test l.start (n - l.start))
 
 abbrev pub decreases-loop-end : goal.decreases-loop-end
 decreases-loop-end l = length l.samples - l.end

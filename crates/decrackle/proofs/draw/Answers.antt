@@ -11,7 +11,7 @@ pub smooth_runs-requires : goal.smooth_runs-requires
 smooth_runs-requires c =
     let pre = c.requires in
     let made = c.flag_samples in (
-      room_stays _ _ _ pre.0 made.auto.1.1.1.0,
+      room_stays _ _ _ pre.0 made.auto.work,
       first_clear _ _ _ _ _ pre.1 made.ensures,
       last_clear _ _ _ _ _ pre.1 made.ensures c.if-n-lt-LEAST_SAMPLES.false,
     )

@@ -5,6 +5,7 @@ use mathlib.Core.Logic.{⊎_elim}
 use native.Mathlib.Omega.{arith}
 use Rattle.decrackle.proofs.Drawing.{smoothing_room, smooth_none, run_inside, smooth_one, smooth_all}
 use Rattle.decrackle.proofs.smooth_runs.Goals as goal
+use Rattle.decrackle.proofs.smooth_runs.Goals.{then-run_begins, else-run_begins}
 
 pub loop-i-init : goal.loop-i-init
 loop-i-init c = (omega arith, refl, refl, refl)
@@ -31,11 +32,11 @@ loop-i-smaller c = omega (arith, c.loop-i-test.true)
 
 pub loop-i-preserved : goal.loop-i-preserved
 loop-i-preserved c =
-    ⊎_elim
-    (λ w. smooth_one _ _ _ _ c.loop-i.invariant c.loop-i-test.true _ c.run_begins.ensures w.0.taken _ w.3.ensures
-    _ _ w.4.kept.0 w.4.ensures w.7)
-    (λ w. smooth_none _ _ _ _ c.loop-i.invariant c.loop-i-test.true _ c.run_begins.ensures _ w.0.left w.1)
-    c.if-run_begins.branch
+    elim c.if-run_begins.branch [
+      | then-run_begins w ↦ smooth_one _ _ _ _ c.loop-i.invariant c.loop-i-test.true _ c.run_begins.ensures w.if-run_begins.true _ w.run_end.ensures
+          _ _ w.repair_hermite.auto.work w.repair_hermite.ensures w.work-is
+      | else-run_begins w ↦ smooth_none _ _ _ _ c.loop-i.invariant c.loop-i-test.true _ c.run_begins.ensures _ w.if-run_begins.false w.work-is
+    ]
 
 pub shape_of-work : goal.shape_of-work
 shape_of-work c = c.loop-i.invariant.1

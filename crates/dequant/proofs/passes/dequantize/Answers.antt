@@ -31,5 +31,5 @@ returns c =
     let a = c.args in
     whole_drawn _ a.work.now (let a = c.args in state a.samples.now a.marks.now a.counts.now a.journal.now a.used.now) _ c.begin-begun.ensures.0 dequantize (dequantized a.bits a.strength) _
     (dequantize_is _ _ _ (let a = c.args in state a.samples.now a.marks.now a.counts.now a.journal.now a.used.now))
-    _ _ _ _ _ (let l = c.finish.new in state l.0 l.1.0 l.1.1.0 l.1.1.1.0 l.1.1.1.1.0) c.in-Done.is c.begin-begun.ensures.1 c.work-1.given
+    _ _ _ _ _ (let l = c.finish.new in state l.samples l.marks l.counts l.journal l.used) c.in-Done.is c.begin-begun.ensures.1 c.work-1.given
     c.draw.ensures c.work-2-1.given c.finish.ensures.0 c.finish.ensures.1

@@ -111,13 +111,13 @@ pub shape_of-samples-in_default-entered : goal.shape_of-samples-in_default-enter
 shape_of-samples-in_default-entered c = refl
 
 pub shape_of-marks-in_default-entered : goal.shape_of-marks-in_default-entered
-shape_of-marks-in_default-entered c = c.enter_span-entered.auto.1.0
+shape_of-marks-in_default-entered c = c.enter_span-entered.auto.marks
 
 pub shape_of-counts-in_default-entered : goal.shape_of-counts-in_default-entered
-shape_of-counts-in_default-entered c = c.enter_span-entered.auto.1.1.0
+shape_of-counts-in_default-entered c = c.enter_span-entered.auto.counts
 
 pub shape_of-journal-in_default-entered : goal.shape_of-journal-in_default-entered
-shape_of-journal-in_default-entered c = c.enter_span-entered.auto.1.1.1.0
+shape_of-journal-in_default-entered c = c.enter_span-entered.auto.journal
 
 pub shape_of-work-in_default-entered : goal.shape_of-work-in_default-entered
 shape_of-work-in_default-entered c =
@@ -211,13 +211,13 @@ model_fill-requires c =
     fill_count _ _ _ _ _ _ gave inside
 
 pub shape_of-marks : goal.shape_of-marks
-shape_of-marks c = c.enter_span-entered.auto.1.0
+shape_of-marks c = c.enter_span-entered.auto.marks
 
 pub shape_of-counts : goal.shape_of-counts
-shape_of-counts c = c.enter_span-entered.auto.1.1.0
+shape_of-counts c = c.enter_span-entered.auto.counts
 
 pub shape_of-journal : goal.shape_of-journal
-shape_of-journal c = c.enter_span-entered.auto.1.1.1.0
+shape_of-journal c = c.enter_span-entered.auto.journal
 
 pub shape_of-work : goal.shape_of-work
 shape_of-work c =

@@ -12,7 +12,7 @@ use Rattle.inpaint.proofs.window.Laws.{Right, gap_right}
 use Rattle.inpaint.proofs.gap.Laws.{plan_gap, plan_short, plan_read, plan_line, plan_model}
 use Rattle.recording.proofs.Performing.{cleared_too}
 use Rattle.inpaint.proofs.fill.Laws.{refused_order}
-use Rattle.inpaint.proofs.gap.Laws.{sizes_refused, refused_as, line_order, model_order, whole_call, read_keeps}
+use Rattle.inpaint.proofs.gap.Laws.{sizes_refused, ends_as, refused_as, line_order, model_order, whole_call, read_keeps}
 use Rattle.inpaint.proofs.gap.inpaint_gap.Goals as goal
 
 pub returns-in_default : goal.returns-in_default
@@ -29,7 +29,7 @@ returns-in_default c =
 pub returns-then-gap_wrong : goal.returns-then-gap_wrong
 returns-then-gap_wrong c =
     let plan = plan_gap _ _ _ _ _ (sym c.gap_wrong.ensures ∙ c.if-gap_wrong.true) in
-    refusing c.before.before _ _ _ c.without_model-then-gap_wrong.ensures (ends c.before.before _ plan _ (refused_as _ _)) refl
+    whole_call (let a = c.args in state a.samples.now a.marks.now a.counts.now a.journal.now a.used.now) (let a = c.args in state a.samples.now a.marks.now a.counts.now a.journal.now a.used.now) c.args.start c.args.len c.args.passes (length c.args.work.now) (needed (length c.args.samples.now) c.args.start c.args.len) _ _ _ c.args.work.now c.args.work.now c.without_model-then-gap_wrong.ensures.0 (ends_as (let a = c.args in state a.samples.now a.marks.now a.counts.now a.journal.now a.used.now) c.args.start c.args.len c.args.passes (length c.args.work.now) _ c.check_sizes-sized.ensures _ c.in-Done.is _ plan _ (refused_as _ _)) refl c.without_model-then-gap_wrong.ensures.1
 
 pub needed_for-needed-requires : goal.needed_for-needed-requires
 needed_for-needed-requires c =
@@ -42,7 +42,7 @@ pub returns-then-work-needed : goal.returns-then-work-needed
 returns-then-work-needed c =
     let not_wrong : let a = c.args in gap_wrong (length a.samples.now) a.start a.len ≡ false = sym c.gap_wrong.ensures ∙ c.if-gap_wrong.false in
     let plan = plan_short _ _ _ _ _ not_wrong _ c.needed_for-needed.ensures c.if-work-needed.true in
-    refusing c.before.before.before.before _ _ _ c.without_model-then-work-needed.ensures (ends c.before.before.before.before _ plan _ (refused_as _ _)) refl
+    whole_call (let a = c.args in state a.samples.now a.marks.now a.counts.now a.journal.now a.used.now) (let a = c.args in state a.samples.now a.marks.now a.counts.now a.journal.now a.used.now) c.args.start c.args.len c.args.passes (length c.args.work.now) (needed (length c.args.samples.now) c.args.start c.args.len) _ _ _ c.args.work.now c.args.work.now c.without_model-then-work-needed.ensures.0 (ends_as (let a = c.args in state a.samples.now a.marks.now a.counts.now a.journal.now a.used.now) c.args.start c.args.len c.args.passes (length c.args.work.now) _ c.check_sizes-sized.ensures _ c.in-Done.is _ plan _ (refused_as _ _)) refl c.without_model-then-work-needed.ensures.1
 
 pub check_known-read-requires : goal.check_known-read-requires
 check_known-read-requires c =
@@ -60,8 +60,7 @@ returns-in_default-read c =
     let plan = plan_read _ _ _ _ _ not_wrong enough _ _ read out in
     let alone = c.without_model-in_default-read.ensures in
     let kept = read_keeps nought _ _ _ _ read _ out (let a = c.args in needed (length a.samples.now) a.start a.len) c.args.work.now in
-    refusing c.before.before.before.before.before.before.before _ _ _ (alone.0 ∙ out, alone.1) (ends c.before.before.before.before.before.before.before _ plan _ (refused_as (let a = c.args in state a.samples.now a.marks.now a.counts.now a.journal.now a.used.now) _))
-    (kept ∙ ap (λ (r : Answer). work_after nought (let a = c.args in needed (length a.samples.now) a.start a.len) r c.args.work.now) out)
+    whole_call (let a = c.args in state a.samples.now a.marks.now a.counts.now a.journal.now a.used.now) (let a = c.args in state a.samples.now a.marks.now a.counts.now a.journal.now a.used.now) c.args.start c.args.len c.args.passes (length c.args.work.now) (needed (length c.args.samples.now) c.args.start c.args.len) _ _ _ c.args.work.now c.args.work.now (alone.0 ∙ out) (ends_as (let a = c.args in state a.samples.now a.marks.now a.counts.now a.journal.now a.used.now) c.args.start c.args.len c.args.passes (length c.args.work.now) _ c.check_sizes-sized.ensures _ c.in-Done.is _ plan _ (refused_as (let a = c.args in state a.samples.now a.marks.now a.counts.now a.journal.now a.used.now) _)) (kept ∙ ap (λ (r : Answer). work_after nought (let a = c.args in needed (length a.samples.now) a.start a.len) r c.args.work.now) out) alone.1
 
 pub repair_by_line-by_line-requires : goal.repair_by_line-by_line-requires
 repair_by_line-by_line-requires c =
@@ -84,7 +83,7 @@ returns-then-len-gt-MAX_SOLVE c =
     let alone = c.without_model-then-len-gt-MAX_SOLVE.ensures in
     let answer = c.repair_by_line-by_line.result in
     whole_call (let a = c.args in state a.samples.now a.marks.now a.counts.now a.journal.now a.used.now) _ a.start a.len a.passes (length w) (let a = c.args in needed (length a.samples.now) a.start a.len) _ answer _ w _ alone.0
-    (ends c.before.before.before.before.before.before.before.before.before.before.before.before.before.before.before.before.before.before.before.before.before.before.before.before.before.before _ plan _ c.repair_by_line-by_line.ensures)
+    (ends_as (let a = c.args in state a.samples.now a.marks.now a.counts.now a.journal.now a.used.now) c.args.start c.args.len c.args.passes (length c.args.work.now) _ c.check_sizes-sized.ensures _ c.in-Done.is _ plan _ c.repair_by_line-by_line.ensures)
     (commit_clears nought (let a = c.args in state a.samples.now a.marks.now a.counts.now a.journal.now a.used.now) _ _ answer _ c.repair_by_line-by_line.ensures (let a = c.args in needed (length a.samples.now) a.start a.len) w _ done)
     (alone.1 ∙ line_order a.start a.len a.passes a.samples.now answer c.if-len-gt-MAX_SOLVE.true)
 
@@ -113,6 +112,6 @@ returns c =
     let a = c.args in
     let answer = c.repair_by_model-by_model.result.answer in
     whole_call (let a = c.args in state a.samples.now a.marks.now a.counts.now a.journal.now a.used.now) _ a.start a.len a.passes (length w) (let a = c.args in needed (length a.samples.now) a.start a.len) answer answer _ w _ refl
-    (ends c.before.before.before.before.before.before.before.before.before.before.before.before.before.before.before.before.before.before.before.before.before.before.before.before.before.before.before.before _ plan _ left.0)
+    (ends_as (let a = c.args in state a.samples.now a.marks.now a.counts.now a.journal.now a.used.now) c.args.start c.args.len c.args.passes (length c.args.work.now) _ c.check_sizes-sized.ensures _ c.in-Done.is _ plan _ left.0)
     (commit_clears nought (let a = c.args in state a.samples.now a.marks.now a.counts.now a.journal.now a.used.now) _ _ answer _ left.0 (let a = c.args in needed (length a.samples.now) a.start a.len) w _ done)
     (left.3 ∙ model_order a.start a.len a.passes a.samples.now answer right.inside)

@@ -13,7 +13,7 @@ pub first_named-format-requires : goal.first_named-format-requires
 first_named-format-requires c = walk_of_whole _ (sym c.is_whole.ensures ∙ not-false _ (ap not c.if-not-is_whole.false))
 
 pub first_named-data-requires : goal.first_named-data-requires
-first_named-data-requires c = first-named-requires c.before κs
+first_named-data-requires c = walk_of_whole _ (sym c.is_whole.ensures ∙ not-false _ (ap not c.if-not-is_whole.false))
 
 pub returns-then-data-format : goal.returns-then-data-format
 returns-then-data-format c =

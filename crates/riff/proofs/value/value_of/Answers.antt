@@ -12,7 +12,7 @@ truncating_f32_to_u64-requires c =
     let below : Cast 1 32768 (neg c.clamp32-whole.result) = let sixteen : Sixteen c.clamp32-whole.result = let whole : c.clamp32-whole.result ≡ whole_of c.args.word = whole_by_code _ _ _ _ c.f32_of_word.ensures c.round_to_whole.ensures c.clamp32-whole.ensures in
     rw whole (whole_sixteen _ c.requires) in
     negated _ sixteen (rw nought_word at c.if-whole.true) in
-    (below.above, below.under)
+    record { lower_bound = below.above; upper_bound = below.under }
 
 pub overflow_sub-result : goal.overflow_sub-result
 overflow_sub-result c =
@@ -33,7 +33,7 @@ truncating_f32_to_u64-requires-else-whole c =
     let above : Cast 0 32767 c.clamp32-whole.result = let sixteen : Sixteen c.clamp32-whole.result = let whole : c.clamp32-whole.result ≡ whole_of c.args.word = whole_by_code _ _ _ _ c.f32_of_word.ensures c.round_to_whole.ensures c.clamp32-whole.ensures in
     rw whole (whole_sixteen _ c.requires) in
     plain _ sixteen (rw nought_word at c.if-whole.false) in
-    (above.above, above.under)
+    record { lower_bound = above.above; upper_bound = above.under }
 
 pub overflow_cast-result-else-whole : goal.overflow_cast-result-else-whole
 overflow_cast-result-else-whole c =

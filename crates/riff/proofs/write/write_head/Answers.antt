@@ -18,4 +18,4 @@ head_is out after rate n twice e stored = rw e at stored
 
 pub returns : goal.returns
 returns c =
-    head_is _ _ _ _ _ c.wrapping_add_u32.ensures c.encode.ensures
+    head_is _ _ _ _ _ c.wrapping_add_u32.ensures.value c.encode.ensures

@@ -40,9 +40,9 @@ pub loop-i-preserved : goal.loop-i-preserved
 loop-i-preserved c =
     let a = c.args in (
       omega arith,
-      as_long c.loop-i.out _ (half_bytes c.value_of_lem.result) (44 + 2 * c.loop-i.i) c.store_half.ensures ∙ c.loop-i.invariant.1,
+      as_long c.loop-i.out _ (half_bytes c.value_of.result) (44 + 2 * c.loop-i.i) c.store_half.ensures ∙ c.loop-i.invariant.1,
       value_more c.loop-i.out _ _ a.samples.now (44 + 2 * c.loop-i.i) _ c.loop-i.i _ (omega arith) (omega arith)
-          c.value_of_lem.ensures c.store_half.ensures c.loop-i.invariant.2,
+          c.value_of.ensures c.store_half.ensures c.loop-i.invariant.2,
     )
 
 pub shape_of-out : goal.shape_of-out

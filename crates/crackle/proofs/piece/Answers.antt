@@ -1,0 +1,33 @@
+-- `crackle::piece` meets its contract: each way out is a line of the rule. Assumes nothing.
+use native.Mathlib.Omega.{arith}
+use Rattle.crackle.proofs.Steps.{not_much, piece_few, piece_much, piece_short, piece_out, piece_taken}
+use Rattle.crackle.proofs.piece.Goals as goal
+
+pub returns-then-held-lt-MEAN_OVER : goal.returns-then-held-lt-MEAN_OVER
+returns-then-held-lt-MEAN_OVER c = piece_few _ _ _ _ c.if-held-lt-MEAN_OVER.true
+
+pub returns-then-too_much : goal.returns-then-too_much
+returns-then-too_much c =
+    piece_much _ _ _ _ c.if-held-lt-MEAN_OVER.false _ c.too_much.ensures _ c.if-too_much.true c.close.ensures
+
+pub returns-then-flags-due : goal.returns-then-flags-due
+returns-then-flags-due c =
+    piece_short _ _ _ _ c.if-held-lt-MEAN_OVER.false _ c.too_much.ensures c.if-too_much.false _ c.flags_due-due.ensures c.if-flags-due.true
+
+pub returns-in_default : goal.returns-in_default
+returns-in_default c =
+    piece_out _ _ _ _ c.if-held-lt-MEAN_OVER.false _ c.too_much.ensures c.if-too_much.false _ c.flags_due-due.ensures c.if-flags-due.false _
+    c.check_words-read.ensures _ _ c.in_default.is c.close-in_default.ensures
+
+pub take_in-requires : goal.take_in-requires
+take_in-requires c =
+    let d = c.args.detector in (
+      c.if-held-lt-MEAN_OVER.false,
+      omega (arith, not_much d _ _ c.too_much.ensures c.if-too_much.false),
+      omega (arith, c.flags_due-due.ensures, c.if-flags-due.false),
+    )
+
+pub returns : goal.returns
+returns c =
+    piece_taken _ _ _ _ c.if-held-lt-MEAN_OVER.false _ c.too_much.ensures c.if-too_much.false _ c.flags_due-due.ensures c.if-flags-due.false _
+    c.check_words-read.ensures _ _ _ _ c.in-Done.is c.take_in.ensures
