@@ -1,0 +1,9 @@
+-- `repair::repair_recording` meets its contract: it scans what opening left. Assumes nothing.
+use Rattle.monitor.proofs.Scanning.{opened_then}
+use Rattle.repair.specs.Program.{repairing, repairing_orders}
+use Rattle.repair.proofs.repair_recording.Goals as goal
+
+pub returns : goal.returns
+unfolding repairing repairing_orders
+returns c =
+    opened_then _ _ _ _ _ _ _ c.«open».ensures c.scan_recording.ensures
