@@ -1,5 +1,5 @@
 /* Flags crackle from C while the sound arrives, in pieces of 480 samples. On x86-64, from the repository's root, with
- * the library that `rt staticlib cathar` proves and builds:
+ * the library that `./staticlib` proves and builds:
  *
  *     cc -I include examples/crackle.c target/staticlib/libcathar.a -o crackle
  *     ./crackle

@@ -1,5 +1,5 @@
 //! Flags crackle from Rust while the sound arrives, in pieces of 480 samples. On x86-64, from the repository's root,
-//! with the library that `rt staticlib cathar` proves and builds:
+//! with the library that `./staticlib` proves and builds:
 //!
 //!     rustc -L target/staticlib examples/crackle.rs -o crackle
 //!     ./crackle

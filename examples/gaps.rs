@@ -1,5 +1,5 @@
 //! Repairs three gaps in one call from Rust, of which one is refused, and takes the last one back. On x86-64, from the
-//! repository's root, with the library that `rt staticlib cathar` proves and builds:
+//! repository's root, with the library that `./staticlib` proves and builds:
 //!
 //!     rustc -L target/staticlib examples/gaps.rs -o gaps
 //!     ./gaps

@@ -1,5 +1,5 @@
 /* Proposes samples for a clipped top from C, and takes them back. On x86-64, from the repository's root, with the
- * library that `rt staticlib cathar` proves and builds:
+ * library that `./staticlib` proves and builds:
  *
  *     cc -I include examples/propose.c target/staticlib/libcathar.a -o propose
  *     ./propose

@@ -1,5 +1,5 @@
 //! Proposes samples for a clipped top from Rust, and takes them back. On x86-64, from the repository's root, with the
-//! library that `rt staticlib cathar` proves and builds:
+//! library that `./staticlib` proves and builds:
 //!
 //!     rustc -L target/staticlib examples/propose.rs -o propose
 //!     ./propose

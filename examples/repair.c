@@ -1,5 +1,5 @@
 /* Repairs a recording of six samples from C, and takes the repair back. On x86-64, from the repository's root,
- * with the library that `rt staticlib cathar` proves and builds:
+ * with the library that `./staticlib` proves and builds:
  *
  *     cc -I include examples/repair.c target/staticlib/libcathar.a -o repair
  *     ./repair

@@ -1,5 +1,5 @@
 //! Keeps a recorder's settings in a stored block from Rust, reads that of an older recorder, and scans a recording by
-//! each. On x86-64, from the repository's root, with the library that `rt staticlib cathar` proves and builds:
+//! each. On x86-64, from the repository's root, with the library that `./staticlib` proves and builds:
 //!
 //!     rustc -L target/staticlib examples/settings.rs -o settings
 //!     ./settings

@@ -1,5 +1,5 @@
 /* Reads a WAV file from C, repairs a gap in it, and writes it again. On x86-64, from the repository's root, with the
- * library that `rt staticlib cathar` proves and builds:
+ * library that `./staticlib` proves and builds:
  *
  *     cc -I include examples/wav.c target/staticlib/libcathar.a -o wav
  *     ./wav

@@ -1,5 +1,5 @@
 //! Reads a WAV file from Rust, repairs a gap in it, and writes it again. On x86-64, from the repository's root, with
-//! the library that `rt staticlib cathar` proves and builds:
+//! the library that `./staticlib` proves and builds:
 //!
 //!     rustc -L target/staticlib examples/wav.rs -o wav
 //!     ./wav

@@ -10,7 +10,7 @@ fn main() {
     let archive = folder.join("libcathar.a");
     assert!(
         archive.is_file(),
-        "there is no {}: run `rt staticlib cathar`, or host/test, which does",
+        "there is no {}: run `./staticlib`, or host/test, which does",
         archive.display()
     );
     println!("cargo:rerun-if-changed={}", archive.display());

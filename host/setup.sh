@@ -112,5 +112,5 @@ cd "$(dirname "$0")/.."
 need rt
 find_original
 check_original
-rt staticlib cathar
+./staticlib
 cd host

@@ -16,7 +16,7 @@ import os
 import re
 import sys
 
-WORD = re.compile(r"[A-Za-z_◌][\w'′\-]*")
+WORD = re.compile(r"(?<![0-9A-Za-z_])[A-Za-z_◌][\w'′\-]*")
 DECLARED = re.compile(r"^[ ]*(?:(?:abbrev|unfoldable|pub)[ ]+)*([A-Za-z_][\w'\-]*)[ ]*(?:\{[^{}\n]*\}[ ]*|\([^()\n]*\)[ ]*)*:[ ]+(\S+)", re.M)
 # words of the library and of Rattle's logic that lemmas are named after
 NAMES = set("length take drop get_or set sets map append cons sum replicate reverse filter".split())

@@ -1,6 +1,6 @@
 -- The table of refusals, as specs/Demands.antt states it: the number that each rule gives is that of the first line that applies.
 -- Assumes nothing.
-use mathlib.Core.Path.{◌≡◌, refl, sym, ap, ◌∙◌}
+use mathlib.Core.Path.{◌≡◌, refl, sym, ap, subst, ◌∙◌}
 use mathlib.Core.Bool.{Bool, true, false, not, ◌&&◌, ◌||◌}
 use mathlib.Core.List.{List, [], ◌∷◌, ◌++◌}
 use mathlib.Core.Logic.{◌⊎◌, inl, inr}
@@ -10,7 +10,7 @@ use borrow.Author.Tests.{eqb-true, eqb-false, le-leb, lt-leb}
 use lib.ListN.{length}
 use lib.Dec.{leb, ltb, eqb}
 use lib.Ieee.{Float}
-use Rattle.leaves.specs.Choice.{if◌then◌else◌}
+use Rattle.std.specs.Prelude.{if◌then◌else◌}
 use Rattle.leaves.specs.Floats.{in_range}
 use Rattle.leaves.proofs.Choice.{EitherWay, truth}
 use Rattle.leaves.proofs.Numbers.{lt_or_ge}
@@ -43,7 +43,11 @@ first_among applies [] = inl refl
 first_among applies (k ∷ ks) =
     elim (truth (applies k)) [
       | inl holds ↦ rw holds (inr (inl refl))
-      | inr fails ↦ rw fails (elim (first_among applies ks) [ inl none ↦ inl none | inr some ↦ inr (inr some) ])
+      | inr fails ↦
+          let same : first applies (k ∷ ks) ≡ first applies ks = rw fails refl in
+          let later : (first applies ks ≡ 0) ⊎ Among (first applies ks) (k ∷ ks) =
+          elim (first_among applies ks) [ inl none ↦ inl none | inr some ↦ inr (inr some) ] in
+          subst (λ (m : ℕ). (m ≡ 0) ⊎ Among m (k ∷ ks)) (sym same) later
     ]
 
 -- among more

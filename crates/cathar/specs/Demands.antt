@@ -1,7 +1,7 @@
 -- The three demands, of the calls of this library (Calls.antt): each in its words, and then as statements. They are proved as
 -- theorems of the same names, written small, in proofs/Demands.antt, which nobody has to read.
 use Rattle.std.specs.Prelude.{ℕ, ◌+◌, ◌≤◌, ◌<◌, ◌≡◌, List, [], ◌∷◌, ◌++◌, reverse, ◌⊎◌, length, get_or, replicate, eqb, Float}
-use Rattle.leaves.specs.Choice.{if◌then◌else◌}
+use Rattle.std.specs.Prelude.{if◌then◌else◌}
 use Rattle.recording.specs.Recording.{State, Placed, change}
 use Rattle.recording.specs.Marks.{measured, not_received}
 use Rattle.recording.specs.Counts as blocks

@@ -5,7 +5,7 @@
 -- the lines in the order of `tests`, and answers with the first that applies. That each call does so is `GivenExactlyWhen` of Demands.antt.
 -- Definitions only.
 use Rattle.std.specs.Prelude.{ℕ, ◌-◌, Bool, true, false, not, ◌&&◌, ◌||◌, List, [], ◌∷◌, ◌++◌, length, leb, ltb, eqb, Float}
-use Rattle.leaves.specs.Choice.{if◌then◌else◌}
+use Rattle.std.specs.Prelude.{if◌then◌else◌}
 use Rattle.leaves.specs.Floats.{in_range}
 use Rattle.recording.specs.Recording.{State, Placed, Plan, refuse, change, picked, entry_size, differ, counts_wrong, too_many, over_used}
 use Rattle.recording.specs.Recording.{malformed}

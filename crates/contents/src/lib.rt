@@ -1,6 +1,7 @@
 // A contents table: how many parts there are, and of each its number, where its body begins and how long it is.
 // The bodies follow it, touching. So many bytes may stand before the table.
 #![tactic(auto)]
+
 ghost use Rattle.std.specs.Prelude.{◌≡◌, [], ◌∷◌, ◌+◌, ◌*◌, ◌≤◌, ◌<◌, length, get_or};
 ghost use Rattle.std.proofs.lemmas.List.Edits.{sets};
 ghost use Rattle.wire.specs.Wire.{encoded, Below, words_to};

@@ -13,7 +13,7 @@ use lib.ListN.{length, take, drop, replicate, length-append, length-drop, length
 use lib.Seq.{drop-drop, drop-append_seam, take_at}
 use lib.Ieee.{Float}
 use Rattle.leaves.specs.Arithmetic.{float}
-use Rattle.leaves.specs.Choice.{if◌then◌else◌}
+use Rattle.std.specs.Prelude.{if◌then◌else◌}
 use Rattle.leaves.specs.Floats.{in_range}
 use Rattle.leaves.proofs.Choice.{truth}
 use Rattle.leaves.proofs.Parts.{part_of_sets}

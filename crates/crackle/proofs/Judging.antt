@@ -10,7 +10,7 @@ use lib.ListN.{length, get_or, take, drop, set, replicate, drop_of_length-le}
 use lib.Seq.{sets, drop-cons, get_or-take, length-take-le, take_all}
 use lib.Ieee.{Float, binary32, of_bits, to_bits}
 use Rattle.leaves.specs.Arithmetic.{◌+₃₂◌, nought, float}
-use Rattle.leaves.specs.Choice.{if◌then◌else◌}
+use Rattle.std.specs.Prelude.{if◌then◌else◌}
 use Rattle.leaves.specs.Floats.{magnitude}
 use Rattle.leaves.proofs.Literals.{nought_word}
 use Rattle.decrackle.specs.declared.Start.{Start}

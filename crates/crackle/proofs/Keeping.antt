@@ -11,7 +11,7 @@ use lib.ListN.{length, get_or, set, take, drop, length-append, length-drop, take
 use lib.Seq.{sets, sets-eq, drop_at, take_all, length-take-le}
 use lib.Ieee.{Float, binary32, of_bits, to_bits}
 use Rattle.leaves.specs.Arithmetic.{float}
-use Rattle.leaves.specs.Choice.{if◌then◌else◌}
+use Rattle.std.specs.Prelude.{if◌then◌else◌}
 use Rattle.recording.specs.Answers.{number}
 use Rattle.recording.specs.declared.Reason.{Reason}
 use Rattle.recording.specs.declared.Reason.TheVariants.{Workspace}

@@ -15,7 +15,7 @@ use lib.Ieee.{Float, binary32, to_bits, fits}
 use lib.Ieee.Bits.{of_bits-to_bits, of_bits-fits}
 use lib.Ieee.Fits.{sub-fits}
 use Rattle.leaves.specs.Arithmetic.{◌+₃₂◌, ◌*₃₂◌, nought, half, float}
-use Rattle.leaves.specs.Choice.{if◌then◌else◌}
+use Rattle.std.specs.Prelude.{if◌then◌else◌}
 use Rattle.leaves.specs.Floats.{magnitude}
 use Rattle.leaves.proofs.Choice.{truth, picks}
 use Rattle.leaves.proofs.Literals.{nought_word}

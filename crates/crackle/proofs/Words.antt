@@ -13,7 +13,7 @@ use lib.Ieee.{Float, binary32, fits, lt, is_nan}
 use lib.Ieee.Bits.{of_bits-to_bits, of_bits-fits}
 use lib.Ieee.Fits.{add-fits, sub-fits, div-fits, round-fits}
 use Rattle.leaves.specs.Arithmetic.{◌-₃₂◌, ◌*₃₂◌, ◌/₃₂◌, nought, one, near, float, count}
-use Rattle.leaves.specs.Choice.{if◌then◌else◌}
+use Rattle.std.specs.Prelude.{if◌then◌else◌}
 use Rattle.leaves.specs.Floats.{larger, held}
 use Rattle.leaves.proofs.Choice.{picks}
 use Rattle.recording.specs.Answers.{number}

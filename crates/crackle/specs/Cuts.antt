@@ -1,7 +1,7 @@
 -- However a recording is cut: what requests P4 and P7 say of the pieces of a whole, whose sentences the comments quote, for either start.
 -- Statements only, each proved under the same name, written small, in proofs/Cuts.antt, and the last two in proofs/Words.antt.
 use Rattle.std.specs.Prelude.{ℕ, ◌+◌, ◌-◌, ◌≤◌, ◌<◌, ◌≡◌, Bool, true, false, List, [], ◌∷◌, ◌++◌, map, ◌⊎◌, length, take, replicate, ltb, Float}
-use Rattle.leaves.specs.Choice.{if◌then◌else◌}
+use Rattle.std.specs.Prelude.{if◌then◌else◌}
 use Rattle.recording.specs.Answers.{number}
 use Rattle.recording.specs.Recording.{most_samples, readable}
 use Rattle.recording.specs.declared.Reason.TheVariants.{Read}

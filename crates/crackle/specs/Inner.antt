@@ -1,7 +1,7 @@
 -- What an inner function of this crate speaks of: nothing that a promise of a call needs. Definitions only.
 use Rattle.std.specs.Prelude.{ℕ, Bool, false, List, ltb, eqb, Float}
 use Rattle.std.proofs.lemmas.List.Edits.{sets}
-use Rattle.leaves.specs.Choice.{if◌then◌else◌}
+use Rattle.std.specs.Prelude.{if◌then◌else◌}
 use Rattle.recording.specs.Answers.{number}
 use Rattle.recording.specs.declared.Answer.{Answer}
 use Rattle.decrackle.specs.Decrackle.{flagged, least_samples}

@@ -6,7 +6,7 @@ use Rattle.leaves.specs.Arithmetic.{◌+₃₂◌, ◌-₃₂◌, ◌*₃₂◌,
 use Rattle.leaves.specs.Floats.{magnitude}
 use Rattle.recording.specs.Recording.{State, Ended, Plan, called}
 use Rattle.recording.specs.Marks.{cubic_declip}
-use Rattle.leaves.specs.Choice.{if◌then◌else◌}
+use Rattle.std.specs.Prelude.{if◌then◌else◌}
 use Rattle.redraw.specs.Whole.{sample, store, Drawn, drawn, untouched, whole_plan}
 use Rattle.redraw.specs.Runs.{over_runs}
 

@@ -6,7 +6,7 @@ use Rattle.std.specs.Float.Ieee.{lt, is_nan, add, sub, mul, div, neg}
 use Rattle.leaves.specs.Arithmetic.{◌+₃₂◌, ◌-₃₂◌, ◌*₃₂◌, ◌/₃₂◌, nought, one, half, near, float, count}
 use Rattle.leaves.specs.Floats.{magnitude, larger, held}
 use Rattle.recording.specs.Recording.{State, Ended, Plan, called}
-use Rattle.leaves.specs.Choice.{if◌then◌else◌}
+use Rattle.std.specs.Prelude.{if◌then◌else◌}
 use Rattle.recording.specs.Marks as marks
 use Rattle.redraw.specs.Whole.{sample, store, Drawn, drawn, untouched, whole_plan}
 use Rattle.redraw.specs.Runs.{over_runs}

@@ -1,7 +1,7 @@
 -- Where a scan sets mark 1, a model of it made the sample, and its order stands in the list. Assumes nothing.
 use Rattle.std.proofs.Common.{◌≡◌, ℕ, ◌+◌, ◌<◌, ◌≤◌, false, ltb, ◌⊎◌, List, [], ◌∷◌, length, get_or, sym, refl, ap, ◌∙◌, inl, inr, arith}
 use native.Mathlib.Decide.{ℕ_discrete}
-use Rattle.leaves.specs.Choice.{if◌then◌else◌}
+use Rattle.std.specs.Prelude.{if◌then◌else◌}
 use Rattle.leaves.proofs.Choice.{truth, picks, picks_by}
 use Rattle.recording.specs.Recording.{State, Ended, Plan, refuse, change, places, unless_read, unless_refused, fitting, carried, performed}
 use Rattle.recording.specs.Recording.{refused}

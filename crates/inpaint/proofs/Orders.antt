@@ -4,7 +4,7 @@ use Rattle.std.proofs.Common.{◌≡◌, ℕ, zero, suc, ◌+◌, ◌-◌, ◌<�
 use lib.ListN.{length-replicate, get_or-replicate}
 use lib.Seq.{sets, length-sets}
 use lib.Ieee.{Float}
-use Rattle.leaves.specs.Choice.{if◌then◌else◌}
+use Rattle.std.specs.Prelude.{if◌then◌else◌}
 use Rattle.leaves.proofs.Choice.{truth, picks}
 use Rattle.leaves.proofs.Lists.{read_before, read_after, read_there}
 use Rattle.recording.specs.Recording.{State, Ended, ended, Plan, refuse, change, fitting, alike, ranged, entered, carried, performed, called}

@@ -13,7 +13,7 @@ use Rattle.model.proofs.Passes.{Same, stored_same, solved_same, order_same, one_
 use Rattle.model.proofs.Orders.{every_pass_alike}
 use Rattle.inpaint.specs.Gap.{gap_wrong, context, from, to, window_size, window, narrow_word, needed}
 use Rattle.recording.specs.Recording.{Plan, refuse, unless_read}
-use Rattle.leaves.specs.Choice.{if◌then◌else◌}
+use Rattle.std.specs.Prelude.{if◌then◌else◌}
 use Rattle.recording.specs.declared.Reason.TheVariants.{Gap, Workspace}
 use Rattle.recording.specs.declared.Answer.{Answer}
 use Rattle.inpaint.specs.Gap.{known_before, known_behind, all_readable, left_of, right_of, line, model}

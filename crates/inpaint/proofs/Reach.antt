@@ -1,5 +1,5 @@
 -- How far the repair of a gap reaches, as specs/Reach.antt states it. Assumes nothing.
-use Rattle.std.proofs.Common.{◌≡◌, ℕ, ◌+◌, ◌-◌, ◌<◌, ◌≤◌, min, true, false, eqb, leb, ◌⊎◌, List, length, get_or, take, drop, sym, refl, ap, ◌∙◌, inl, inr, true≢false, arith, get_or-drop, get_or-take, ext_get_or, le-ltb, le-leb, leb-false, leb-true}
+use Rattle.std.proofs.Common.{◌≡◌, ℕ, ◌+◌, ◌-◌, ◌<◌, ◌≤◌, min, eqb, leb, ◌⊎◌, List, length, get_or, take, drop, sym, refl, ap, ◌∙◌, inl, inr, true≢false, arith, get_or-drop, get_or-take, ext_get_or, le-ltb, le-leb, leb-false, leb-true}
 use borrow.Author.Tests.{lt-leb, eqb-false}
 use lib.Seq.{sets, length-sets}
 use Rattle.leaves.proofs.Choice.{truth, EitherWay}

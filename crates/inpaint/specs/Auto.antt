@@ -7,7 +7,7 @@ use Rattle.leaves.specs.Arithmetic.{◌*₃₂◌, ◌/₃₂◌, nought, one, f
 use Rattle.leaves.specs.Floats.{larger, in_range}
 use Rattle.recording.specs.Answers.{number, reason_number}
 use Rattle.recording.specs.Recording.{State, fitting, or_else, work_after}
-use Rattle.leaves.specs.Choice.{if◌then◌else◌}
+use Rattle.std.specs.Prelude.{if◌then◌else◌}
 use Rattle.recording.specs.Runs.{run_length}
 use Rattle.recording.specs.declared.Reason.TheVariants.{Setting}
 use Rattle.recording.specs.declared.Answer.{Answer}

@@ -4,7 +4,7 @@
 use Rattle.std.specs.Prelude.{◌≡◌, ℕ, ◌+◌, ◌-◌, ◌*◌, ◌<◌, ◌≤◌, false, ◌⊎◌, List, [], ◌∷◌, ◌++◌, length, ◌≢◌, slice_index, Float}
 use Rattle.std.proofs.lemmas.List.Edits.{sets}
 use Rattle.recording.specs.Answers.{number}
-use Rattle.leaves.specs.Choice.{if◌then◌else◌}
+use Rattle.std.specs.Prelude.{if◌then◌else◌}
 use Rattle.recording.specs.Recording.{State, state, entry_size}
 use Rattle.recording.specs.History.{LawfulRepair, Lawful, run}
 use Rattle.recording.specs.Marks.{gap_by_model}

@@ -7,7 +7,7 @@ use Rattle.leaves.specs.Arithmetic.{◌+₃₂◌, ◌-₃₂◌, ◌*₃₂◌,
 use Rattle.leaves.specs.Floats.{narrowed}
 use Rattle.recording.specs.Recording.{State, Ended, Plan, refuse, change, span, called}
 use Rattle.recording.specs.Marks.{gap_by_model, gap_by_line}
-use Rattle.leaves.specs.Choice.{if◌then◌else◌}
+use Rattle.std.specs.Prelude.{if◌then◌else◌}
 use Rattle.recording.specs.Recording.{or_else, readable, unless_read}
 use Rattle.recording.specs.declared.Reason.TheVariants.{Gap, Workspace}
 use Rattle.recording.specs.declared.Answer.{Answer}

@@ -4,7 +4,7 @@
 use Rattle.std.specs.Prelude.{ℕ, ◌-◌, List, [], ◌∷◌, map, length, replicate, Float}
 use Rattle.std.proofs.lemmas.List.Edits.{sets}
 use Rattle.leaves.specs.Arithmetic.{float}
-use Rattle.leaves.specs.Choice.{if◌then◌else◌}
+use Rattle.std.specs.Prelude.{if◌then◌else◌}
 use Rattle.recording.specs.Recording.{State}
 use Rattle.recording.specs.declared.Answer.{Answer}
 use Rattle.recording.specs.declared.Answer.TheVariants.{Done, Refused}

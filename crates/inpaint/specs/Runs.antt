@@ -4,7 +4,7 @@
 -- `scan_counts_its_runs` of proofs/Scans.antt, which nobody has to read.
 use Rattle.std.specs.Prelude.{◌≡◌, ℕ, zero, suc, ◌+◌, List, [], ◌∷◌, length, Float}
 use Rattle.recording.specs.Recording.{State}
-use Rattle.leaves.specs.Choice.{if◌then◌else◌}
+use Rattle.std.specs.Prelude.{if◌then◌else◌}
 use Rattle.recording.specs.Runs.{run_length}
 use Rattle.recording.specs.Answers.{reason_number}
 use Rattle.recording.specs.History.{Call, repair, did, run}

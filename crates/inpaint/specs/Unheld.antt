@@ -1,7 +1,7 @@
 -- What request P1 of document 02 left as it was: the dropout runs that document 01 had before it. Definitions, and then two statements,
 -- which are proved as `zeros_as_before` and `unheld_as_before` of proofs/Unheld.antt, which nobody has to read.
 use Rattle.std.specs.Prelude.{◌≡◌, ℕ, zero, suc, ◌+◌, ◌-◌, ◌<◌, ◌≤◌, Bool, true, ◌&&◌, List, [], ◌∷◌, length, nat_le, slice_index}
-use Rattle.leaves.specs.Choice.{if◌then◌else◌}
+use Rattle.std.specs.Prelude.{if◌then◌else◌}
 use Rattle.recording.specs.Runs.{begins, run_length}
 use Rattle.inpaint.specs.Auto.{zero_or_nan, holdable, run_at, gap_allowed, starts}
 use Rattle.inpaint.specs.Runs.{Stretch, stretch, runs_of}

@@ -2,7 +2,7 @@
 ghost use Rattle.std.specs.Prelude.{◌≡◌, ◌+◌, ◌<◌, ◌≤◌, ◌&&◌, length, replicate, nat_eq};
 ghost use Rattle.std.proofs.lemmas.List.Edits.{sets};
 ghost use Rattle.std.specs.Float.Ieee.{to_unsigned};
-ghost use Rattle.leaves.specs.Choice.{if◌then◌else◌};
+ghost use Rattle.std.specs.Prelude.{if◌then◌else◌};
 ghost use Rattle.inpaint.specs.Auto.{allowed, held_allowed, limit, zero_or_nan, holdable, continues, run_begins, long_enough, kept};
 ghost use Rattle.inpaint.specs.Auto.{gap_allowed, qualifies};
 ghost use Rattle.inpaint.specs.Auto.{next_run, scan, scan_from, scannable, automatic};

@@ -1,6 +1,7 @@
 // Gaps: the window around one, the straight line and the model that fill it, the repair of one gap, and
 // the automatic scan that finds dropouts and repairs each.
 #![tactic(auto)]
+
 pub mod auto;
 mod fill;
 pub mod gap;

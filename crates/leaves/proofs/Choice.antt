@@ -1,7 +1,7 @@
 -- Tests: each holds or does not, what two say that both hold, or of which one or neither does, and what holds of the one of two things that a test chooses.
 -- Assumes nothing.
 use Rattle.std.proofs.Common.{◌≡◌, Bool, true, false, ◌&&◌, ◌||◌, ◌⊎◌, sym, refl, inl, inr, true≢false}
-use Rattle.leaves.specs.Choice.{if◌then◌else◌}
+use Rattle.std.specs.Prelude.{if◌then◌else◌}
 
 -- a test holds, or it does not
 abbrev pub EitherWay : Bool → Type 0

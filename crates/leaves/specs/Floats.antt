@@ -7,7 +7,7 @@ use Rattle.std.specs.Prelude.{ℕ, ◌+◌, ◌*◌, ◌/◌, Bool, false, ◌&&
 use Rattle.std.specs.Float.{nan, inf, fin, binary32}
 use Rattle.std.specs.Float.Ieee.{round, up, down, lt, le, is_nan, of_bits}
 use Rattle.std.specs.Float.Ieee.Scale.{finite}
-use Rattle.leaves.specs.Choice.{if◌then◌else◌}
+use Rattle.std.specs.Prelude.{if◌then◌else◌}
 
 -- "magnitude": the number without its sign
 abbrev pub magnitude : Float → Float

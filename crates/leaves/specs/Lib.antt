@@ -1,4 +1,3 @@
-pub mod Choice
 pub mod Arithmetic
 pub mod Floats
 pub mod Root

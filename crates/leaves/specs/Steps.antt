@@ -2,7 +2,7 @@
 use Rattle.std.specs.Prelude.{ℕ, ◌+◌, Bool}
 use Rattle.std.specs.Float.{Format}
 use Rattle.std.specs.Float.Ieee.{top}
-use Rattle.leaves.specs.Choice.{if◌then◌else◌}
+use Rattle.std.specs.Prelude.{if◌then◌else◌}
 
 -- a pattern that has no sign, with the sign s
 abbrev pub signed : Format → Bool → ℕ → ℕ

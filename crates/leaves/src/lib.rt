@@ -2,6 +2,7 @@
 // rests on a result that is proved bit for bit. Each published function has an answer for every
 // argument, a NaN and the infinities among them.
 #![tactic(auto)]
+
 pub mod counts;
 pub mod narrow;
 pub mod order;

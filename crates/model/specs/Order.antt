@@ -4,7 +4,7 @@
 -- proofs/Orders.antt, which nobody has to read.
 use Rattle.std.specs.Prelude.{ℕ, zero, suc, ◌+◌, ◌-◌, ◌≤◌, ◌<◌, ◌≡◌, List, length, set, Float}
 use Rattle.std.specs.Float.Ieee.{add, sub, mul, div, neg, lt, le}
-use Rattle.leaves.specs.Choice.{if◌then◌else◌}
+use Rattle.std.specs.Prelude.{if◌then◌else◌}
 use Rattle.leaves.specs.Arithmetic.{◌+₆₄◌, ◌-₆₄◌, ◌*₆₄◌, ◌/₆₄◌, nought, one, at}
 use Rattle.leaves.specs.Floats.{magnitude}
 use Rattle.model.specs.Model.{micro, pico, lags, unit, shortfall, raised, levinson, estimate_ar_known, pass}

@@ -2,6 +2,7 @@
 // that fit it best, by a banded Cholesky solve. Names follow the Rust that it is taken from. Every
 // stage works within one lent workspace, whose areas specs/Areas.antt lists.
 #![tactic(auto)]
+
 mod banded;
 mod estimate;
 pub mod fill;

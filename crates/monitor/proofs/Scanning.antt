@@ -1,6 +1,6 @@
 -- The scan and what it begins with, from what the code's steps ensure: the code's literals are the rule's, a recording is scanned as its
 -- opening leaves it, and what is lent to be opened is what the rule says. Assumes nothing.
-use Prim.Native.Nat.{ℕ, zero, suc, ◌+◌, ◌/◌, ◌≤◌}
+use Prim.Native.Nat.{ℕ, zero, suc, ◌≤◌}
 use native.Mathlib.Omega.{arith}
 use mathlib.Core.Path.{◌≡◌, refl, ap, ◌∙◌}
 use mathlib.Core.List.{List, ◌∷◌}

@@ -1,5 +1,5 @@
 -- What reading standard input promises. Definitions only.
-use Rattle.std.specs.Prelude.{ℕ, ◌≤◌, List, length}
+use Rattle.std.specs.Prelude.{ℕ, ◌≡◌, ◌≤◌, List, length, take, Option, Some, None}
 use Rattle.monitor.specs.declared.Input.{Input}
 use Rattle.monitor.specs.declared.Input.TheVariants.{Whole, Bad}
 
@@ -7,3 +7,9 @@ use Rattle.monitor.specs.declared.Input.TheVariants.{Whole, Bad}
 abbrev pub Within : Input → List ℕ → Type 0
 Within (Whole n) space = n ≤ length space
 Within Bad space = Unit {0}
+
+-- of an input whose bytes are known, one that was read whole has them all at the start of the space
+abbrev pub HasAll : Option (List ℕ) → Input → List ℕ → Type 0
+HasAll (Some bytes) (Whole n) space = take n space ≡ bytes
+HasAll (Some bytes) Bad space = Unit {0}
+HasAll None input space = Unit {0}

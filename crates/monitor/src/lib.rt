@@ -1,15 +1,19 @@
 // What the monitor's programs share: standard input read to its end, the scan of a recording that was opened,
 // with what it needs, and the lines that tell of it.
 #![tactic(auto)]
+
 ghost use Rattle.std.specs.Prelude.{◌≡◌, length};
 ghost use Rattle.inpaint.specs.Auto.{scan};
-ghost use Rattle.monitor.specs.Reading.{Within};
+ghost use Rattle.monitor.specs.Reading.{HasAll, Within};
 ghost use Rattle.monitor.specs.Scanning.{scanning, scanning_orders};
 ghost use Rattle.recording.specs.Lent.{left, lent};
 
 use inpaint::Scanned;
 use inpaint::auto::{HELD_RUN, inpaint_auto};
+use intake::read_full;
 use recording::marks::{GAP_BY_MODEL, MEASURED};
+use std::io;
+use std::io::{Read, Write};
 
 // The most samples that are taken.
 pub const MOST_SAMPLES: usize = 4096;
@@ -36,20 +40,22 @@ pub enum Input {
 
 // Reads standard input to its end, to the start of the space. Where a further byte comes once the space is
 // full, or the reading fails, the input is turned away.
-pub fn read_input(space: &mut [u8]) -> Input
-    ensures { Within result space.new }
+pub fn read_input<R: Read>(reader: &mut R, space: &mut [u8]) -> Input
+    ensures within { Within result space.new }
+    ensures whole { HasAll (R.remaining reader.old) result space.new }
 {
-    let n = io::read_full(0, space);
-    let mut more = [0u8; 1];
-    if libc::read(0, &mut more) != 0 {
+    let Ok(n) = read_full(reader, space) else {
         return Input::Bad;
+    };
+    match read_full(reader, &mut [0u8; 1]) {
+        Ok(0) => Input::Whole(n),
+        _ => Input::Bad,
     }
-    Input::Whole(n)
 }
 
 // Writes that the input is turned away.
-pub fn print_bad_input() {
-    io::write_all(1, b"bad input\n");
+pub fn print_bad_input<W: Write>(out: &mut W) -> io::Result<()> {
+    writeln!(out, "bad input")
 }
 
 // Repairs the dropouts within the limit of a recording that was opened, where 16 equal words are one, and notes
@@ -73,45 +79,60 @@ pub fn scan_recording(
 }
 
 // Writes a name and a number.
-pub fn print_number(name: &[u8], n: u64) {
-    io::write_all(1, name);
-    io::print_decimal(1, n);
+pub fn print_number<W: Write>(out: &mut W, name: &[u8], n: u64) -> io::Result<()> {
+    out.write_all(name)?;
+    write!(out, "{n}")
 }
 
 // Writes the line of a sample: its place, its mark and its word, and the model's order where a model made it.
-fn print_sample(place: usize, mark: u8, word: u32, order: u32) {
-    print_number(b"", place as u64);
-    print_number(b" ", mark as u64);
-    io::write_all(1, b" ");
-    io::print_hex(1, word as u64, 8);
+fn print_sample<W: Write>(
+    out: &mut W,
+    place: usize,
+    mark: u8,
+    word: u32,
+    order: u32,
+) -> io::Result<()> {
+    write!(out, "{place} {mark} {word:08x}")?;
     if mark == GAP_BY_MODEL {
-        print_number(b" ", order as u64);
+        write!(out, " {order}")?;
     }
-    io::write_all(1, b"\n");
+    writeln!(out)
 }
 
 // Writes a line for each sample that is not measured.
-fn print_made(samples: &[u32], marks: &[u8], orders: &[u32])
+fn print_made<W: Write>(
+    out: &mut W,
+    samples: &[u32],
+    marks: &[u8],
+    orders: &[u32],
+) -> io::Result<()>
     requires { (length marks.now ≡ length samples.now) × (length orders.now ≡ length samples.now) }
 {
-    let mut i: usize = 0;
-    while i < samples.len() {
-        let place = i;
-        i += 1;
+    for place in 0..samples.len() {
         if marks[place] != MEASURED {
-            print_sample(place, marks[place], samples[place], orders[place]);
+            print_sample(out, place, marks[place], samples[place], orders[place])?;
         }
     }
+    Ok(())
 }
 
 // Writes what the scan gave, what it made, and that this is the end.
-pub fn print_scan(scanned: Scanned, samples: &[u32], marks: &[u8], orders: &[u32])
+pub fn print_scan<W: Write>(
+    out: &mut W,
+    scanned: Scanned,
+    samples: &[u32],
+    marks: &[u8],
+    orders: &[u32],
+) -> io::Result<()>
     requires { (length marks.now ≡ length samples.now) × (length orders.now ≡ length samples.now) }
 {
-    print_number(b"qualified ", scanned.qualified as u64);
-    print_number(b" repaired ", scanned.repaired as u64);
-    print_number(b" refused ", scanned.refused as u64);
-    io::write_all(1, b"\n");
-    print_made(samples, marks, orders);
-    io::write_all(1, b"end\n");
+    let qualified = scanned.qualified;
+    let repaired = scanned.repaired;
+    let refused = scanned.refused;
+    writeln!(
+        out,
+        "qualified {qualified} repaired {repaired} refused {refused}"
+    )?;
+    print_made(out, samples, marks, orders)?;
+    writeln!(out, "end")
 }

@@ -12,7 +12,7 @@ use lib.Dec.{eqb}
 use lib.Ieee.{Float}
 use lib.ListN.{length, get_or, length-append}
 use lib.Seq.{set_at, append_snoc}
-use Rattle.leaves.specs.Choice.{if◌then◌else◌}
+use Rattle.std.specs.Prelude.{if◌then◌else◌}
 use Rattle.leaves.specs.Arithmetic.{float}
 use Rattle.leaves.specs.Floats.{in_range}
 use Rattle.leaves.proofs.Choice.{EitherWay, truth, picks}

@@ -14,7 +14,7 @@ use lib.Ieee.Fits.{neg-fits}
 use lib.Ieee.Positive.{positive, first_pos, between, le_trans_positive}
 use lib.Ieee.Scale.{finite}
 use borrow.Author.Tests.{ltb-true, eqb-true, eqb-false, eq-eqb, le-ltb}
-use Rattle.leaves.specs.Choice.{if◌then◌else◌}
+use Rattle.std.specs.Prelude.{if◌then◌else◌}
 use Rattle.leaves.specs.Arithmetic.{float}
 use Rattle.leaves.specs.Floats.{magnitude, largest, larger, smaller, in_range}
 use Rattle.leaves.proofs.Choice.{truth, both_hold, either, picks_by}

@@ -1,7 +1,7 @@
 -- What the inner functions of this crate speak of: nothing that the promise of the repair needs. Definitions only.
 use Rattle.std.specs.Prelude.{ℕ, ◌+◌, not, List, [], ◌∷◌, Float}
 use Rattle.std.specs.Float.Ieee.{lt}
-use Rattle.leaves.specs.Choice.{if◌then◌else◌}
+use Rattle.std.specs.Prelude.{if◌then◌else◌}
 use Rattle.recording.specs.Recording.{State, fitting, or_else, readable}
 use Rattle.recording.specs.declared.Reason.TheVariants.{Setting}
 use Rattle.recording.specs.declared.Answer.{Answer}

@@ -3,7 +3,7 @@
 -- allowed as a threshold, and which samples are at or beyond it, is cubic declip's `allowed` and `clipped`. Definitions only.
 use Rattle.std.specs.Prelude.{ℕ, ◌+◌, Bool, not, ◌&&◌, ◌||◌, List, [], ◌∷◌, map, length, eqb, Float}
 use Rattle.std.specs.Float.Ieee.{neg, le, lt}
-use Rattle.leaves.specs.Choice.{if◌then◌else◌}
+use Rattle.std.specs.Prelude.{if◌then◌else◌}
 use Rattle.leaves.specs.Arithmetic.{float}
 use Rattle.leaves.specs.Floats.{in_range}
 use Rattle.recording.specs.Recording.{State, Ended, Placed, Plan, refuse, change, picked, readable, unless_read, called}

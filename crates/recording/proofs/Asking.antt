@@ -1,21 +1,20 @@
 -- The span question, as specs/Consequences.antt speaks of it: where the counts are those of the marks, the blocks between say what their
 -- marks say, so that the three parts of the answer are the marks of the whole span. Assumes nothing.
 use mathlib.Core.Path.{◌≡◌, refl, sym, ap, ap₂, ◌∙◌}
-use mathlib.Core.Bool.{Bool, true, false, ◌&&◌, and_assoc}
+use mathlib.Core.Bool.{Bool, true, ◌&&◌, and_assoc}
 use mathlib.Core.List.{List}
 use mathlib.Core.Logic.{◌⊎◌, inl, inr}
-use Prim.Native.Nat.{ℕ, zero, suc, ◌+◌, ◌-◌, ◌*◌, ◌/◌, ◌≤◌, ◌<◌, min}
+use Prim.Native.Nat.{ℕ, zero, suc, ◌+◌, ◌-◌, ◌*◌, ◌≤◌, ◌<◌}
 use native.Mathlib.Decide.{ℕ_discrete}
 use native.Mathlib.Omega.{arith}
 use native.Mathlib.Nat.{add-zero, zero-add, suc-add}
 use lib.ListN.{length, get_or}
-use lib.Dec.{eqb, ltb}
+use lib.Dec.{eqb}
 use borrow.Author.Tests.{eqb-true, eq-eqb, ne_eqb, le-ltb, ltb-false}
-use Rattle.leaves.specs.Choice.{if◌then◌else◌}
 use Rattle.leaves.proofs.Choice.{truth, EitherWay, both_hold, picks_by}
 use Rattle.recording.specs.Answers.{verdict_yes}
 use Rattle.recording.specs.Marks.{measured}
-use Rattle.recording.specs.Counts.{block_size, block_of, block_begin, block_length, counted_mark, unmeasured, count_of}
+use Rattle.recording.specs.Counts.{block_size, block_of, block_begin, block_length, unmeasured, count_of}
 use Rattle.recording.specs.Counts.{counted, miscounted}
 use Rattle.recording.specs.Question.{all_are, marks_say, counts_say, span_measured, span_past, span_verdict}
 use Rattle.recording.specs.Consequences.{EachMeasured, AnswerIsEachMark, YesExactlyWhen}

@@ -3,17 +3,17 @@
 use mathlib.Core.Path.{◌≡◌, refl, sym, ap, ◌∙◌}
 use mathlib.Core.List.{List, [], ◌∷◌, map}
 use mathlib.Core.Logic.{inl, inr}
-use Prim.Native.Nat.{ℕ, zero, suc, ◌+◌, ◌-◌, ◌/◌, ◌≤◌, ◌<◌, min}
+use Prim.Native.Nat.{ℕ, zero, suc, ◌+◌, ◌-◌, ◌≤◌, ◌<◌}
 use native.Mathlib.Omega.{arith}
 use native.Mathlib.Nat.{zero-add, sub-zero}
-use lib.ListN.{length, get_or, set, length-set}
+use lib.ListN.{length, get_or, set}
 use lib.Seq.{sets, ext_get_or}
 use lib.Dec.{eqb}
 use Rattle.leaves.proofs.Choice.{picks}
 use Rattle.leaves.proofs.Stores.{stored_over}
 use Rattle.recording.specs.Marks.{measured}
-use Rattle.recording.specs.Recording.{Placed, places, put}
-use Rattle.recording.specs.Counts.{block_size, block_of, block_begin, blocks, block_length, counted_mark, unmeasured}
+use Rattle.recording.specs.Recording.{put}
+use Rattle.recording.specs.Counts.{block_of, block_begin, blocks, block_length, counted_mark, unmeasured}
 use Rattle.recording.specs.Counts.{count_of, counts_from, counted, recounted}
 use Rattle.recording.specs.Consequences.{Among, ItsBlocksAndNoOthers}
 use Rattle.recording.proofs.Put.{among_or_not, length_put, valued, places_valued, put_valued, put_elsewhere}

@@ -1,7 +1,7 @@
 -- Block counts: request P5 of document 02, whose sentences the comments quote. "Keep beside the marks a count for each block of 256 samples
 -- of those whose mark is not 0; the last block may be short." Definitions only.
 use Rattle.std.specs.Prelude.{ℕ, zero, suc, ◌+◌, ◌-◌, ◌*◌, ◌/◌, min, Bool, not, List, [], ◌∷◌, length, get_or, set, eqb}
-use Rattle.leaves.specs.Choice.{if◌then◌else◌}
+use Rattle.std.specs.Prelude.{if◌then◌else◌}
 use Rattle.recording.specs.Marks.{measured}
 
 -- ---- Blocks

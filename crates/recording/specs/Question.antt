@@ -1,7 +1,7 @@
 -- "Was this second measured?": the span question of request P5 of document 02, whose sentences the comments quote. Definitions only; what
 -- follows from them stands in Consequences.antt.
 use Rattle.std.specs.Prelude.{ℕ, zero, suc, ◌+◌, ◌-◌, Bool, true, ◌&&◌, List, length, get_or, ltb, eqb}
-use Rattle.leaves.specs.Choice.{if◌then◌else◌}
+use Rattle.std.specs.Prelude.{if◌then◌else◌}
 use Rattle.recording.specs.Marks.{measured}
 use Rattle.recording.specs.Counts.{block_of, block_begin, miscounted}
 use Rattle.recording.specs.declared.Reason.TheVariants.{Gap, Blocks}

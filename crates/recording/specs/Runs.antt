@@ -1,6 +1,6 @@
 -- Runs: the longest stretches of places that meet a test, left to right. Definitions only.
 use Rattle.std.specs.Prelude.{ℕ, zero, suc, ◌+◌, ◌-◌, Bool, not, ◌&&◌, ◌||◌, eqb}
-use Rattle.leaves.specs.Choice.{if◌then◌else◌}
+use Rattle.std.specs.Prelude.{if◌then◌else◌}
 
 -- a run begins at i: the place meets the test, and the one before it does not
 unfoldable pub begins : (ℕ → Bool) → ℕ → Bool

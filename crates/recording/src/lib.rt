@@ -2,6 +2,7 @@
 // a journal of what repairs overwrote. Here are the answers that every call gives, opening, the commit of
 // an accepted repair, undo, and the question whether a span was measured.
 #![tactic(auto)]
+
 pub mod clear;
 pub mod commit;
 pub mod counts;

@@ -12,7 +12,7 @@ use lib.ListN.{length, drop}
 use Rattle.recording.specs.Recording.{State, Ended, ended, fitting, or_else, readable, Plan, refuse, change, picked, carried, performed, called}
 use Rattle.recording.specs.Marks.{made}
 use Rattle.recording.specs.Recording.{cleared, clears, work_after, unless_read, unless_refused}
-use Rattle.leaves.specs.Choice.{if◌then◌else◌}
+use Rattle.std.specs.Prelude.{if◌then◌else◌}
 use Rattle.recording.specs.History.{Keeps, LawfulRepair}
 use Rattle.recording.specs.Inner.{Fits, picked_by}
 use Rattle.recording.specs.declared.Reason.{Reason}

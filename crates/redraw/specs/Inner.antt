@@ -1,7 +1,7 @@
 -- What the inner functions of the three repairs speak of: nothing that a promise of a repair needs. Definitions only.
 use Rattle.std.specs.Prelude.{ℕ, ◌+◌, ◌≤◌, ◌≡◌, Bool, false, not, List, length, get_or, take, drop, ltb}
 use Rattle.recording.specs.Recording.{State, most_samples, fitting, or_else, readable}
-use Rattle.leaves.specs.Choice.{if◌then◌else◌}
+use Rattle.std.specs.Prelude.{if◌then◌else◌}
 use Rattle.recording.specs.Inner.{flags}
 use Rattle.recording.specs.declared.Reason.TheVariants.{Setting, Workspace}
 use Rattle.recording.specs.declared.Answer.{Answer}

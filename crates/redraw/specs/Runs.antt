@@ -1,6 +1,6 @@
 -- A step for each run, left to right. Definitions only.
 use Rattle.std.specs.Prelude.{ℕ, zero, suc, ◌+◌, Bool}
-use Rattle.leaves.specs.Choice.{if◌then◌else◌}
+use Rattle.std.specs.Prelude.{if◌then◌else◌}
 use Rattle.recording.specs.Runs.{begins, run_length}
 
 -- what a step makes of d when it is taken for each run that begins among the n places from i on, with the run's start and its end,

@@ -5,7 +5,7 @@ use Rattle.std.specs.Float.{binary32}
 use Rattle.std.specs.Float.Ieee.{to_bits}
 use Rattle.leaves.specs.Arithmetic.{float}
 use Rattle.recording.specs.Recording.{Plan, refuse, change, picked, readable, unless_read}
-use Rattle.leaves.specs.Choice.{if◌then◌else◌}
+use Rattle.std.specs.Prelude.{if◌then◌else◌}
 use Rattle.recording.specs.declared.Reason.TheVariants.{Setting, Workspace}
 
 -- the float of the sample at place i, and the samples with the word of the float x there

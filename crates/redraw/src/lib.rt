@@ -1,6 +1,7 @@
 // What the repairs over the whole recording share: how they begin and how they end. Between the two each
 // works out its words in the workspace, so that a refusal leaves the recording as it was.
 #![tactic(auto)]
+
 ghost use Rattle.std.specs.Prelude.{◌≡◌, ◌+◌, ◌*◌, ◌≤◌, length};
 ghost use Rattle.recording.specs.Recording.{ended, change, carried, cleared};
 ghost use Rattle.recording.specs.Lent.{left, lent, seen, given};

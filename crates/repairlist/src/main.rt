@@ -14,6 +14,7 @@
 // is one digit. The m samples are the new ones at the places whose mark is not 0, in their order; all others are
 // to be what they were.
 #![tactic(auto)]
+
 ghost use Rattle.std.specs.Prelude.{◌+◌, ◌*◌, ◌^◌, ◌≤◌, ◌<◌, ◌≡◌, length};
 ghost use Rattle.repairlist.specs.Layout.{word_bytes, head_bytes, row_bytes};
 
@@ -23,10 +24,16 @@ use dequant::passes::dequantize;
 use inpaint::auto::{HELD_RUN, inpaint_auto};
 use inpaint::gap::inpaint_gap;
 use inpaint::{GapAnswer, Scanned};
+use intake::read_full;
 use leaves::words::f32_of_word;
 use recording::Answer;
 use recording::marks::MEASURED;
 use recording::numbers::{number_of, value_of};
+use std::io;
+use std::io::Write;
+
+// How many bytes of a list are read.
+const MOST_BYTES: usize = 65_536;
 
 // How many samples a recording of the list has, at least one and at most this; its counts, of one block; what its
 // journal and its workspaces hold.
@@ -424,26 +431,30 @@ fn agreeing(list: &[u8], letter: u8) -> usize {
 }
 
 // Writes a name and a number.
-fn print_number(name: &[u8], n: usize) {
-    io::write_all(1, name);
-    io::print_decimal(1, n as u64);
+fn print_number<W: Write>(out: &mut W, name: &[u8], n: usize) -> io::Result<()> {
+    out.write_all(name)?;
+    write!(out, "{n}")
 }
 
 // Writes, as a line, how many cases with a letter there are and how many of them agree.
-fn report(list: &[u8], name: &[u8], letter: u8) {
-    print_number(name, cases(list, letter));
-    print_number(b" agree ", agreeing(list, letter));
-    io::write_all(1, b"\n");
+fn report<W: Write>(out: &mut W, list: &[u8], name: &[u8], letter: u8) -> io::Result<()> {
+    print_number(out, name, cases(list, letter))?;
+    print_number(out, b" agree ", agreeing(list, letter))?;
+    writeln!(out)
 }
 
-fn main() {
-    let mut space = io::large_buffer();
-    let n = io::read_full(0, &mut space);
-    let list = &space[..n];
-    report(list, b"gaps ", b'g');
-    report(list, b"scans ", b's');
-    report(list, b"declips ", b'd');
-    report(list, b"decrackles ", b'c');
-    report(list, b"dequantizes ", b'q');
-    report(list, b"dequantizes by cosparse ", b'p');
+// Writes these lines for every repair.
+fn report_all<W: Write>(out: &mut W, list: &[u8]) -> io::Result<()> {
+    report(out, list, b"gaps ", b'g')?;
+    report(out, list, b"scans ", b's')?;
+    report(out, list, b"declips ", b'd')?;
+    report(out, list, b"decrackles ", b'c')?;
+    report(out, list, b"dequantizes ", b'q')?;
+    report(out, list, b"dequantizes by cosparse ", b'p')
+}
+
+fn main(rt: HostRuntime) -> io::Result<()> {
+    let mut space = [0u8; MOST_BYTES];
+    let n = read_full(&mut rt.stdin(), &mut space)?;
+    report_all(&mut rt.stdout(), &space[..n])
 }

@@ -10,13 +10,20 @@
 //   m  the magnitude of an f32
 //   d  the magnitude of an f64
 #![tactic(auto)]
+
 ghost use Rattle.std.specs.Prelude.{◌+◌, ◌≤◌, length};
 
+use intake::read_full;
 use leaves::narrow::narrow;
 use leaves::order::{clamp32, larger32, larger64, magnitude32, magnitude64, smaller32};
 use leaves::root::square_root;
 use leaves::whole::round_to_whole;
 use leaves::words::{f32_of_word, f64_of_word, in_range, widen, word_of_f32, word_of_f64};
+use std::io;
+use std::io::Write;
+
+// How many bytes of a list are read.
+const MOST_BYTES: usize = 65_536;
 
 // How many bytes a line has.
 const LINE: usize = 36;
@@ -140,27 +147,30 @@ fn first_that_differs(list: &[u8]) -> usize {
 }
 
 // Writes a name and a number as a line.
-fn print_line(name: &[u8], n: usize) {
-    io::write_all(1, name);
-    io::print_decimal(1, n as u64);
-    io::write_all(1, b"\n");
+fn print_line<W: Write>(out: &mut W, name: &[u8], n: usize) -> io::Result<()> {
+    out.write_all(name)?;
+    writeln!(out, "{n}")
 }
 
-fn main() {
-    let mut space = io::large_buffer();
-    let n = io::read_full(0, &mut space);
-    let list = &space[..n];
-    print_line(b"lines ", list.len() / LINE);
-    print_line(b"root ", agreeing(list, b'r'));
-    print_line(b"narrow ", agreeing(list, b'n'));
-    print_line(b"round to whole ", agreeing(list, b'w'));
-    print_line(b"in range ", agreeing(list, b'i'));
-    print_line(b"widen ", agreeing(list, b'x'));
-    print_line(b"magnitude32 ", agreeing(list, b'm'));
-    print_line(b"magnitude64 ", agreeing(list, b'd'));
-    print_line(b"larger32 ", agreeing(list, b'l'));
-    print_line(b"larger64 ", agreeing(list, b'g'));
-    print_line(b"smaller32 ", agreeing(list, b's'));
-    print_line(b"clamp32 ", agreeing(list, b'c'));
-    print_line(b"first line that differs ", first_that_differs(list));
+// Writes how many lines there are, how many of them agree for each leaf, and the first that does not.
+fn print_report<W: Write>(out: &mut W, list: &[u8]) -> io::Result<()> {
+    print_line(out, b"lines ", list.len() / LINE)?;
+    print_line(out, b"root ", agreeing(list, b'r'))?;
+    print_line(out, b"narrow ", agreeing(list, b'n'))?;
+    print_line(out, b"round to whole ", agreeing(list, b'w'))?;
+    print_line(out, b"in range ", agreeing(list, b'i'))?;
+    print_line(out, b"widen ", agreeing(list, b'x'))?;
+    print_line(out, b"magnitude32 ", agreeing(list, b'm'))?;
+    print_line(out, b"magnitude64 ", agreeing(list, b'd'))?;
+    print_line(out, b"larger32 ", agreeing(list, b'l'))?;
+    print_line(out, b"larger64 ", agreeing(list, b'g'))?;
+    print_line(out, b"smaller32 ", agreeing(list, b's'))?;
+    print_line(out, b"clamp32 ", agreeing(list, b'c'))?;
+    print_line(out, b"first line that differs ", first_that_differs(list))
+}
+
+fn main(rt: HostRuntime) -> io::Result<()> {
+    let mut space = [0u8; MOST_BYTES];
+    let n = read_full(&mut rt.stdin(), &mut space)?;
+    print_report(&mut rt.stdout(), &space[..n])
 }

@@ -11,7 +11,7 @@ use lib.Ieee.Back.{round_whole}
 use lib.Ieee.Scale.{round_same}
 use lib.Ieee.Order.{le_of_values}
 use borrow.Author.Tests.{lt-leb}
-use Rattle.leaves.specs.Choice.{if◌then◌else◌}
+use Rattle.std.specs.Prelude.{if◌then◌else◌}
 use Rattle.leaves.specs.Arithmetic.{nought, float}
 use Rattle.leaves.specs.Floats.{magnitude, largest, in_range, rounded, held}
 use Rattle.leaves.proofs.Choice.{picks_by}

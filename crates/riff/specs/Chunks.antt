@@ -1,7 +1,7 @@
 -- The chunks of a RIFF file, as the RIFF WAVE document lays them out: "four bytes of name, a 32-bit size, the body, and one byte more
 -- where the size is odd". A chunk is told by the byte at which it begins. Definitions only.
 use Rattle.std.specs.Prelude.{ℕ, zero, suc, ◌+◌, ◌*◌, ◌%◌, Bool, ◌&&◌, List, [], ◌∷◌, length, ◌==◌, nat_le, nat_lt}
-use Rattle.leaves.specs.Choice.{if◌then◌else◌}
+use Rattle.std.specs.Prelude.{if◌then◌else◌}
 use Rattle.wire.specs.Wire.{word_at}
 
 -- ---- Names

@@ -1,6 +1,6 @@
 -- What the inner functions of this crate speak of: nothing that the promises of reading and writing need. Definitions only.
 use Rattle.std.specs.Prelude.{ℕ, List}
-use Rattle.leaves.specs.Choice.{if◌then◌else◌}
+use Rattle.std.specs.Prelude.{if◌then◌else◌}
 use Rattle.riff.specs.Wav.{first_named, format_at, data_at, is_wave}
 use Rattle.riff.specs.declared.Sound.{Sound}
 use Rattle.riff.specs.declared.Sound.TheVariants.{Stands, NoWave}

@@ -2,7 +2,7 @@
 use Rattle.std.specs.Prelude.{ℕ, ◌-◌, Bool, true, false, pos, nat_le, Float}
 use Rattle.std.specs.Float.{fin, binary32}
 use Rattle.std.specs.Float.Ieee.{round, mul, lt, neg, to_bits, to_unsigned}
-use Rattle.leaves.specs.Choice.{if◌then◌else◌}
+use Rattle.std.specs.Prelude.{if◌then◌else◌}
 use Rattle.leaves.specs.Arithmetic.{nought, float, ◌*₃₂◌}
 use Rattle.leaves.specs.Floats.{rounded, held}
 

@@ -1,7 +1,7 @@
 -- WAV in and out: request P12 of document 02, whose sentences the comments quote. Definitions only.
 use Rattle.std.specs.Prelude.{ℕ, ◌+◌, ◌*◌, ◌/◌, ◌%◌, Bool, not, ◌&&◌, ◌||◌, List, [], ◌∷◌, ◌++◌, map, length, replicate, ◌==◌, nat_lt}
 use Rattle.std.proofs.lemmas.List.Edits.{sets}
-use Rattle.leaves.specs.Choice.{if◌then◌else◌}
+use Rattle.std.specs.Prelude.{if◌then◌else◌}
 use Rattle.wire.specs.Wire.{half_at, word_at, halves, encoded, encoded_halves, words_to}
 use Rattle.recording.specs.Recording.{most_samples, readable}
 use Rattle.recording.specs.Marks.{measured}

@@ -8,7 +8,7 @@ use mathlib.Core.List.{List}
 use mathlib.Core.Logic.{inl, inr}
 use lib.ListN.{length}
 use lib.Seq.{sets}
-use Rattle.leaves.specs.Choice.{if◌then◌else◌}
+use Rattle.std.specs.Prelude.{if◌then◌else◌}
 use Rattle.leaves.proofs.Choice.{truth, EitherWay}
 use Rattle.leaves.proofs.Stores.{stored_over}
 use Rattle.wire.specs.Wire.{decoded}

@@ -5,7 +5,7 @@ use Rattle.std.proofs.lemmas.List.Edits.{sets}
 use Rattle.std.specs.Float.{binary32}
 use Rattle.std.specs.Float.Ieee.{to_bits}
 use Rattle.leaves.specs.Arithmetic.{float}
-use Rattle.leaves.specs.Choice.{if◌then◌else◌}
+use Rattle.std.specs.Prelude.{if◌then◌else◌}
 use Rattle.wire.specs.Wire.{word_at, decoded, bytes_of}
 use Rattle.contents.specs.Contents.{table_bytes, filed, lengths_in, lengths_from, laid_out}
 use Rattle.recording.specs.declared.Reason.TheVariants.{Workspace, Version, Stored}

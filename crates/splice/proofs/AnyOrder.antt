@@ -184,15 +184,15 @@ from_permuted n g (Permᴰ.cons e d) a = (subst (Apart n g) e a.0, from_permuted
 from_permuted n g (Permᴰ.swap e d) a = (subst (Apart n g) d a.1.0, (subst (Apart n g) e a.0, a.1.1))
 from_permuted n g (Permᴰ.trans d c) a = from_permuted n g c (from_permuted n g d a)
 
-swapped : (n : ℕ) {g h : Stretch} (l : List Stretch) → AllApart n (g ∷ h ∷ l) → AllApart n (h ∷ g ∷ l)
-swapped n l a = (((a.0.0.1, a.0.0.0), a.1.0), (a.0.1, a.1.1))
+swapped : (n : ℕ) (g h : Stretch) (l : List Stretch) → AllApart n (g ∷ h ∷ l) → AllApart n (h ∷ g ∷ l)
+swapped n g h l a = (((a.0.0.1, a.0.0.0), a.1.0), (a.0.1, a.1.1))
 
 all_permuted : (n : ℕ) {gs hs : List Stretch} → Permᴰ gs hs → AllApart n gs → AllApart n hs
 all_permuted n Permᴰ.nil a = a
 all_permuted n (Permᴰ.cons {l₂ = hs} e d) a =
     (subst (λ (g : Stretch). ApartFrom n g hs) e (from_permuted n _ d a.0), all_permuted n d a.1)
-all_permuted n (Permᴰ.swap {l = l} e d) a =
-    subst (λ (h : Stretch). AllApart n (h ∷ _ ∷ l)) d (subst (λ (g : Stretch). AllApart n (_ ∷ g ∷ l)) e (swapped n l a))
+all_permuted n (Permᴰ.swap {a = g} {b = h} {b' = first} {l = l} e d) a =
+    subst (λ (x : Stretch). AllApart n (x ∷ first ∷ l)) d (subst (λ (x : Stretch). AllApart n (h ∷ x ∷ l)) e (swapped n g h l a))
 all_permuted n (Permᴰ.trans d c) a = all_permuted n c (all_permuted n d a)
 
 renamed : {g h : Stretch} {a : Given} {s : State} → g ≡ h → Entered g a s → Entered h a s

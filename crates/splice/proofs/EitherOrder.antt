@@ -8,7 +8,7 @@ use native.Mathlib.Omega.{arith}
 use borrow.Author.Tests.{ltb-false}
 use lib.Dec.{ltb}
 use lib.ListN.{length}
-use Rattle.leaves.specs.Choice.{if◌then◌else◌}
+use Rattle.std.specs.Prelude.{if◌then◌else◌}
 use Rattle.leaves.proofs.Choice.{truth}
 use Rattle.leaves.proofs.Numbers.{lt_or_ge}
 use Rattle.recording.specs.Recording.{State, Ended, ended, Placed, places, Plan, refuse, change, entry, committed, performed, called}

@@ -7,7 +7,7 @@ use mathlib.Core.List.{List, ◌++◌}
 use lib.ListN.{length, take, drop}
 use lib.Seq.{length-sets, take_at, length-take-le}
 use lib.Ieee.{Float, binary32, of_bits}
-use Rattle.leaves.specs.Choice.{if◌then◌else◌}
+use Rattle.std.specs.Prelude.{if◌then◌else◌}
 use Rattle.leaves.proofs.Choice.{picks_by}
 use Rattle.leaves.proofs.Literals.{one_word}
 use Rattle.recording.specs.declared.Reason.{Reason}

@@ -4,7 +4,7 @@
 -- Limits.antt under the same names, written small.
 use Rattle.std.specs.Prelude.{ℕ, ◌≤◌, List, [], length, take, replicate, Float}
 use Rattle.leaves.specs.Arithmetic.{nought, one}
-use Rattle.leaves.specs.Choice.{if◌then◌else◌}
+use Rattle.std.specs.Prelude.{if◌then◌else◌}
 use Rattle.recording.specs.Recording.{State, state, opened}
 use Rattle.recording.specs.Counts.{blocks}
 use Rattle.recording.specs.History.{fresh}

@@ -1,6 +1,7 @@
 // Numbers as bytes, the lowest byte first: one of 16 bits, one of 32, and a row of words; and the bytes of
 // each.
 #![tactic(auto)]
+
 ghost use Rattle.std.specs.Prelude.{◌≡◌, ◌+◌, ◌*◌, ◌≤◌, length};
 ghost use Rattle.std.proofs.lemmas.List.Edits.{sets};
 ghost use Rattle.wire.specs.Wire.{half_at, word_at, decoded, bytes_of, encoded, half_bytes};

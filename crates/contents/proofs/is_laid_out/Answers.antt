@@ -63,8 +63,7 @@ pub returns-then-word_at-parts : goal.returns-then-word_at-parts
 returns-then-word_at-parts c = other_count _ _ _ _ c.word_at.ensures c.if-word_at-parts.true
 
 pub loop-k-init : goal.loop-k-init
-loop-k-init c =
-    (
+loop-k-init c = (
   omega arith,
   omega arith,
   omega arith,
@@ -87,14 +86,13 @@ pub loop-k-smaller : goal.loop-k-smaller
 loop-k-smaller c = omega arith
 
 pub loop-k-preserved : goal.loop-k-preserved
-loop-k-preserved c =
-    (
-      omega arith,
-      omega arith,
-      omega arith,
-      goes_on _ _ _ _ _ _ _ c.loop-k-test.true c.loop-k.invariant.3 _ c.word_at-in-loop-k.ensures
-          c.if-word_at-k.false _ _ c.word_at-in-loop-k-2.ensures c.if-word_at-at.false c.word_at-in-loop-k-3.ensures,
-    )
+loop-k-preserved c = (
+  omega arith,
+  omega arith,
+  omega arith,
+  goes_on _ _ _ _ _ _ _ c.loop-k-test.true c.loop-k.invariant.3 _ c.word_at-in-loop-k.ensures
+      c.if-word_at-k.false _ _ c.word_at-in-loop-k-2.ensures c.if-word_at-at.false c.word_at-in-loop-k-3.ensures,
+)
 
 pub returns : goal.returns
 returns c = all_rows _ _ _ _ _ _ _ c.loop-k-test.false c.loop-k.invariant.3

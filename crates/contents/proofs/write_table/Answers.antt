@@ -63,14 +63,13 @@ all_rows bytes whole lens row number at k end rest =
     ap (λ (l : List ℕ). sets bytes row (encoded (rows number at l))) (sym (drop_of_length-le lens end)) ∙ rest
 
 pub loop-k-init : goal.loop-k-init
-loop-k-init c =
-    (
-      omega arith,
-      omega arith,
-      refl,
-      rows_below _ _ _ _ _ c.store_word.ensures c.bodies_at-offset.ensures c.requires.2,
-      refl,
-    )
+loop-k-init c = (
+  omega arith,
+  omega arith,
+  refl,
+  rows_below _ _ _ _ _ c.store_word.ensures c.bodies_at-offset.ensures c.requires.2,
+  refl,
+)
 
 pub overflow_cast-k : goal.overflow_cast-k
 overflow_cast-k c = omega arith

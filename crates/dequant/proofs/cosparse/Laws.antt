@@ -17,7 +17,7 @@ use Rattle.leaves.proofs.Parts.{take-sets, drop-sets, part_of_sets}
 use Rattle.leaves.proofs.words.Laws.{number_test}
 use Rattle.recording.specs.Recording.{State, called}
 use Rattle.recording.specs.Marks.{dequantize}
-use Rattle.leaves.specs.Choice.{if◌then◌else◌}
+use Rattle.std.specs.Prelude.{if◌then◌else◌}
 use Rattle.leaves.proofs.Choice.{picks, both_hold}
 use Rattle.redraw.specs.Whole.{Drawn, drawn, untouched, sample, whole_plan}
 use Rattle.redraw.specs.Inner.{words_in, flags_in, rest_of, drawn_in, Holds, Room}

@@ -12,7 +12,7 @@ use Rattle.leaves.specs.Floats.{larger}
 use Rattle.leaves.proofs.words.Laws.{nan_test, one_nan}
 use Rattle.recording.specs.Answers.{number, reason_number}
 use Rattle.recording.specs.Recording.{State, Ended, ended, fitting, or_else, work_after}
-use Rattle.leaves.specs.Choice.{if◌then◌else◌}
+use Rattle.std.specs.Prelude.{if◌then◌else◌}
 use Rattle.recording.specs.declared.Reason.{Reason}
 use Rattle.recording.specs.declared.Reason.TheVariants.{Setting}
 use Rattle.recording.specs.declared.Answer.{Answer}

@@ -5,10 +5,10 @@ use mathlib.Core.Bool.{and-false, or-false}
 use native.Mathlib.Decide.{ℕ_discrete}
 use lib.Ieee.{Float, binary32, eq, ne, is_nan, of_bits}
 use borrow.Author.Tests.{lt-leb}
-use Rattle.leaves.specs.Arithmetic.{nought, one, float}
+use Rattle.leaves.specs.Arithmetic.{nought, float}
 use Rattle.leaves.specs.Floats.{in_range}
 use Rattle.leaves.proofs.words.Laws.{nan_test, one_nan}
-use Rattle.leaves.specs.Choice.{if◌then◌else◌}
+use Rattle.std.specs.Prelude.{if◌then◌else◌}
 use Rattle.recording.specs.Runs.{run_length}
 use Rattle.leaves.proofs.Choice.{truth, EitherWay, both_hold}
 use Rattle.inpaint.specs.Auto.{zero_or_nan, holdable, continues, continues_at, run_begins, run_at, long_enough, kept}

@@ -6,7 +6,7 @@ use Rattle.leaves.specs.Arithmetic.{nought}
 use Rattle.recording.specs.Recording.{State, Ended, ended, refused, Plan, refuse, change, span, fitting, carried}
 use Rattle.recording.specs.Recording.{clears, work_after}
 use Rattle.recording.specs.Marks.{gap_by_model, gap_by_line}
-use Rattle.leaves.specs.Choice.{if◌then◌else◌}
+use Rattle.std.specs.Prelude.{if◌then◌else◌}
 use Rattle.recording.specs.declared.Reason.{Reason}
 use Rattle.recording.specs.declared.Reason.TheVariants.{Gap, Workspace}
 use Rattle.recording.specs.declared.Answer.{Answer}

@@ -9,7 +9,7 @@ use borrow.Author.Tests.{lt-ltb, le-ltb, eq-eqb, ne_eqb, eqb-true, ltb-false, no
 use native.Mathlib.Omega.{arith}
 use lib.ListN.{length, replicate, length-map, length-replicate}
 use lib.Seq.{sets, length-sets}
-use Rattle.leaves.specs.Choice.{if◌then◌else◌}
+use Rattle.std.specs.Prelude.{if◌then◌else◌}
 use Rattle.leaves.proofs.Choice.{picks_by}
 use Rattle.leaves.proofs.Stores.{stored_over}
 use Rattle.recording.specs.Recording.{State, state, ended, most_samples, differ, counts_wrong, too_many, over_used, or_else, alike}

@@ -35,8 +35,7 @@ search-smaller-in-loop-end c = omega arith
 
 pub search-preserved-in-loop-end : goal.search-preserved-in-loop-end
 search-preserved-in-loop-end c =
-    let followed = c.loop-end.invariant in
-    (
+    let followed = c.loop-end.invariant in (
       followed.0,
       omega arith,
       search_touches _ _ _ _ _ _ c.search-test.true c.search.invariant.2 _
@@ -79,8 +78,7 @@ search-smaller-then-not-continues_run c = omega arith
 pub search-preserved-then-not-continues_run : goal.search-preserved-then-not-continues_run
 search-preserved-then-not-continues_run c =
     let none = sym c.continues_run.ensures ∙ not-true _ (ap not c.if-not-continues_run.true) in
-    let followed = c.loop-end.invariant in
-    (
+    let followed = c.loop-end.invariant in (
       followed.0,
       omega arith,
       search_fails _ _ _ _ _ _ c.search-test.true c.search.invariant.2 _
@@ -108,13 +106,12 @@ pub search-smaller : goal.search-smaller
 search-smaller c = omega arith
 
 pub search-preserved : goal.search-preserved
-search-preserved c =
-    (
-      c.search.invariant.0,
-      omega arith,
-      search_passes _ _ _ _ _ _ c.search-test.true c.search.invariant.2 _ c.run_begins.ensures
-          c.if-run_begins.false,
-    )
+search-preserved c = (
+  c.search.invariant.0,
+  omega arith,
+  search_passes _ _ _ _ _ _ c.search-test.true c.search.invariant.2 _ c.run_begins.ensures
+      c.if-run_begins.false,
+)
 
 pub returns-after-search : goal.returns-after-search
 returns-after-search c =

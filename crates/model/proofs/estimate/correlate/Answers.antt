@@ -4,7 +4,6 @@ use Prim.Native.Nat.{◌+◌, ◌-◌}
 use native.Mathlib.Omega.{arith}
 use mathlib.Core.Path.{◌≡◌, refl}
 use lib.ListN.{length-set, length-take}
-use Rattle.model.specs.Model.{lag_sum}
 use Rattle.model.proofs.estimate.Laws.{fill_start, lag_turn, lag_done}
 use Rattle.model.proofs.estimate.correlate.Goals as goal
 

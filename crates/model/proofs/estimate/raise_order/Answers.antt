@@ -4,7 +4,6 @@ use Prim.Native.Nat.{◌+◌, ◌-◌, ◌≤◌}
 use native.Mathlib.Omega.{arith}
 use mathlib.Core.Path.{◌≡◌, refl}
 use lib.ListN.{length, length-set, length-take, length-drop}
-use Rattle.model.specs.Model.{raised_at}
 use Rattle.model.proofs.estimate.Laws.{fill_start, raise_turn, raise_done}
 use Rattle.model.proofs.estimate.raise_order.Goals as goal
 

@@ -4,7 +4,6 @@ use Prim.Native.Nat.{◌+◌, ◌-◌, ◌≤◌}
 use native.Mathlib.Omega.{arith}
 use mathlib.Core.Path.{◌≡◌, refl}
 use lib.ListN.{length-set, length-take, length-drop}
-use Rattle.model.specs.Model.{coef_at}
 use Rattle.model.proofs.estimate.Laws.{fill_start}
 use Rattle.model.proofs.fill.Laws.{coef_turn, coef_done}
 use Rattle.model.proofs.fill.coef_autocorr.Goals as goal

@@ -4,7 +4,6 @@ use Prim.Native.Nat.{◌+◌, ◌-◌, ◌≤◌}
 use native.Mathlib.Omega.{arith}
 use mathlib.Core.Path.{◌≡◌, refl}
 use lib.ListN.{length-set, length-take, length-drop}
-use Rattle.model.specs.Model.{right_side}
 use Rattle.model.proofs.estimate.Laws.{fill_start}
 use Rattle.model.proofs.fill.Laws.{side_turn, side_done}
 use Rattle.model.proofs.fill.right_sides.Goals as goal

@@ -5,7 +5,6 @@ use native.Mathlib.Nat.{sub-zero}
 use mathlib.Core.Path.{refl}
 use lib.ListN.{length-set}
 use Rattle.leaves.proofs.Stores.{run_more, all_stored}
-use mathlib.Core.Bool.{false}
 use lib.Ieee.{of_bits}
 use Rattle.recording.proofs.clear.clear_doubles.Goals as goal
 

@@ -38,12 +38,11 @@ pub loop-i-smaller : goal.loop-i-smaller
 loop-i-smaller c = omega arith
 
 pub loop-i-preserved : goal.loop-i-preserved
-loop-i-preserved c =
-    (
-      omega arith,
-      omega arith,
-      subst (Counts c.loop-i.m _) (pick_none _ _ _ c.loop-i-test.true c.if-work-n-ne0.false) c.loop-i.invariant.2,
-    )
+loop-i-preserved c = (
+  omega arith,
+  omega arith,
+  subst (Counts c.loop-i.m _) (pick_none _ _ _ c.loop-i-test.true c.if-work-n-ne0.false) c.loop-i.invariant.2,
+)
 
 pub returns : goal.returns
 returns c = rw add-zero at (subst (Counts c.loop-i.m _) (pick_end _ _ _ c.loop-i-test.false) c.loop-i.invariant.2)

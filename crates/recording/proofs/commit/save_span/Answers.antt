@@ -3,7 +3,6 @@
 use native.Mathlib.Omega.{arith}
 use mathlib.Core.Path.{refl, sym, ◌∙◌}
 use native.Mathlib.Nat.{add-zero, sub-zero}
-use Rattle.recording.specs.Recording.{saved}
 use Rattle.recording.proofs.commit.Laws.{span_save, span_saved}
 use Rattle.recording.proofs.commit.save_span.Goals as goal
 

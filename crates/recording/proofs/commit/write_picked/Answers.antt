@@ -9,8 +9,7 @@ use Rattle.recording.proofs.commit.write_picked.Invariants.{Writes, Marks}
 use Rattle.recording.proofs.commit.write_picked.Goals as goal
 
 pub loop-i-init : goal.loop-i-init
-loop-i-init c =
-    (
+loop-i-init c = (
   omega arith,
   refl,
   refl,

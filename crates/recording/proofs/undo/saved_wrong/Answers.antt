@@ -54,12 +54,11 @@ pub loop-i-smaller : goal.loop-i-smaller
 loop-i-smaller c = omega arith
 
 pub loop-i-preserved : goal.loop-i-preserved
-loop-i-preserved c =
-    (
-      omega arith,
-      none_wrong _ _ _ _ _ _ _ _ c.loop-i-test.true c.loop-i.invariant.1
-          c.index-place.ensures c.if-place-least.false c.if-n-place.false c.if-journal-at-gt-LAST_BYTE.false,
-    )
+loop-i-preserved c = (
+  omega arith,
+  none_wrong _ _ _ _ _ _ _ _ c.loop-i-test.true c.loop-i.invariant.1
+      c.index-place.ensures c.if-place-least.false c.if-n-place.false c.if-journal-at-gt-LAST_BYTE.false,
+)
 
 pub returns : goal.returns
 returns c = all_tested _ _ _ _ _ _ _ c.loop-i.invariant.1 c.loop-i-test.false

@@ -1,0 +1,7 @@
+-- `monitor::scan_recording` meets its contract: it scans at the rule's rate, with the rule's limit and held run. Assumes nothing.
+use Rattle.monitor.proofs.Scanning.{scanned_so}
+use Rattle.monitor.proofs.scan_recording.Goals as goal
+
+pub returns : goal.returns
+returns c =
+    scanned_so _ _ _ _ _ c.inpaint_auto.ensures
