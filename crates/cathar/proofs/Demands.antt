@@ -4,7 +4,7 @@ use mathlib.Core.Path.{◌≡◌, refl, sym, ap, subst, ◌∙◌}
 use mathlib.Core.Bool.{Bool, true, false, false≢true}
 use mathlib.Core.List.{List, [], ◌∷◌, ◌++◌, map, reverse}
 use mathlib.Core.Logic.{◌⊎◌, inl, inr}
-use Prim.Native.Nat.{ℕ, zero, suc, ◌≤◌, ◌<◌}
+use Prim.Native.Nat.{ℕ, zero, suc, ◌≤◌}
 use lib.ListN.{length, get_or, replicate}
 use lib.Dec.{eqb}
 use lib.Ieee.{Float}
@@ -26,7 +26,7 @@ use Rattle.recording.proofs.Journal.{all_zero}
 use Rattle.recording.proofs.History as history
 use Rattle.recording.proofs.Asking as asking
 use Rattle.recording.proofs.Single.{above_zero, accepted_as_ruled}
-use Rattle.inpaint.specs.Gap.{gap_plan, gap_repair}
+use Rattle.inpaint.specs.Gap.{gap_repair}
 use Rattle.inpaint.specs.Auto.{limit, scannable, automatic}
 use Rattle.inpaint.specs.Runs.{Stretch, runs_of, gap_calls, run_answers, first_refusal}
 use Rattle.splice.specs.Several.{spans, lists_wrong, gaps_repair}
@@ -44,7 +44,7 @@ use Rattle.dequant.specs.Dequant.{cosparse as sparse}
 use Rattle.declip.proofs.Consequences.{declip_lawful}
 use Rattle.decrackle.proofs.Consequences.{decrackle_lawful}
 use Rattle.dequant.proofs.Consequences.{dequantize_lawful, cosparse_lawful}
-use Rattle.proposed.specs.Proposed.{proposed_plan, proposed_repair}
+use Rattle.proposed.specs.Proposed.{proposed_repair}
 use Rattle.proposed.proofs.Consequences.{proposed_is_lawful}
 use Rattle.cathar.specs.Calls.{Call, gap, gaps, scan, declip, decrackle, dequantize, cosparse, proposed, undo, Work, Outcome, told, ran}
 use Rattle.cathar.specs.Calls.{Opening, as_measured, as_received, opens}

@@ -2,6 +2,7 @@
 // of a crate below. None asks anything of its argument. Names begin with the crate's, since a name
 // is the whole program's, as in C.
 #![tactic(auto)]
+
 ghost use Rattle.std.specs.Prelude.{◌≡◌, [], ◌∷◌, length};
 ghost use Rattle.leaves.specs.Floats.{narrowed, rounded};
 ghost use Rattle.leaves.specs.Root.{Rooted};

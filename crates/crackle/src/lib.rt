@@ -2,6 +2,7 @@
 // flags the same samples and repairs nothing. A flag comes when the sample behind its own is in; where the floor
 // starts from the mean, the first 1,024 flags are held back until that is known.
 #![tactic(auto)]
+
 pub mod kept;
 
 ghost use Rattle.std.specs.Prelude.{◌≡◌, map, ◌+◌, ◌-◌, ◌^◌, ◌≤◌, ◌<◌, length, take};

@@ -1,6 +1,7 @@
 // Cubic declip: each run of clipped samples is bridged by a curve between the samples four places before it
 // and four places behind it. The curve replaces the shoulders too, so they are named as well.
 #![tactic(auto)]
+
 ghost use Rattle.std.specs.Prelude.{◌≡◌, ◌+◌, ◌-◌, ◌*◌, ◌≤◌, ◌<◌, length};
 ghost use Rattle.std.specs.Float.{binary32};
 ghost use Rattle.std.specs.Float.Ieee.{to_bits};

@@ -1,6 +1,7 @@
 // Decrackle: samples that stand out from their neighbours by more than a running floor are flagged, and
 // each flagged run is rewritten by a curve between the samples on either side of it.
 #![tactic(auto)]
+
 ghost use Rattle.std.specs.Prelude.{◌≡◌, false, ◌+◌, ◌-◌, ◌*◌, ◌≤◌, ◌<◌, length, drop};
 ghost use Rattle.std.specs.Float.{binary32};
 ghost use Rattle.std.specs.Float.Ieee.{to_bits};

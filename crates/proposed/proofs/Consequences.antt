@@ -1,28 +1,25 @@
 -- What follows from the rule of a proposal, as specs/Consequences.antt states it: the repair is lawful, a proposal is taken exactly where each
 -- sample is answered, and what stands at each sample after an accepted one. Assumes nothing.
 use mathlib.Core.Path.{◌≡◌, refl, sym, ap, subst, ◌∙◌}
-use mathlib.Core.Bool.{Bool, true, false, not, true≢false}
+use mathlib.Core.Bool.{Bool, true, false, not}
 use mathlib.Core.List.{List, [], ◌∷◌, ◌++◌, map}
-use mathlib.Core.Logic.{◌⊎◌, inl, inr}
+use mathlib.Core.Logic.{inl, inr}
 use Prim.Native.Nat.{ℕ, zero, suc, ◌+◌, ◌<◌}
 use native.Mathlib.Omega.{arith}
 use native.Mathlib.Nat.{zero-add, add-zero}
-use borrow.Author.Tests.{eq-eqb, eqb-true}
-use lib.Dec.{eqb}
+use borrow.Author.Tests.{eq-eqb}
 use lib.Ieee.{Float}
 use lib.ListN.{length, get_or, length-append}
 use lib.Seq.{set_at, append_snoc}
 use Rattle.std.specs.Prelude.{if◌then◌else◌}
 use Rattle.leaves.specs.Arithmetic.{float}
-use Rattle.leaves.specs.Floats.{in_range}
 use Rattle.leaves.proofs.Choice.{EitherWay, truth, picks}
-use Rattle.recording.specs.Recording.{State, Ended, Placed, places, put, picked, readable, unless_read, Plan, change}
+use Rattle.recording.specs.Recording.{State, Ended, Placed, put, picked, readable, unless_read, Plan, change}
 use Rattle.recording.specs.Marks.{declip_proposed}
-use Rattle.recording.specs.History.{Keeps, repair, did}
+use Rattle.recording.specs.History.{Keeps, did}
 use Rattle.recording.specs.Consequences.{Among, MadeOf}
 use Rattle.recording.proofs.Performing.{unless_kept}
 use Rattle.recording.proofs.Single.{accepted_as_ruled}
-use Rattle.recording.specs.declared.Reason.{Reason}
 use Rattle.recording.specs.declared.Reason.TheVariants.{Proposal}
 use Rattle.recording.specs.declared.Answer.{Answer}
 use Rattle.recording.specs.declared.Answer.TheVariants.{Done, Refused}
@@ -31,7 +28,7 @@ use Rattle.declip.specs.Declip.{allowed, clipped}
 use Rattle.proposed.specs.Proposed.{answers, answered, taken, named, proposed_plan, proposed_repair}
 use Rattle.proposed.specs.Inner.{checked, clipped_places}
 use Rattle.proposed.specs.Consequences.{ProposedIsLawful, AnswersEach, TakenExactlyWhen, ResultsAreInRange, SamplesAreTheProposal}
-use Rattle.proposed.specs.Consequences.{SameSide, Stands, EachSampleStands}
+use Rattle.proposed.specs.Consequences.{SameSide, EachSampleStands}
 use Rattle.proposed.proofs.Laws.{bits_kept, above_answered, below_answered, clipped_side, clipped_answered, places_named, named_ascends}
 use Rattle.proposed.proofs.Laws.{taken_length, taken_zero, taken_ranged, accepts, ends_refused}
 

@@ -1,9 +1,9 @@
 -- A proposal: the words that answer a sample, the clipped samples place by place, and how the call ends. Assumes nothing.
 use mathlib.Core.Path.{◌≡◌, refl, sym, ap, ◌∙◌}
-use mathlib.Core.Bool.{Bool, true, false, not, cond, ◌&&◌, ◌||◌}
+use mathlib.Core.Bool.{Bool, true, false, not, ◌&&◌, ◌||◌}
 use mathlib.Core.List.{List, [], ◌∷◌, map}
 use mathlib.Core.Logic.{◌⊎◌, inl, inr}
-use Prim.Native.Nat.{ℕ, suc, ◌+◌, ◌-◌, ◌*◌, ◌≤◌, ◌<◌}
+use Prim.Native.Nat.{ℕ, ◌+◌, ◌-◌, ◌≤◌, ◌<◌}
 use native.Mathlib.Omega.{arith}
 use native.Mathlib.Numerals.{add-one}
 use borrow.Author.Tests.{eq-eqb, ne_eqb, eqb-true}
@@ -13,7 +13,7 @@ use lib.ListN.{length, get_or, set, drop, drop_of_length-le}
 use lib.Seq.{sets, drop-cons, drop-set-lt}
 use Rattle.std.specs.Prelude.{if◌then◌else◌}
 use Rattle.leaves.specs.Arithmetic.{float}
-use Rattle.leaves.specs.Floats.{magnitude, in_range}
+use Rattle.leaves.specs.Floats.{in_range}
 use Rattle.leaves.proofs.Choice.{EitherWay, truth, both_hold}
 use Rattle.leaves.proofs.Comparing.{beyond_side}
 use Rattle.recording.specs.Recording.{State, Ended, ended, fitting, or_else, unless_refused, unless_read, readable, ranged, Placed, places, put, each}

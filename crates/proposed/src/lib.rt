@@ -2,6 +2,7 @@
 // one is taken, so that no method, however wrong, can change a sample under the threshold or move a clipped
 // one to where the pump cannot have been.
 #![tactic(auto)]
+
 ghost use Rattle.std.specs.Prelude.{◌≡◌, ◌+◌, ◌*◌, ◌≤◌, length};
 ghost use Rattle.std.proofs.lemmas.List.Edits.{sets};
 ghost use Rattle.recording.specs.Recording.{ended, most_samples, places, put, each, saved, three_words, entered};

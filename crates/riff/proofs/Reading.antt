@@ -1,8 +1,8 @@
 -- The reader of a WAV file: what its tests say of a file, one law for each way out, and the ways in which the reading ends. Assumes nothing.
-use Rattle.std.proofs.Common.{◌≡◌, ℕ, zero, suc, ◌+◌, ◌-◌, ◌*◌, ◌/◌, ◌%◌, ◌<◌, ◌≤◌, Bool, true, false, not, ◌&&◌, ◌||◌, eqb, ltb, leb, ◌⊎◌, List, [], ◌∷◌, map, length, set, replicate, sym, refl, ap, ◌∙◌, inl, inr, true≢false, arith, ltb-false, ltb-true, le-ltb, lt-ltb, eq-eqb, ne_eqb, eqb-true, leb-true}
+use Rattle.std.proofs.Common.{◌≡◌, ℕ, suc, ◌+◌, ◌-◌, ◌*◌, ◌/◌, ◌%◌, ◌<◌, ◌≤◌, Bool, true, false, ◌&&◌, ◌||◌, eqb, ltb, leb, ◌⊎◌, List, map, length, set, replicate, sym, refl, ap, ◌∙◌, inl, inr, arith, ltb-false, ltb-true, le-ltb, lt-ltb, eq-eqb, ne_eqb, eqb-true, leb-true}
 use mathlib.Core.Bool.{and-false}
 use lib.Seq.{sets}
-use Rattle.leaves.proofs.Choice.{truth, both_hold, neither, either, EitherWay}
+use Rattle.leaves.proofs.Choice.{truth, both_hold, neither, EitherWay}
 use Rattle.wire.specs.Wire.{half_at, word_at, halves}
 use Rattle.wire.proofs.Laws.{length_halves}
 use Rattle.recording.specs.Answers.{number}
@@ -13,10 +13,9 @@ use Rattle.recording.specs.declared.Reason.TheVariants.{TooMany, Wave, Coding, O
 use Rattle.recording.specs.declared.Answer.{Answer}
 use Rattle.recording.specs.declared.Answer.TheVariants.{Done, Refused}
 use Rattle.recording.proofs.Answers.{never_both}
-use Rattle.riff.specs.declared.Sound.{Sound}
 use Rattle.riff.specs.declared.Sound.TheVariants.{Stands, NoWave}
 use Rattle.riff.specs.Values.{sample_word}
-use Rattle.riff.specs.Chunks.{riff_name, wave_name, fmt_name, data_name, head_bytes, name_at, size_at, next_at, named, chunks_from, end_from, first_of}
+use Rattle.riff.specs.Chunks.{riff_name, wave_name, fmt_name, data_name, head_bytes, name_at, size_at, named, end_from}
 use Rattle.riff.specs.Wav.{first_chunk, whole, first_named, fmt_bytes, format_at, data_at, fmt_before_data, is_wave, tag_at, channels_at, rate_at, bits_at}
 use Rattle.riff.specs.Wav.{pcm, mono_pcm, values_at, Heard, heard, unheard, wav_read}
 use Rattle.riff.specs.Inner.{sound_in}

@@ -1,10 +1,9 @@
 -- The walk over chunks: as many turns as the file has bytes are enough from every place, so that the walk from a chunk on is that chunk and
 -- the walk from the next one on; where the walk ends the file, each chunk lies within it; and what the first chunk that a test takes is.
 -- Assumes nothing.
-use Rattle.std.proofs.Common.{◌≡◌, ℕ, zero, suc, ◌+◌, ◌*◌, ◌%◌, ◌<◌, ◌≤◌, Bool, true, false, ltb, ◌⊎◌, List, [], ◌∷◌, length, sym, refl, ap, ◌∙◌, inl, inr, arith, ltb-false, ltb-true, le-ltb, lt-ltb}
-use Rattle.std.specs.Prelude.{if◌then◌else◌}
+use Rattle.std.proofs.Common.{◌≡◌, ℕ, zero, suc, ◌+◌, ◌<◌, ◌≤◌, Bool, true, false, ltb, ◌⊎◌, List, [], ◌∷◌, length, sym, refl, ap, ◌∙◌, inl, inr, arith, ltb-false, ltb-true, le-ltb, lt-ltb}
 use Rattle.leaves.proofs.Choice.{truth}
-use Rattle.riff.specs.Chunks.{head_bytes, padded, next_at, size_at, beginnings, ending, chunks_from, end_from, first_of}
+use Rattle.riff.specs.Chunks.{head_bytes, next_at, beginnings, ending, chunks_from, end_from, first_of}
 use Rattle.riff.specs.Consequences.{WalkEnds}
 
 -- ---- Turns enough

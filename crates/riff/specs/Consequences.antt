@@ -2,7 +2,6 @@
 -- Values.antt, Walk.antt or BothWays.antt of proofs/, which nobody has to read.
 use Rattle.std.specs.Prelude.{◌≡◌, ℕ, ◌*◌, ◌<◌, ◌≤◌, Bool, true, ◌⊎◌, List, map, length, take, replicate}
 use Rattle.std.proofs.lemmas.List.Edits.{sets}
-use Rattle.std.specs.Float.Ieee.{mul}
 use Rattle.std.specs.Float.Ieee.Exact.{HasValue}
 use Rattle.leaves.specs.Arithmetic.{float, ◌*₃₂◌}
 use Rattle.leaves.specs.Floats.{in_range}

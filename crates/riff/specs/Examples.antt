@@ -1,7 +1,7 @@
 -- Files by hand: the bytes of one that we write, what the reader gives for files that are whole, cut, made longer or changed, and what
 -- samples are written as: one statement for each table, which the checker computes.
-use Rattle.std.specs.Prelude.{◌≡◌, ℕ, ◌+◌, List, [], ◌∷◌, ◌++◌, map, take, replicate, refl}
-use Rattle.std.specs.Float.Ieee.{lt, le}
+use Rattle.std.specs.Prelude.{◌≡◌, ℕ, ◌+◌, List, [], ◌∷◌, ◌++◌, map, take, refl}
+use Rattle.std.specs.Float.Ieee.{lt}
 use Rattle.recording.specs.Answers.{number}
 use Rattle.recording.specs.declared.Answer.TheVariants.{Done}
 use Rattle.riff.specs.Values.{sample_word, value_of}

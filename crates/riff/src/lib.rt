@@ -1,5 +1,6 @@
 // WAV in and out: mono 16-bit PCM, read from a RIFF WAVE file into samples and marks, and written as one.
 #![tactic(auto)]
+
 pub mod chunks;
 pub mod read;
 pub mod value;

@@ -1,6 +1,7 @@
 // Settings kept on the recorder: a stored block of a version, a contents table and a word for each setting. It
 // is read into settings by value and written from them.
 #![tactic(auto)]
+
 pub mod allowed;
 pub mod read;
 pub mod words;

@@ -1,5 +1,6 @@
 // Several gaps in one call, as a splice editor hands them over: each is repaired by the single call.
 #![tactic(auto)]
+
 ghost use Rattle.std.specs.Prelude.{◌≡◌, length};
 ghost use Rattle.recording.specs.Lent.{left, lent};
 ghost use Rattle.recording.specs.declared.Answer.TheVariants.{Done};

@@ -25,12 +25,11 @@ returns-then-flags-due c =
     end_short _ _ _ c.if-held-lt-MEAN_OVER.false _ c.not_all.ensures c.if-not_all.false _ c.given_by.ensures c.if-flags-due.true
 
 pub judge-requires : goal.judge-requires
-judge-requires c =
-    (
-      omega (arith, c.if-taken-eq0.false),
-      c.if-held-lt-MEAN_OVER.false,
-      end_room _ _ _ _ c.if-held-lt-MEAN_OVER.false c.given_by.ensures c.if-taken-eq0.false c.if-flags-due.false,
-    )
+judge-requires c = (
+  omega (arith, c.if-taken-eq0.false),
+  c.if-held-lt-MEAN_OVER.false,
+  end_room _ _ _ _ c.if-held-lt-MEAN_OVER.false c.given_by.ensures c.if-taken-eq0.false c.if-flags-due.false,
+)
 
 pub returns : goal.returns
 returns c =

@@ -4,7 +4,6 @@ use Prim.Native.Nat.{◌+◌}
 use mathlib.Core.Path.{◌≡◌, refl}
 use native.Mathlib.Omega.{arith}
 use lib.ListN.{length-set}
-use Rattle.crackle.specs.Pieces.{flag_byte}
 use Rattle.crackle.proofs.Judging.{floor_more, flags_more, floor_all, flags_all}
 use Rattle.crackle.proofs.judge_held.Goals as goal
 

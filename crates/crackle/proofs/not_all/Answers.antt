@@ -1,7 +1,6 @@
 -- `crackle::not_all` meets its contract: a run that goes on is judged by its counts. Assumes nothing.
 use borrow.Author.Tests.{not-false}
 use Rattle.crackle.proofs.Steps.{all_in}
-use Rattle.std.proofs.Common.{ap, not}
 use Rattle.crackle.proofs.not_all.Goals as goal
 
 pub returns : goal.returns

@@ -21,11 +21,10 @@ pub loop-k-smaller : goal.loop-k-smaller
 loop-k-smaller c = omega (arith, c.loop-k-test.true)
 
 pub loop-k-preserved : goal.loop-k-preserved
-loop-k-preserved c =
-    (
-      omega (arith, c.loop-k-test.true),
-      sum_more _ _ c.requires _ _ _ _ _ c.loop-k-test.true c.f32_of_word.ensures c.magnitude32-sum.ensures c.loop-k.invariant.1,
-    )
+loop-k-preserved c = (
+  omega (arith, c.loop-k-test.true),
+  sum_more _ _ c.requires _ _ _ _ _ c.loop-k-test.true c.f32_of_word.ensures c.magnitude32-sum.ensures c.loop-k.invariant.1,
+)
 
 pub returns : goal.returns
 returns c = sum_whole _ _ c.requires _ _ c.loop-k-test.false c.loop-k.invariant.1

@@ -1,7 +1,6 @@
 -- `crackle::too_much` meets its contract: a run that goes on is judged by its counts. Assumes nothing.
 use borrow.Author.Tests.{not-false}
 use Rattle.crackle.proofs.Steps.{more_in, too_many_left}
-use Rattle.std.proofs.Common.{ap, not}
 use Rattle.crackle.proofs.too_much.Goals as goal
 
 pub returns-then-detector : goal.returns-then-detector

@@ -1,6 +1,5 @@
 -- `declip::bridge_runs` meets its contract. The loop's invariant: bridging the runs that are left gives the whole. The measure
 -- is how many places are left. Assumes nothing.
-use mathlib.Core.Logic.{⊎_elim}
 use native.Mathlib.Omega.{arith}
 use Rattle.redraw.proofs.Workspace.{room_stays}
 use Rattle.declip.proofs.Laws.{runs_begin, run_bridged, run_passed, runs_end}

@@ -22,8 +22,7 @@ loop-k-preserved c =
 pub returns : goal.returns
 returns c =
     let inv = c.loop-k.invariant in
-    let h = c.requires in
-    (
+    let h = c.requires in (
       curve_all _ _ _ _ _ _ _ _ _ _ c.loop-k-test.false inv.3
           ∙ curve_is _ _ _ _ _ _ _ _ _ h.1 h.2 h.3 c.f32_of_word-p0.ensures c.f32_of_word-p1.ensures
           c.slope_before-m0.ensures c.slope_behind-m1.ensures c.count_as_f32-span.ensures,

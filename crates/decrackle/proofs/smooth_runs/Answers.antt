@@ -1,7 +1,6 @@
 -- `decrackle::smooth_runs` meets its contract. The loop's invariant: rewriting the runs that are left gives the whole, and the
 -- flags are as they were. The measure is how many places are left. Assumes nothing.
 use mathlib.Core.Path.{refl}
-use mathlib.Core.Logic.{⊎_elim}
 use native.Mathlib.Omega.{arith}
 use Rattle.decrackle.proofs.Drawing.{smoothing_room, smooth_none, run_inside, smooth_one, smooth_all}
 use Rattle.decrackle.proofs.smooth_runs.Goals as goal

@@ -60,11 +60,10 @@ pub loop-at-smaller : goal.loop-at-smaller
 loop-at-smaller c = omega arith
 
 pub loop-at-preserved : goal.loop-at-preserved
-loop-at-preserved c =
-    (
-      omega arith,
-      passed _ c.loop-at.at _ _ _ (omega arith) c.word_at.ensures c.padded-taken.ensures c.loop-at.invariant.1,
-    )
+loop-at-preserved c = (
+  omega arith,
+  passed _ c.loop-at.at _ _ _ (omega arith) c.word_at.ensures c.padded-taken.ensures c.loop-at.invariant.1,
+)
 
 pub returns : goal.returns
 returns c =

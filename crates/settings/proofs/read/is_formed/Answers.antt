@@ -74,12 +74,11 @@ pub loop-k-smaller : goal.loop-k-smaller
 loop-k-smaller c = omega arith
 
 pub loop-k-preserved : goal.loop-k-preserved
-loop-k-preserved c =
-    (
-      omega arith,
-      c.loop-k.invariant.1,
-      one_word _ _ _ _ (some_left _ _ _ c.loop-k-test.true) c.length_of.ensures c.loop-k.invariant.2 c.if-length_of-ne4.false,
-    )
+loop-k-preserved c = (
+  omega arith,
+  c.loop-k.invariant.1,
+  one_word _ _ _ _ (some_left _ _ _ c.loop-k-test.true) c.length_of.ensures c.loop-k.invariant.2 c.if-length_of-ne4.false,
+)
 
 pub returns : goal.returns
 returns c = all_looked_at _ _ _ (none_left _ _ _ c.loop-k-test.false) c.loop-k.invariant.2

@@ -23,12 +23,11 @@ returns-then-not-is_formed c =
     _ _ c.is_formed.ensures (not-true _ (ap not c.if-not-is_formed.true)) ∙ opened _
 
 pub decode-requires : goal.decode-requires
-decode-requires c =
-    (
-      within SettingsV1 KeptV1 parts_v1 settings_v1 allowed_v1 KnownV1 (TurnedAwayV1 Stored)
-          _ _ c.is_formed.ensures (not-false _ (ap not c.if-not-is_formed.false)) _ c.bodies_at.ensures,
-      omega arith,
-    )
+decode-requires c = (
+  within SettingsV1 KeptV1 parts_v1 settings_v1 allowed_v1 KnownV1 (TurnedAwayV1 Stored)
+      _ _ c.is_formed.ensures (not-false _ (ap not c.if-not-is_formed.false)) _ c.bodies_at.ensures,
+  omega arith,
+)
 
 pub returns-then-not-allowed_v1 : goal.returns-then-not-allowed_v1
 returns-then-not-allowed_v1 c =

@@ -23,12 +23,11 @@ returns-then-not-is_formed c =
     _ _ c.is_formed.ensures (not-true _ (ap not c.if-not-is_formed.true)) ∙ opened _
 
 pub decode-requires : goal.decode-requires
-decode-requires c =
-    (
-      within Settings Kept parts settings allowed Known (TurnedAway Stored)
-          _ _ c.is_formed.ensures (not-false _ (ap not c.if-not-is_formed.false)) _ c.bodies_at.ensures,
-      omega arith,
-    )
+decode-requires c = (
+  within Settings Kept parts settings allowed Known (TurnedAway Stored)
+      _ _ c.is_formed.ensures (not-false _ (ap not c.if-not-is_formed.false)) _ c.bodies_at.ensures,
+  omega arith,
+)
 
 pub returns-then-not-allowed : goal.returns-then-not-allowed
 returns-then-not-allowed c =
