@@ -4,25 +4,56 @@
 // samples, with its first place, how many they are, their mark and, where a model made them, the model's order,
 // and `end`. Whatever is turned away is named in one line on standard error, and OUT is then not written.
 #![tactic(auto)]
+
+use std::env::FillError;
+use std::io;
+use std::rt::Env;
 use wavfile::{repair_file, say_error, say_usage};
 
+// The bytes of the longest name.
+const NAME_BYTES: usize = 4_096;
+
+// The system's numbers for an argument that is missing, and for one that is too long.
+const EINVAL: i32 = 22;
+
+const ENAMETOOLONG: i32 = 36;
+
+// Whether the program was called with an argument of this number.
+fn is_given(rt: &impl Env, i: usize) -> bool {
+    let mut none = [0u8; 0];
+    !matches!(rt.arg(i, &mut none), Err(FillError::NotPresent))
+}
+
+// The system's error for an argument that was not taken whole.
+fn error_of(error: FillError) -> io::Error {
+    io::Error::from_raw_os_error(match error {
+        FillError::NotPresent => EINVAL,
+        FillError::TooLong => ENAMETOOLONG,
+    })
+}
+
 // Two names that are whole are answered.
-fn main() {
-    if os::arg_count() != 3 {
-        say_usage();
-        return;
+fn main(rt: HostRuntime) -> io::Result<()> {
+    let mut said = rt.stderr();
+    if !is_given(&rt, 2) || is_given(&rt, 3) {
+        say_usage(&mut said);
+        return Ok(());
     }
-    let mut from = io::buffer();
-    let n = os::arg(1, &mut from);
-    if os::errno() != 0 {
-        say_error(b"IN");
-        return;
-    }
-    let mut to = io::buffer();
-    let m = os::arg(2, &mut to);
-    if os::errno() != 0 {
-        say_error(b"OUT");
-        return;
-    }
-    repair_file(&from[..n], &to[..m]);
+    let mut from = [0u8; NAME_BYTES];
+    let n = match rt.arg(1, &mut from) {
+        Ok(n) => n,
+        Err(error) => {
+            say_error(&mut said, b"IN", error_of(error));
+            return Ok(());
+        }
+    };
+    let mut to = [0u8; NAME_BYTES];
+    let m = match rt.arg(2, &mut to) {
+        Ok(m) => m,
+        Err(error) => {
+            say_error(&mut said, b"OUT", error_of(error));
+            return Ok(());
+        }
+    };
+    repair_file(&rt, &mut said, &from[..n], &to[..m])
 }

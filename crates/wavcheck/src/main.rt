@@ -1,11 +1,17 @@
 // Holds the file that `wav` writes to the one that it is to write: repairs `pump.wav` as `wav` does, which writes
 // the report, and compares the file that comes of it with `expected.wav`, byte for byte.
 #![tactic(auto)]
+
 ghost use Rattle.std.specs.Prelude.{◌≡◌};
 ghost use Rattle.wavcheck.specs.Same.{same_bytes};
 
-use libc::STDOUT_FILENO;
+use std::io;
+use std::io::Write;
+use std::rt::Files;
 use wavfile::{Loaded, load_file, repair_file};
+
+// The bytes of the largest file that is compared.
+const MOST_BYTES: usize = 65_536;
 
 // How many bytes two files have in common before the first that differs, or that only one has.
 fn same_bytes(a: &[u8], b: &[u8]) -> usize
@@ -25,40 +31,47 @@ fn same_bytes(a: &[u8], b: &[u8]) -> usize
 }
 
 // Writes whether two files are the same.
-fn compare(a: &[u8], b: &[u8]) {
+fn compare<R: Print>(rt: &R, a: &[u8], b: &[u8]) -> io::Result<()> {
     let n = same_bytes(a, b);
     if n == a.len() && n == b.len() {
-        io::write_all(STDOUT_FILENO, b"output as expected: ");
-        io::print_decimal(STDOUT_FILENO, n as u64);
-        io::write_all(STDOUT_FILENO, b" bytes\n");
+        println!(rt; "output as expected: {n} bytes")
     } else {
-        io::write_all(STDOUT_FILENO, b"output differs at byte ");
-        io::print_decimal(STDOUT_FILENO, n as u64);
-        io::write_all(STDOUT_FILENO, b"\n");
+        println!(rt; "output differs at byte {n}")
     }
 }
 
 // Reads the second file and compares it.
-fn compare_with(a: &[u8], name: &[u8]) {
-    let mut space = io::large_buffer();
-    let loaded = load_file(name, &mut space);
+fn compare_with<R: Files + Print, W: Write>(
+    rt: &R,
+    said: &mut W,
+    a: &[u8],
+    name: &[u8],
+) -> io::Result<()> {
+    let mut space = [0u8; MOST_BYTES];
+    let loaded = load_file(rt, said, name, &mut space);
     let Loaded::Bytes(n) = loaded else {
-        return;
+        return Ok(());
     };
-    compare(a, &space[..n]);
+    compare(rt, a, &space[..n])
 }
 
 // Reads both files and compares them.
-fn compare_files(name: &[u8], other: &[u8]) {
-    let mut space = io::large_buffer();
-    let loaded = load_file(name, &mut space);
+fn compare_files<R: Files + Print, W: Write>(
+    rt: &R,
+    said: &mut W,
+    name: &[u8],
+    other: &[u8],
+) -> io::Result<()> {
+    let mut space = [0u8; MOST_BYTES];
+    let loaded = load_file(rt, said, name, &mut space);
     let Loaded::Bytes(n) = loaded else {
-        return;
+        return Ok(());
     };
-    compare_with(&space[..n], other);
+    compare_with(rt, said, &space[..n], other)
 }
 
-fn main() {
-    repair_file(b"pump.wav", b"out.wav");
-    compare_files(b"out.wav", b"expected.wav");
+fn main(rt: HostRuntime) -> io::Result<()> {
+    let mut said = rt.stderr();
+    repair_file(&rt, &mut said, b"pump.wav", b"out.wav")?;
+    compare_files(&rt, &mut said, b"out.wav", b"expected.wav")
 }

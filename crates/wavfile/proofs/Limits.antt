@@ -1,11 +1,11 @@
 -- The limit of 1 ms is at most 384 samples at rates up to 384,000 a second: a product of floats grows with its factors, and what is cut
 -- off a float grows with it. Assumes nothing.
-use Prim.Native.Nat.{ℕ, zero, suc, ◌*◌, ◌/◌, ◌^◌, ◌≤◌, ◌<◌}
+use Prim.Native.Nat.{ℕ, zero, suc, ◌*◌, ◌/◌, ◌≤◌, ◌<◌}
 use native.Mathlib.Nat.{le_trans, min-le_left, zero-mul}
 use native.Mathlib.Omega.{arith}
 use lib.Dec.{T, lit≤, lt→ltb}
 use mathlib.Core.Bool.{true, false}
-use lib.Ieee.{Float, nan, inf, fin, binary32, prec, up, down, le, lt, is_nan, mul, div, of_int, to_unsigned}
+use lib.Ieee.{Float, nan, inf, fin, binary32, up, down, le, lt, is_nan, of_int, to_unsigned}
 use lib.Ieee.Exact.{HasValue}
 use lib.Ieee.Back.{round_whole}
 use lib.Ieee.Nearest.{div_mono}
@@ -15,7 +15,7 @@ use Rattle.leaves.specs.Arithmetic.{◌*₃₂◌, ◌/₃₂◌, one, count}
 use Rattle.leaves.specs.Floats.{larger}
 use Rattle.leaves.proofs.Choice.{picks}
 use Rattle.inpaint.specs.Auto.{limit}
-use Rattle.wavfile.specs.Program.{limit_ms, LimitAtMost384}
+use Rattle.wavfile.specs.Program.{LimitAtMost384}
 
 -- what is cut off a float is no more than what is cut off a larger one
 cut_mono : (x y : Float) → T (positive y) → T (le x y) → to_unsigned 64 x ≤ num y / den y

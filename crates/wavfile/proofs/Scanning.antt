@@ -6,7 +6,7 @@ use mathlib.Core.Path.{◌≡◌, refl, ap, ◌∙◌}
 use mathlib.Core.List.{List, ◌∷◌}
 use lib.ListN.{length, take, replicate}
 use lib.Ieee.{Float, binary32, binary64, of_bits}
-use Rattle.leaves.specs.Arithmetic.{nought, one}
+use Rattle.leaves.specs.Arithmetic.{one}
 use Rattle.leaves.proofs.Literals.{one_word, nought_double}
 use Rattle.recording.specs.Recording.{State, state, Ended, ended, opened}
 use Rattle.recording.specs.Counts.{blocks}

@@ -1,6 +1,6 @@
 -- How many samples the limit of 1 ms is at the rates that recordings have, computed: the workspace suffices at all of these
 -- (`WorkspaceSuffices` of Program.antt).
-use Rattle.std.specs.Prelude.{ℕ, ◌≡◌, refl, [], ◌∷◌, map}
+use Rattle.std.specs.Prelude.{◌≡◌, refl, [], ◌∷◌, map}
 use Rattle.inpaint.specs.Auto.{limit}
 use Rattle.wavfile.specs.Program.{limit_ms}
 

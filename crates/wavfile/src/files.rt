@@ -6,6 +6,10 @@ ghost use Rattle.wavfile.specs.Files.{Within, suffix, part_name};
 
 use super::Loaded;
 use super::say::{say_error, say_too_long};
+use std::fs::{File, OpenFile, OpenOptions, remove_file, rename};
+use std::io;
+use std::io::{ErrorKind, Read, Write};
+use std::rt::Files;
 
 // What stands behind the name of a file that is not whole yet.
 const SUFFIX_BYTES: usize = 5;
@@ -13,43 +17,66 @@ const SUFFIX_BYTES: usize = 5;
 // The bytes of the longest name with it.
 const NAME_BYTES: usize = 4_101;
 
+// The bytes of the longest name that the system takes.
+const SYSTEM_NAME_BYTES: usize = 4_095;
+
+// The system's numbers for a name with a 0 in it, for one that is too long, and for one that is no text.
+const EINVAL: i32 = 22;
+
+const ENAMETOOLONG: i32 = 36;
+
+const EILSEQ: i32 = 84;
+
+// A name as the text that the library takes, or the system's error for one that cannot be taken.
+fn text_of(name: &[u8]) -> io::Result<&str> {
+    if SYSTEM_NAME_BYTES < name.len() {
+        return Err(io::Error::from_raw_os_error(ENAMETOOLONG));
+    }
+    if name.contains(&0) {
+        return Err(io::Error::from_raw_os_error(EINVAL));
+    }
+    str::from_utf8(name).map_err(|_| io::Error::from_raw_os_error(EILSEQ))
+}
+
 // Whether a file ends here, which a further byte shows where it does not: a space that is full may have held all
 // of it.
-fn ends_here(fd: i32, name: &[u8]) -> bool {
+fn ends_here<F: Read, W: Write>(file: &mut F, said: &mut W, name: &[u8]) -> bool {
     let mut more = [0u8; 1];
-    let got = libc::read(fd, &mut more);
-    if got < 0 {
-        say_error(name);
-        return false;
+    match file.read(&mut more) {
+        Ok(0) => true,
+        Ok(_) => {
+            say_too_long(said);
+            false
+        }
+        Err(error) => {
+            say_error(said, name, error);
+            false
+        }
     }
-    if 0 < got {
-        say_too_long();
-        return false;
-    }
-    true
 }
 
 // One read, to the start of what is left of the space: how many bytes came, none at the file's end, or that it
 // failed, which is said.
-fn load_some(fd: i32, name: &[u8], rest: &mut [u8]) -> Loaded
+fn load_some<F: Read, W: Write>(file: &mut F, said: &mut W, name: &[u8], rest: &mut [u8]) -> Loaded
     ensures { Within result (length rest.new) }
 {
-    let got = libc::read(fd, rest);
-    if got < 0 {
-        say_error(name);
-        return Loaded::Away;
+    match file.read(rest) {
+        Ok(got) => Loaded::Bytes(got),
+        Err(error) => {
+            say_error(said, name, error);
+            Loaded::Away
+        }
     }
-    Loaded::Bytes(io::count(got, rest))
 }
 
 // Reads a file that is open to its end, to the start of the space: each read goes on where the one before it
 // ended, so that less of the space is left.
-fn load_open(fd: i32, name: &[u8], space: &mut [u8]) -> Loaded
+fn load_open<F: Read, W: Write>(file: &mut F, said: &mut W, name: &[u8], space: &mut [u8]) -> Loaded
     ensures { Within result (length space.new) }
 {
     let mut at: usize = 0;
     while at < space.len() {
-        let some = load_some(fd, name, &mut space[at..]);
+        let some = load_some(file, said, name, &mut space[at..]);
         let Loaded::Bytes(more) = some else {
             return Loaded::Away;
         };
@@ -58,25 +85,29 @@ fn load_open(fd: i32, name: &[u8], space: &mut [u8]) -> Loaded
         }
         at += more;
     }
-    if ends_here(fd, name) {
+    if ends_here(file, said, name) {
         Loaded::Bytes(at)
     } else {
         Loaded::Away
     }
 }
 
+// Opens the file of this name to be read.
+fn open_to_read<R: Files>(rt: &R, name: &[u8]) -> io::Result<R::File> {
+    File::open(rt, text_of(name)?)
+}
+
 // Reads the file of this name to the start of `into`, or says why not.
-pub fn load_file(name: &[u8], into: &mut [u8]) -> Loaded
+pub fn load_file<R: Files, W: Write>(rt: &R, said: &mut W, name: &[u8], into: &mut [u8]) -> Loaded
     ensures { Within result (length into.new) }
 {
-    let fd = os::open_read(name);
-    if fd < 0 {
-        say_error(name);
-        return Loaded::Away;
+    match open_to_read(rt, name) {
+        Ok(mut file) => load_open(&mut file, said, name, into),
+        Err(error) => {
+            say_error(said, name, error);
+            Loaded::Away
+        }
     }
-    let loaded = load_open(fd, name, into);
-    libc::close(fd);
-    loaded
 }
 
 // Copies all bytes to the places from `at` on; the others stay.
@@ -102,69 +133,74 @@ fn part_name(name: &[u8], part: &mut [u8]) -> usize
     name.len() + SUFFIX_BYTES
 }
 
-// Writes all bytes to a file that is open and sees them stored, or says why not.
-fn store(fd: i32, name: &[u8], bytes: &[u8]) -> bool {
-    if !io::write_all(fd, bytes) {
-        say_error(name);
-        return false;
-    }
-    if libc::fsync(fd) < 0 {
-        say_error(name);
-        return false;
-    }
-    true
+// Writes all bytes to a file that is open and sees them stored.
+fn store<F: Write + OpenFile>(file: &mut F, bytes: &[u8]) -> io::Result<()> {
+    file.write_all(bytes)?;
+    file.sync_all()
 }
 
-// Writes all bytes to the file that was made under this name, and closes it, or says why not.
-fn fill(fd: i32, name: &[u8], bytes: &[u8]) -> bool {
-    if !store(fd, name, bytes) {
-        libc::close(fd);
-        return false;
+// Writes all bytes to a file that was made, and closes it.
+fn fill<F: Write + OpenFile + Drop>(mut file: F, bytes: &[u8]) -> io::Result<()> {
+    store(&mut file, bytes)
+}
+
+// Makes a new file of this name with these bytes. Where it was made and anything fails, it is removed.
+fn make<R: Files>(rt: &R, name: &[u8], bytes: &[u8]) -> io::Result<()> {
+    let path = text_of(name)?;
+    let file = OpenOptions::new()
+        .write(true)
+        .create_new(true)
+        .open(rt, path)?;
+    let filled = fill(file, bytes);
+    if filled.is_err() {
+        let _ = remove_file(rt, path);
     }
-    if libc::close(fd) < 0 {
-        say_error(name);
-        return false;
-    }
-    true
+    filled
 }
 
 // Whether a file may take this name, or why not: no file has it, or one that may be written and that can be stored. A
 // folder cannot be opened so, and a device, as that which swallows all, cannot be stored: neither is replaced.
-fn may_take(name: &[u8]) -> bool {
-    let fd = os::open_update(name);
-    if fd < 0 {
-        if os::errno() == libc::ENOENT {
-            return true;
-        }
-        say_error(name);
-        return false;
+fn may_take<R: Files>(rt: &R, name: &[u8]) -> io::Result<()> {
+    let opened = OpenOptions::new()
+        .read(true)
+        .write(true)
+        .open(rt, text_of(name)?);
+    match opened {
+        Ok(file) => file.sync_all(),
+        Err(error) if error.kind() == ErrorKind::NotFound => Ok(()),
+        Err(error) => Err(error),
     }
-    let stored = libc::fsync(fd);
-    if stored < 0 {
-        say_error(name);
+}
+
+// Gives a file that was made the other name. Where that fails, it is removed.
+fn take_name<R: Files>(rt: &R, part: &[u8], name: &[u8]) -> io::Result<()> {
+    let part = text_of(part)?;
+    let taken = text_of(name).and_then(|name| rename(rt, part, name));
+    if taken.is_err() {
+        let _ = remove_file(rt, part);
     }
-    libc::close(fd);
-    0 <= stored
+    taken
 }
 
 // Makes a new file of the one name with these bytes, which then takes the other, or says why not. Where it was
 // made and anything fails, it is removed.
-fn save_as(part: &[u8], name: &[u8], bytes: &[u8]) -> bool {
-    if !may_take(name) {
+fn save_as<R: Files, W: Write>(
+    rt: &R,
+    said: &mut W,
+    part: &[u8],
+    name: &[u8],
+    bytes: &[u8],
+) -> bool {
+    if let Err(error) = may_take(rt, name) {
+        say_error(said, name, error);
         return false;
     }
-    let fd = os::create(part);
-    if fd < 0 {
-        say_error(part);
+    if let Err(error) = make(rt, part, bytes) {
+        say_error(said, part, error);
         return false;
     }
-    if !fill(fd, part, bytes) {
-        os::unlink(part);
-        return false;
-    }
-    if os::rename(part, name) < 0 {
-        say_error(name);
-        os::unlink(part);
+    if let Err(error) = take_name(rt, part, name) {
+        say_error(said, name, error);
         return false;
     }
     true
@@ -172,10 +208,10 @@ fn save_as(part: &[u8], name: &[u8], bytes: &[u8]) -> bool {
 
 // Saves a file whole under its name: it is written beside it first, and takes the name once all of it is stored,
 // so that a file of that name stays where anything fails. Gives whether it was saved, and else says why not.
-pub fn save_file(name: &[u8], bytes: &[u8]) -> bool
+pub fn save_file<R: Files, W: Write>(rt: &R, said: &mut W, name: &[u8], bytes: &[u8]) -> bool
     requires { length name.now ≤ most_name }
 {
     let mut part = [0u8; NAME_BYTES];
     let n = part_name(name, &mut part);
-    save_as(&part[..n], name, bytes)
+    save_as(rt, said, &part[..n], name, bytes)
 }

@@ -2,6 +2,7 @@
 // rate, the file that is written back, and the report of it. Whatever is turned away is named in one line on
 // standard error, and then nothing is written to the other file.
 #![tactic(auto)]
+
 mod bytes;
 mod files;
 mod report;
@@ -20,6 +21,9 @@ use recording::numbers::number_of;
 use report::print_report;
 use say::say_refused;
 pub use say::{say_error, say_usage};
+use std::io;
+use std::io::Write;
+use std::rt::Files;
 
 // The most samples that are taken: 5.4 s at 48,000 a second.
 pub const MOST_SAMPLES: usize = 262_144;
@@ -46,53 +50,77 @@ struct Repaired {
 
 // Repairs the file that stands in the first n bytes of the space, saves what comes of it under the name `to`, and
 // then writes the report; or says why not. The rooms are for samples, marks and the orders of the models.
-fn repair_to(
+fn repair_to<R: Files + Print, W: Write>(
+    rt: &R,
+    said: &mut W,
     space: &mut [u8],
     n: usize,
     to: &[u8],
     samples: &mut [u32],
     marks: &mut [u8],
     orders: &mut [u32],
-)
+) -> io::Result<()>
     requires { (n ≤ length space.old) × (length to.now ≤ most_name) × (length samples.old ≤ most_input)
         × (length orders.old ≡ length samples.old) }
 {
     let repaired = repair_bytes(space, n, samples, marks, orders);
     let answer = repaired.answer;
     let Answer::Done(size) = answer else {
-        say_refused(number_of(answer));
-        return;
+        say_refused(said, number_of(answer));
+        return Ok(());
     };
-    if save_file(to, &space[..size]) {
-        let count = repaired.samples;
-        print_report(
-            repaired.rate,
-            repaired.scanned,
-            &marks[..count],
-            &orders[..count],
-        );
+    if !save_file(rt, said, to, &space[..size]) {
+        return Ok(());
     }
+    let count = repaired.samples;
+    print_report(
+        &mut io::writer(rt),
+        repaired.rate,
+        repaired.scanned,
+        &marks[..count],
+        &orders[..count],
+    )
 }
 
 // Does so with rooms of its own.
-fn repair_loaded(space: &mut [u8], n: usize, to: &[u8])
+fn repair_loaded<R: Files + Print, W: Write>(
+    rt: &R,
+    said: &mut W,
+    space: &mut [u8],
+    n: usize,
+    to: &[u8],
+) -> io::Result<()>
     requires { (n ≤ length space.old) × (length to.now ≤ most_name) }
 {
     let mut samples = [0u32; MOST_SAMPLES];
     let mut marks = [0u8; MOST_SAMPLES];
     let mut orders = [0u32; MOST_SAMPLES];
-    repair_to(space, n, to, &mut samples, &mut marks, &mut orders);
+    repair_to(
+        rt,
+        said,
+        space,
+        n,
+        to,
+        &mut samples,
+        &mut marks,
+        &mut orders,
+    )
 }
 
 // Repairs the dropouts of the WAV file of one name into that of the other, which may be the same, and writes the
-// report to standard output. A name has at most 4,096 bytes.
-pub fn repair_file(from: &[u8], to: &[u8])
+// report to standard output. A name has at most 4,096 bytes. An error is one of the report's writing.
+pub fn repair_file<R: Files + Print, W: Write>(
+    rt: &R,
+    said: &mut W,
+    from: &[u8],
+    to: &[u8],
+) -> io::Result<()>
     requires { length to.now ≤ most_name }
 {
     let mut space = [0u8; MOST_BYTES];
-    let loaded = load_file(from, &mut space);
+    let loaded = load_file(rt, said, from, &mut space);
     let Loaded::Bytes(n) = loaded else {
-        return;
+        return Ok(());
     };
-    repair_loaded(&mut space, n, to);
+    repair_loaded(rt, said, &mut space, n, to)
 }

@@ -5,6 +5,8 @@ ghost use Rattle.wavfile.specs.Stretches.{alike_at, stretch_end};
 use inpaint::Scanned;
 use monitor::print_number;
 use recording::marks::{GAP_BY_MODEL, MEASURED};
+use std::io;
+use std::io::Write;
 
 // Whether two places have the same mark and the same order.
 fn is_alike(marks: &[u8], orders: &[u32], start: usize, i: usize) -> bool
@@ -35,18 +37,24 @@ fn stretch_end(marks: &[u8], orders: &[u32], start: usize) -> usize
 
 // Writes the line of a stretch: its first place, how many samples it has, and their mark, and the model's order
 // where a model made them.
-fn print_stretch(place: usize, count: usize, mark: u8, order: u32) {
-    print_number(b"", place as u64);
-    print_number(b" ", count as u64);
-    print_number(b" ", mark as u64);
+fn print_stretch<W: Write>(
+    out: &mut W,
+    place: usize,
+    count: usize,
+    mark: u8,
+    order: u32,
+) -> io::Result<()> {
+    print_number(out, b"", place as u64)?;
+    print_number(out, b" ", count as u64)?;
+    print_number(out, b" ", mark as u64)?;
     if mark == GAP_BY_MODEL {
-        print_number(b" ", order as u64);
+        print_number(out, b" ", order as u64)?;
     }
-    io::write_all(libc::STDOUT_FILENO, b"\n");
+    out.write_all(b"\n")
 }
 
 // Writes a line for each stretch of samples that are not measured.
-fn print_stretches(marks: &[u8], orders: &[u32])
+fn print_stretches<W: Write>(out: &mut W, marks: &[u8], orders: &[u32]) -> io::Result<()>
     requires { length orders.now ≡ length marks.now }
 {
     let mut i: usize = 0;
@@ -54,21 +62,28 @@ fn print_stretches(marks: &[u8], orders: &[u32])
         let start = i;
         i = stretch_end(marks, orders, start);
         if marks[start] != MEASURED {
-            print_stretch(start, i - start, marks[start], orders[start]);
+            print_stretch(out, start, i - start, marks[start], orders[start])?;
         }
     }
+    Ok(())
 }
 
 // Writes how many samples there are, at which rate, what the scan counted, what it made, and that this is the end.
-pub fn print_report(rate: u32, scanned: Scanned, marks: &[u8], orders: &[u32])
+pub fn print_report<W: Write>(
+    out: &mut W,
+    rate: u32,
+    scanned: Scanned,
+    marks: &[u8],
+    orders: &[u32],
+) -> io::Result<()>
     requires { length orders.now ≡ length marks.now }
 {
-    print_number(b"samples ", marks.len() as u64);
-    print_number(b" rate ", rate as u64);
-    print_number(b"\nqualified ", scanned.qualified as u64);
-    print_number(b" repaired ", scanned.repaired as u64);
-    print_number(b" refused ", scanned.refused as u64);
-    io::write_all(libc::STDOUT_FILENO, b"\n");
-    print_stretches(marks, orders);
-    io::write_all(libc::STDOUT_FILENO, b"end\n");
+    print_number(out, b"samples ", marks.len() as u64)?;
+    print_number(out, b" rate ", rate as u64)?;
+    print_number(out, b"\nqualified ", scanned.qualified as u64)?;
+    print_number(out, b" repaired ", scanned.repaired as u64)?;
+    print_number(out, b" refused ", scanned.refused as u64)?;
+    out.write_all(b"\n")?;
+    print_stretches(out, marks, orders)?;
+    out.write_all(b"end\n")
 }

@@ -1,13 +1,22 @@
-// What is turned away, in one line on standard error.
-use libc::STDERR_FILENO;
+// What is turned away, in one line on standard error. Where that cannot be written, nothing can be said of it.
+use std::io;
+use std::io::Write;
 
-fn say(text: &[u8]) {
-    io::write_all(STDERR_FILENO, text);
+// The bytes of the longest text of an error.
+const TEXT_BYTES: usize = 512;
+
+fn say<W: Write>(to: &mut W, text: &[u8]) {
+    let _ = to.write_all(text);
+}
+
+// Says a number in decimal.
+fn say_number<W: Write>(to: &mut W, n: u64) {
+    let _ = write!(to, "{n}");
 }
 
 // Says how the program is called.
-pub fn say_usage() {
-    say(b"wav: usage: wav IN OUT\n");
+pub fn say_usage<W: Write>(to: &mut W) {
+    say(to, b"wav: usage: wav IN OUT\n");
 }
 
 // The system's number of an error, which is above 0.
@@ -15,35 +24,58 @@ fn error_number(error: i32) -> u64 {
     if 0 < error { error as u64 } else { 0 }
 }
 
-// Says which error the call before gave, by its number and its text, and on which file.
-pub fn say_error(name: &[u8]) {
-    let error = os::errno();
-    say(b"wav: error ");
-    io::print_decimal(STDERR_FILENO, error_number(error));
-    say(b": ");
-    os::fail(name);
-}
-
-// Says that a file has more bytes than are taken.
-pub fn say_too_long() {
-    say(b"wav: too long: more than 655,360 bytes, and this program takes 262,144 samples\n");
-}
-
-// Says what the number of a refusal stands for.
-fn say_reason(number: u32) {
-    match number {
-        2 => say(b": more than 1,048,576 samples\n"),
-        4 => say(b": a rate above 16,777,216 a second\n"),
-        19 => say(b": not a whole RIFF WAVE file with fmt before data and an even data length\n"),
-        20 => say(b": not mono 16-bit PCM (an extensible header is none either)\n"),
-        21 => say(b": more than 262,144 samples, which is what this program takes\n"),
-        _ => say(b"\n"),
+// The text of an error alone, where the system's number stands behind it.
+fn words_of(text: &str) -> &str {
+    match text.split_once(" (os error ") {
+        Some((words, _)) => words,
+        None => text,
     }
 }
 
+// Says the text of an error.
+fn say_text<W: Write>(to: &mut W, error: io::Error) -> io::Result<()> {
+    let mut space = [0u8; TEXT_BYTES];
+    let mut rest = &mut space[..];
+    write!(rest, "{error}")?;
+    let n = TEXT_BYTES.saturating_sub(rest.len());
+    let text = str::from_utf8(&space[..n]).unwrap_or("");
+    to.write_all(words_of(text).as_bytes())
+}
+
+// Says which error a call gave, by its number and its text, and on which file.
+pub fn say_error<W: Write>(to: &mut W, name: &[u8], error: io::Error) {
+    let number = error.raw_os_error().unwrap_or(0);
+    say(to, b"wav: error ");
+    say_number(to, error_number(number));
+    say(to, b": ");
+    say(to, name);
+    say(to, b": ");
+    let _ = say_text(to, error);
+    say(to, b"\n");
+}
+
+// Says that a file has more bytes than are taken.
+pub fn say_too_long<W: Write>(to: &mut W) {
+    let text = b"wav: too long: more than 655,360 bytes, and this program takes 262,144 samples\n";
+    say(to, text);
+}
+
+// Says what the number of a refusal stands for.
+fn say_reason<W: Write>(to: &mut W, number: u32) {
+    let reason = match number {
+        2 => ": more than 1,048,576 samples\n",
+        4 => ": a rate above 16,777,216 a second\n",
+        19 => ": not a whole RIFF WAVE file with fmt before data and an even data length\n",
+        20 => ": not mono 16-bit PCM (an extensible header is none either)\n",
+        21 => ": more than 262,144 samples, which is what this program takes\n",
+        _ => "\n",
+    };
+    say(to, reason.as_bytes());
+}
+
 // Says with which number a file is refused.
-pub fn say_refused(number: u32) {
-    say(b"wav: refused ");
-    io::print_decimal(STDERR_FILENO, number as u64);
-    say_reason(number);
+pub fn say_refused<W: Write>(to: &mut W, number: u32) {
+    say(to, b"wav: refused ");
+    say_number(to, number as u64);
+    say_reason(to, number);
 }

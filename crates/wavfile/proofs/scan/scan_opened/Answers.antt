@@ -1,0 +1,7 @@
+-- `wavfile::scan::scan_opened` meets its contract: it scans what opening left, with the rule's limit and held run. Assumes nothing.
+use Rattle.wavfile.proofs.Scanning.{scanned_so}
+use Rattle.wavfile.proofs.scan.scan_opened.Goals as goal
+
+pub returns : goal.returns
+returns c =
+    scanned_so _ _ _ _ _ _ _ _ c.«open».ensures c.inpaint_auto.ensures
