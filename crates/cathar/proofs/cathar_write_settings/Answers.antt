@@ -1,6 +1,5 @@
 -- `cathar::cathar_write_settings` meets its contract: it tells what the writer ends in. Assumes nothing.
-use Rattle.cathar.proofs.Exports.{stores}
 use Rattle.cathar.proofs.cathar_write_settings.Goals as goal
 
 pub returns : goal.returns
-returns c = stores _ _ _ _ c.write_from-answer.ensures c.number_of.ensures
+returns c = rw (c.number_of.ensures, ← c.write_from-answer.ensures)
