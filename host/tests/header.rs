@@ -140,7 +140,11 @@ fn constant(name: &str, of: &str) -> u64 {
         let is_number = |part: &str| part.starts_with(|c: char| c.is_ascii_digit());
         return sum.split(" + ").map(|part| if is_number(part) { number(part) } else { constant(part, of) }).sum();
     }
-    let used = text.lines().find_map(|line| line.strip_prefix("use ")?.strip_suffix(&format!("::{name};")));
+    let used = text.lines().find_map(|line| {
+        let (used, names) = line.strip_prefix("use ")?.strip_suffix(';')?.split_once("::")?;
+        let mut names = names.trim_matches(['{', '}']).split(", ");
+        names.any(|one| one == name).then_some(used)
+    });
     let used = used.unwrap_or_else(|| panic!("{of} has no {name}"));
     constant(name, &format!("crates/{used}/src/lib.rt"))
 }
