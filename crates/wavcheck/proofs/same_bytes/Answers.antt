@@ -13,6 +13,7 @@ use Rattle.recording.proofs.Runs.{run_more, run_stops, run_ends}
 use Rattle.wavcheck.specs.Same.{same_at, same_bytes}
 use Rattle.wavcheck.proofs.same_bytes.Goals as goal
 
+-- a byte
 module _ (a b : List ℕ) (i : ℕ) where
   past_end : length b ≤ i → same_at a b i ≡ false
   past_end h = rw (le-ltb i (length b) h) refl
@@ -37,23 +38,11 @@ returns-then-b-i c =
     let b = c.args.b.now in
     in_all a b _ (run_stops (same_at a b) 0 _ (length a) c.loop-i-test.true (past_end a b _ c.if-b-i.true) c.loop-i.invariant.1)
 
-pub bounds-a-i : goal.bounds-a-i
-bounds-a-i c = omega arith
-
-pub bounds-b-i : goal.bounds-b-i
-bounds-b-i c = omega arith
-
 pub returns-then-a-i : goal.returns-then-a-i
 returns-then-a-i c =
     let a = c.args.a.now in
     let b = c.args.b.now in
     in_all a b _ (run_stops (same_at a b) 0 _ (length a) c.loop-i-test.true (differs a b _ c.if-a-i.true) c.loop-i.invariant.1)
-
-pub overflow_add-i : goal.overflow_add-i
-overflow_add-i c = omega arith
-
-pub loop-i-smaller : goal.loop-i-smaller
-loop-i-smaller c = omega arith
 
 pub loop-i-preserved : goal.loop-i-preserved
 loop-i-preserved c =

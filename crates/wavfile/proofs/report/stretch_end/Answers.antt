@@ -14,11 +14,6 @@ overflow_add-end c = omega arith
 pub loop-end-init : goal.loop-end-init
 loop-end-init c = (omega arith, refl)
 
-pub is_alike-requires : goal.is_alike-requires
-is_alike-requires c =
-    let pre = c.requires in
-    (pre.0, c.loop-end-test.true, pre.1)
-
 pub returns-then-not-is_alike : goal.returns-then-not-is_alike
 unfolding stretch_end
 returns-then-not-is_alike c =
