@@ -240,10 +240,6 @@ class Turn:
         return text
 
 
-def used(words, name):
-    return name in words
-
-
 def convert(folder, key, names, said):
     path = os.path.join(folder, "Proof.antt")
     text = open(path, encoding="utf-8").read()
@@ -302,10 +298,8 @@ def convert(folder, key, names, said):
                 s = "\n".join(it[part])
                 for _ in range(4):
                     for h, (var, q, b) in short.items():
-                        for h2, (v2, q2, b2) in short.items():
-                            pass
                         arg = r"((?:\([^()]*\)|[\w'-]+)(?:\.before)*)"
-                        s = re.sub(rf"(?<![\w.'-])\(?{re.escape(h)} {arg}\)?(?=[\s.,)]|$)", lambda mm: "(" + TOKEN.sub(lambda w: mm[1] + w[0][len(var):] if w[0].split(".")[0] == var else w[0], " ".join(b.split())) + ")", s) if False else re.sub(rf"\({re.escape(h)} {arg}\)", lambda mm: "(" + TOKEN.sub(lambda w: mm[1] + w[0][len(var):] if w[0].split(".")[0] == var else w[0], " ".join(b.split())) + ")", s)
+                        s = re.sub(rf"\({re.escape(h)} {arg}\)", lambda mm: "(" + TOKEN.sub(lambda w: mm[1] + w[0][len(var):] if w[0].split(".")[0] == var else w[0], " ".join(b.split())) + ")", s)
                         s = re.sub(rf"(?<![\w.'-]){re.escape(h)} {arg}(?![\w'])", lambda mm: "(" + TOKEN.sub(lambda w: mm[1] + w[0][len(var):] if w[0].split(".")[0] == var else w[0], " ".join(b.split())) + ")", s)
                 it[part] = s.split("\n")
     for it in decls:

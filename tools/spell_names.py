@@ -69,9 +69,6 @@ def main():
                 new += ("-" if both else "_") + (camel_to_snake(b) if is_camel(b) else b)
             if new != w:
                 table[w] = new
-    for w in everywhere:
-        # dashed names that end in a name of ours and are declared elsewhere (fields of generated records) stay
-        pass
     back = collections.defaultdict(set)
     for a, b in table.items():
         back[b].add(a)
