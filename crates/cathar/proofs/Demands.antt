@@ -20,8 +20,8 @@ use Rattle.recording.specs.Counts as blocks
 use Rattle.recording.specs.History as single
 use Rattle.recording.specs.Consequences.{Among, AllName, closings, returned}
 use Rattle.recording.specs.declared.Reason.{Reason}
-use Rattle.recording.specs.declared.Answer.{Answer}
-use Rattle.recording.specs.declared.Answer.TheVariants.{Done, Refused}
+use Rattle.recording.specs.Answer.{Answer}
+use Rattle.std.specs.Prelude.{Ok, Err}
 use Rattle.recording.proofs.Journal.{all_zero}
 use Rattle.recording.proofs.History as history
 use Rattle.recording.proofs.Asking as asking
@@ -66,8 +66,8 @@ scan_rules : (rate : ℕ) (millis : Float) (held : ℕ) (work : List Float) (s :
 scan_rules rate millis held work s = go (scannable rate millis held s) refl
   where
     go : (a : Answer) → scannable rate millis held s ≡ a → (automatic rate millis held work s).after ≡ single.run (scanned rate millis held work s) s
-    go (Done m) e = rw (e, scanned) (scan_is_its_runs rate millis held work s (scannable_zero rate millis held s m e))
-    go (Refused why) e = rw (e, scanned) (unfold single.run in refused_scan rate millis held work s why e)
+    go (Ok m) e = rw (e, scanned) (scan_is_its_runs rate millis held work s (scannable_zero rate millis held s m e))
+    go (Err why) e = rw (e, scanned) (unfold single.run in refused_scan rate millis held work s why e)
 
 pub call_is_its_rules : CallIsItsRules
 call_is_its_rules (gap start len passes work) s = alone _ s _ (gap_did start len passes (length work) s)
@@ -116,7 +116,7 @@ no_runs k zero e = e
 no_runs k (suc line) e = rw (ne_eqb (suc line) 0 (λ (z : suc line ≡ 0). omega arith)) e
 
 -- a scan that is turned away gives the number of that refusal
-refused_number : (rate : ℕ) (millis : Float) (held : ℕ) (work : List Float) (s : State) (why : Reason) → scannable rate millis held s ≡ Refused why
+refused_number : (rate : ℕ) (millis : Float) (held : ℕ) (work : List Float) (s : State) (why : Reason) → scannable rate millis held s ≡ Err why
     → (automatic rate millis held work s).refused ≡ reason_number why
 unfolding automatic
 refused_number rate millis held work s why e = rw (e, automatic) refl
@@ -132,10 +132,10 @@ scan_given rate millis held work s = go (scannable rate millis held s) refl
     go : (a : Answer) → scannable rate millis held s ≡ a
         → (automatic rate millis held work s).refused
         ≡ (let k = turned_away (scan rate millis held work) s in if eqb k 0 then first_refusal (run_answers rate millis held work s) else k)
-    go (Done m) e =
+    go (Ok m) e =
         let none : turned_away (scan rate millis held work) s ≡ 0 = sym line ∙ ap number e in
         rw none (scan_counts_its_runs rate millis held work s (scannable_zero rate millis held s m e)).2
-    go (Refused why) e =
+    go (Err why) e =
         let some : turned_away (scan rate millis held work) s ≡ reason_number why = sym line ∙ ap number e in
         let refused : (automatic rate millis held work s).refused ≡ reason_number why = refused_number rate millis held work s why e in
         rw (some, ne_eqb (reason_number why) 0 (λ (z : reason_number why ≡ 0). omega (arith, above_zero why))) refused
@@ -196,8 +196,8 @@ lines_only undo s = first_among (applies (asked undo s) s) (can_give undo)
 runs_only : (answers : List Answer) → EachNumber (λ k. (k ≡ 0) ⊎ ((6 ≤ k) × (k ≤ 9))) answers
     → (first_refusal answers ≡ 0) ⊎ ((6 ≤ first_refusal answers) × (first_refusal answers ≤ 9))
 runs_only [] each = inl refl
-runs_only (Done m ∷ later) each = runs_only later each.1
-runs_only (Refused why ∷ later) each = each.0
+runs_only (Ok m ∷ later) each = runs_only later each.1
+runs_only (Err why ∷ later) each = each.0
 
 scan_only : (rate : ℕ) (millis : Float) (held : ℕ) (work : List Float) (s : State)
     → ((automatic rate millis held work s).refused ≡ 0) ⊎ Among (automatic rate millis held work s).refused (can_give (scan rate millis held work))
@@ -213,7 +213,7 @@ scan_only rate millis held work s = go (scannable rate millis held s) refl (line
     Within k = (k ≡ 0) ⊎ Among k (can_give (scan rate millis held work))
 
     go : (a : Answer) → scannable rate millis held s ≡ a → Within (turned_away (scan rate millis held work) s) → Within refused
-    go (Done m) e lines =
+    go (Ok m) e lines =
         let zero-done = scannable_zero rate millis held s m e in
         let counted : refused ≡ first_refusal (run_answers rate millis held work s) = (scan_counts_its_runs rate millis held work s zero-done).2 in
         rw counted
@@ -221,7 +221,7 @@ scan_only rate millis held work s = go (scannable rate millis held s) refl (line
           | inl none ↦ inl none
           | inr some ↦ inr (inr (inr (inr (inr (inr (six_to_nine _ some.0 some.1))))))
         ])
-    go (Refused why) e lines =
+    go (Err why) e lines =
         let told : refused ≡ turned_away (scan rate millis held work) s =
         refused_number rate millis held work s why e ∙ sym (ap number e) ∙ line
         in
@@ -253,10 +253,10 @@ refusal_changes_nothing (gaps starts lens passes work lists) s h =
 refusal_changes_nothing (scan rate millis held work) s h = go (scannable rate millis held s) refl
   where
     go : (a : Answer) → scannable rate millis held s ≡ a → (automatic rate millis held work s).after ≡ s
-    go (Done m) e =
+    go (Ok m) e =
         let none : turned_away (scan rate millis held work) s ≡ 0 = sym (by_lines (scan rate millis held work) s) ∙ ap number e in
         absurd (omega (arith, h, none))
-    go (Refused why) e = refused_scan rate millis held work s why e
+    go (Err why) e = refused_scan rate millis held work s why e
 refusal_changes_nothing (declip threshold work) s h =
     alone_keeps _ s _ (declip_did threshold (length work) s) (rw (by_lines (declip threshold work) s) h)
 refusal_changes_nothing (decrackle start sensitivity work) s h =
@@ -289,9 +289,9 @@ lawful_append (single.repair r ∷ cs) ds l m = (l.0, lawful_append cs ds l.1 m)
 lawful_append (single.undo ∷ cs) ds l m = lawful_append cs ds l m
 
 scanned_lawful : (room : ℕ) (rs : List Stretch) (a : Answer)
-    → single.Lawful (elim a [ Done m ↦ gap_calls room rs | Refused why ↦ [] ])
-scanned_lawful room rs (Done m) = scan_lawful room rs
-scanned_lawful room rs (Refused why) = tt
+    → single.Lawful (elim a [ Ok m ↦ gap_calls room rs | Err why ↦ [] ])
+scanned_lawful room rs (Ok m) = scan_lawful room rs
+scanned_lawful room rs (Err why) = tt
 
 pub rules_are_lawful : RulesAreLawful
 rules_are_lawful (gap start len passes work) s = (gap_lawful start len passes (length work), tt)
@@ -347,24 +347,24 @@ one_repair (proposed threshold proposal) s r h = told_by _ _ _ r s (proposed_did
 one_repair undo s r h = absurd (false≢true (ap is_repair h))
 
 -- an answer with the number 0 is an acceptance
-pub accepted_by : (a : Answer) → number a ≡ 0 → a ≡ Done (value a)
-accepted_by (Done m) h = refl
-accepted_by (Refused why) h = absurd (omega (arith, above_zero why, h))
+pub accepted_by : (a : Answer) → number a ≡ 0 → a ≡ Ok (value a)
+accepted_by (Ok m) h = refl
+accepted_by (Err why) h = absurd (omega (arith, above_zero why, h))
 
 -- a rule that refuses is not accepted
-refused_plan : (s : State) (why : Reason) (m : ℕ) → (performed s (refuse why)).answer ≡ Done m → ⊥
+refused_plan : (s : State) (why : Reason) (m : ℕ) → (performed s (refuse why)).answer ≡ Ok m → ⊥
 unfolding performed carried
 refused_plan s why m h = go (fitting s) refl
   where
-    never : (reason : Reason) → Refused reason ≡ Done m → ⊥
+    never : (reason : Reason) → Err reason ≡ Ok m → ⊥
     never reason e = omega (arith, ap number e, above_zero reason)
 
     go : (a : Answer) → fitting s ≡ a → ⊥
-    go (Done k) e = never why (rw e at h)
-    go (Refused first) e = never first (rw e at h)
+    go (Ok k) e = never why (rw e at h)
+    go (Err first) e = never first (rw e at h)
 
 -- so the rule of an accepted repair makes a plan
-plans : (r : single.Repair) (s : State) (p : Plan) → r s.samples ≡ p → (m : ℕ) → (single.did (single.repair r) s).answer ≡ Done m
+plans : (r : single.Repair) (s : State) (p : Plan) → r s.samples ≡ p → (m : ℕ) → (single.did (single.repair r) s).answer ≡ Ok m
     → (mark : ℕ) × (cs : List Placed) × (r s.samples ≡ change mark cs)
 plans r s (change mark cs) e m h = (mark, cs, e)
 plans r s (refuse why) e m h =
@@ -374,7 +374,7 @@ pub demand_2 : Demand2
 demand_2 c s r k h =
     let told = one_repair c s r k in
     let a = (single.did (single.repair r) s).answer in
-    let accepted : a ≡ Done (value a) = accepted_by a (sym told.number_told ∙ h) in
+    let accepted : a ≡ Ok (value a) = accepted_by a (sym told.number_told ∙ h) in
     let plan = plans r s (r s.samples) refl (value a) accepted in
     let lawful : single.Lawful (single.repair r ∷ []) = subst (λ (l : Kind). single.Lawful (counted l s)) k (rules_are_lawful c s) in
     let made = accepted_as_ruled r s plan.0 plan.1 (value a) lawful.0 plan.2 accepted in

@@ -8,7 +8,7 @@ use lib.ListN.{length, replicate}
 use lib.Ieee.{Float}
 use Rattle.recording.specs.Answers.{number, value}
 use Rattle.recording.specs.Recording.{State}
-use Rattle.recording.specs.declared.Answer.{Answer}
+use Rattle.recording.specs.Answer.{Answer}
 use Rattle.splice.specs.Several.{spans, AnswerLists, lists_wrong, Several, in_turn, gaps_repair}
 use Rattle.splice.specs.AnyOrder.{AllAccepted}
 use Rattle.splice.proofs.Laws.{as_long, spans_count}

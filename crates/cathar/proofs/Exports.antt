@@ -6,7 +6,7 @@ use mathlib.Core.List.{List, [], ◌∷◌}
 use lib.Ieee.{Float}
 use Rattle.recording.specs.Answers.{number, value, verdict_number, verdict_yes}
 use Rattle.recording.specs.Recording.{State, Ended, ended, work_after}
-use Rattle.recording.specs.declared.Answer.{Answer}
+use Rattle.recording.specs.Answer.{Answer}
 use Rattle.recording.specs.declared.Verdict.{Verdict}
 use Rattle.crackle.specs.Pieces as pieces
 use Rattle.frames.specs.Frames.{Delivered, delivered}

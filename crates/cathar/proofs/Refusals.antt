@@ -23,8 +23,8 @@ use Rattle.recording.specs.Consequences.{Among}
 use Rattle.recording.proofs.open.Laws.{alike_by, fitting_by}
 use Rattle.recording.specs.Marks.{declip_proposed}
 use Rattle.recording.specs.declared.Reason.TheVariants.{Setting, Read, Result, Nothing, Malformed, Proposal}
-use Rattle.recording.specs.declared.Answer.{Answer}
-use Rattle.recording.specs.declared.Answer.TheVariants.{Done, Refused}
+use Rattle.recording.specs.Answer.{Answer}
+use Rattle.std.specs.Prelude.{Ok, Err}
 use Rattle.inpaint.specs.Gap.{gap_wrong, by_line, from, needed, known_before, known_behind, all_readable, repaired, gap_plan, gap_repair}
 use Rattle.inpaint.specs.Auto as auto
 use Rattle.redraw.specs.Whole as whole
@@ -81,15 +81,15 @@ any_append (x ∷ xs) ys =
 
 -- what a test of words answers, by whether one of them is out of range
 readable_by : (i : ℕ) (ws : List ℕ)
-    → ((any_out ws ≡ false) × (readable i ws ≡ Done 0)) ⊎ ((any_out ws ≡ true) × (place : ℕ) × (readable i ws ≡ Refused (Read place)))
+    → ((any_out ws ≡ false) × (readable i ws ≡ Ok 0)) ⊎ ((any_out ws ≡ true) × (place : ℕ) × (readable i ws ≡ Err (Read place)))
 unfolding readable any_out
 readable_by i [] = inl (refl, refl)
 readable_by i (w ∷ ws) =
     elim (truth (in_range w)) [ inl holds ↦ rw holds (readable_by (i + 1) ws) | inr fails ↦ rw fails (inr (refl, i, refl)) ]
 
 ranged_by : (cs : List Placed)
-    → ((any_out (results cs) ≡ false) × (ranged cs ≡ Done 0))
-    ⊎ ((any_out (results cs) ≡ true) × (place : ℕ) × (ranged cs ≡ Refused (Result place)))
+    → ((any_out (results cs) ≡ false) × (ranged cs ≡ Ok 0))
+    ⊎ ((any_out (results cs) ≡ true) × (place : ℕ) × (ranged cs ≡ Err (Result place)))
 unfolding ranged any_out
 ranged_by [] = inl (refl, refl)
 ranged_by (c ∷ cs) =
@@ -129,7 +129,7 @@ carried_number s mark cs =
     some : eqb (length cs) 0 ≡ false → leb 1 (length cs) ≡ true
     some z = le-leb 1 (length cs) (omega (arith, eqb-false (length cs) 0 z))
 
-    go : any_out (results cs) ≡ false → ranged cs ≡ Done 0 → EitherWay (eqb (length cs) 0) → EitherWay (ltb free (entry_size (length cs)))
+    go : any_out (results cs) ≡ false → ranged cs ≡ Ok 0 → EitherWay (eqb (length cs) 0) → EitherWay (ltb free (entry_size (length cs)))
         → number (carried s (change mark cs)).answer ≡ finished s cs
     go g r (inl z) b =
         let none : leb 1 (length cs) ≡ false = lt-leb 1 (length cs) (omega (arith, eqb-true (length cs) 0 z)) in
@@ -177,8 +177,8 @@ whole_number allowed room mark draw s =
 
 -- what the test of a proposal answers, by whether a sample is not answered as it should be
 unanswered_by : (threshold : Float) (i : ℕ) (ws ps : List ℕ)
-    → ((any_unanswered threshold ws ps ≡ false) × (answered threshold i ws ps ≡ Done 0))
-    ⊎ ((any_unanswered threshold ws ps ≡ true) × (place : ℕ) × (answered threshold i ws ps ≡ Refused (Proposal place)))
+    → ((any_unanswered threshold ws ps ≡ false) × (answered threshold i ws ps ≡ Ok 0))
+    ⊎ ((any_unanswered threshold ws ps ≡ true) × (place : ℕ) × (answered threshold i ws ps ≡ Err (Proposal place)))
 unfolding answered any_unanswered
 unanswered_by threshold i [] ps = inl (refl, refl)
 unanswered_by threshold i (w ∷ ws) [] = inl (refl, refl)
@@ -189,7 +189,7 @@ unanswered_by threshold i (w ∷ ws) (p ∷ ps) =
     ]
 
 -- line 9, where no result is out of range
-ranged_number : (s : State) (mark : ℕ) (cs : List Placed) → ranged cs ≡ Done 0
+ranged_number : (s : State) (mark : ℕ) (cs : List Placed) → ranged cs ≡ Ok 0
     → number (carried s (change mark cs)).answer
     ≡ (let m = length cs in if leb 1 m && ltb (length s.journal - s.used) (entry_size m) then 9 else 0)
 ranged_number s mark cs h =
@@ -213,7 +213,7 @@ taken_number threshold proposal s =
       | inl same ↦ elim (unanswered_by threshold 0 s.samples proposal) [
         | inr n ↦ rw (same, n.0, n.2) refl
         | inl g ↦
-            let right : taken threshold s.samples proposal ≡ Done 0 = rw (same, taken) g.1 in
+            let right : taken threshold s.samples proposal ≡ Ok 0 = rw (same, taken) g.1 in
             rw (same, g.0, g.1)
             (ranged_number s declip_proposed (named threshold s.samples proposal) (taken_ranged threshold s.samples proposal 0 right))
       ]
@@ -309,7 +309,7 @@ undo_number s =
     go : EitherWay (eqb s.used 0) → EitherWay wrong
         → number
         (if eqb s.used 0 then refused s Nothing else if wrong then refused s Malformed
-        else ended (Done (last_count s.journal s.used)) (taken_back s)).answer
+        else ended (Ok (last_count s.journal s.used)) (taken_back s)).answer
         ≡ (if eqb s.used 0 then 10 else if wrong then 11 else 0)
     go (inl a) b = rw a refl
     go (inr a) (inl b) = rw (a, b) refl
@@ -329,22 +329,22 @@ scan_number rate millis held s =
     (λ one fourteen two three. rw (one, fourteen, two, three) (settings (truth (scan_allowed rate millis held))))
   where
     rest : Answer
-    rest = if scan_allowed rate millis held then Done 0 else Refused Setting
+    rest = if scan_allowed rate millis held then Ok 0 else Err Setting
 
     settings : EitherWay (scan_allowed rate millis held) → number rest ≡ (if not (scan_allowed rate millis held) then 4 else 0)
     settings (inl a) = rw a refl
     settings (inr a) = rw a refl
 
 -- the tests before a scan answer 0 where they accept it
-pub scannable_zero : (rate : ℕ) (millis : Float) (held : ℕ) (s : State) (m : ℕ) → auto.scannable rate millis held s ≡ Done m
-    → auto.scannable rate millis held s ≡ Done 0
+pub scannable_zero : (rate : ℕ) (millis : Float) (held : ℕ) (s : State) (m : ℕ) → auto.scannable rate millis held s ≡ Ok m
+    → auto.scannable rate millis held s ≡ Ok 0
 unfolding auto.scannable
 scannable_zero rate millis held s m h = go (fitting s) refl (truth (scan_allowed rate millis held))
   where
-    go : (a : Answer) → fitting s ≡ a → EitherWay (scan_allowed rate millis held) → auto.scannable rate millis held s ≡ Done 0
-    go (Done k) e (inl y) = rw (e, y, auto.scannable)
-    go (Done k) e (inr y) = let no-done : Refused Setting ≡ Done m = rw (e, y, auto.scannable) at h in cc
-    go (Refused why) e y = let no-done : Refused why ≡ Done m = rw (e, auto.scannable) at h in cc
+    go : (a : Answer) → fitting s ≡ a → EitherWay (scan_allowed rate millis held) → auto.scannable rate millis held s ≡ Ok 0
+    go (Ok k) e (inl y) = rw (e, y, auto.scannable)
+    go (Ok k) e (inr y) = let no-done : Err Setting ≡ Ok m = rw (e, y, auto.scannable) at h in cc
+    go (Err why) e y = let no-done : Err why ≡ Ok m = rw (e, auto.scannable) at h in cc
 
 -- lines 1, 14 and 2 of an opening, whatever raw marks it sets
 pub opening_number : (marks : List ℕ) (s : State)
@@ -353,7 +353,7 @@ unfolding opened_with
 opening_number marks s =
     alike_by
     (λ (a : Answer).
-    number (unless_refused a s (ended (Done 0) (blank marks s))).answer
+    number (unless_refused a s (ended (Ok 0) (blank marks s))).answer
     ≡ (if differ s then 1 else if counts_wrong s then 14 else if too_many s then 2 else 0)) s
     (λ one. rw one refl) (λ one fourteen. rw (one, fourteen) refl) (λ one fourteen two. rw (one, fourteen, two) refl)
     (λ one fourteen two. rw (one, fourteen, two) refl)
@@ -364,5 +364,5 @@ unfolding opened_with
 opened_keeps marks s = go (alike s) refl
   where
     go : (a : Answer) → alike s ≡ a → 0 < number (opened_with marks s).answer → (opened_with marks s).after ≡ s
-    go (Done m) e h = let none : 0 < 0 = rw e at h in absurd (omega arith)
-    go (Refused why) e h = rw e refl
+    go (Ok m) e h = let none : 0 < 0 = rw e at h in absurd (omega arith)
+    go (Err why) e h = rw e refl

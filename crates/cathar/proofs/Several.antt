@@ -10,7 +10,7 @@ use Rattle.leaves.specs.Arithmetic.{nought}
 use Rattle.recording.specs.Answers.{value}
 use Rattle.recording.specs.Recording.{State, Ended, work_after}
 use Rattle.recording.specs.History as single
-use Rattle.recording.specs.declared.Answer.TheVariants.{Done}
+use Rattle.std.specs.Prelude.{Ok}
 use Rattle.recording.proofs.History as history
 use Rattle.inpaint.specs.Gap.{needed, gap_plan, gap_repair}
 use Rattle.inpaint.specs.Order.{gap_order}
@@ -75,17 +75,17 @@ undo_takes_back_a_gap raw cs o start len passes work accepted =
     let s = after cs raw in
     let did = gap_did start len passes (length work) s in
     let e = gap_repair start len passes (length work) s in
-    let done : e.answer ≡ Done (value e.answer) = accepted_by e.answer accepted in
+    let done : e.answer ≡ Ok (value e.answer) = accepted_by e.answer accepted in
     let m = accepted_names_the_gap start len passes (length work) (value e.answer) s done in
     let some : value e.answer ≡ suc (len - 1) = omega (arith, m) in
-    let named : (single.did (single.repair (gap_plan start len passes (length work))) s).answer ≡ Done (suc (len - 1)) =
-    sym (ap (λ (end : Ended). end.answer) did) ∙ done ∙ ap Done some
+    let named : (single.did (single.repair (gap_plan start len passes (length work))) s).answer ≡ Ok (suc (len - 1)) =
+    sym (ap (λ (end : Ended). end.answer) did) ∙ done ∙ ap Ok some
     in
     ap (λ (end : Ended). end.after) (undo_did e.after)
     ∙ ap (λ (end : Ended). (single.did single.undo end.after).after) did
     ∙ opened_any
     (λ raw cs end.
-    (r : single.Repair) (m : ℕ) → single.LawfulRepair r → (single.did (single.repair r) end).answer ≡ Done (suc m)
+    (r : single.Repair) (m : ℕ) → single.LawfulRepair r → (single.did (single.repair r) end).answer ≡ Ok (suc m)
     → (single.did single.undo (single.did (single.repair r) end).after).after ≡ end)
     history.undo_takes_back_the_last raw cs o (gap_plan start len passes (length work)) (len - 1) (gap_lawful start len passes (length work)) named
 

@@ -8,7 +8,7 @@ use Rattle.recording.specs.Counts as blocks
 use Rattle.recording.specs.Question.{marks_say, span_verdict}
 use Rattle.recording.specs.History as single
 use Rattle.recording.specs.Consequences.{Among, MadeOf, AllName, closings, returned}
-use Rattle.recording.specs.declared.Answer.TheVariants.{Done, Refused}
+use Rattle.std.specs.Prelude.{Ok, Err}
 use Rattle.recording.specs.declared.Verdict.{Verdict}
 use Rattle.recording.specs.declared.Verdict.TheVariants.{Yes, No}
 use Rattle.inpaint.specs.Gap.{gap_plan}
@@ -92,7 +92,7 @@ RefusedOpeningChangesNothing = (o : Opening) (s : State) → 0 < opening_turned_
 -- it away.
 abbrev pub scanned : ℕ → Float → ℕ → List Float → State → List single.Call
 scanned rate millis held work s =
-    elim (scannable rate millis held s) [ Done m ↦ scan_calls rate millis held work s | Refused why ↦ [] ]
+    elim (scannable rate millis held s) [ Ok m ↦ scan_calls rate millis held work s | Err why ↦ [] ]
 
 abbrev pub counted : Kind → State → List single.Call
 counted (repairs r) s = single.repair r ∷ []
@@ -132,7 +132,7 @@ after (c ∷ cs) s = after cs (ran c s).after
 pub record Opened (raw : State) : Type 0 where
   pub way : Opening
   pub lent : State
-  pub accepted : (opens way lent).answer ≡ Done 0
+  pub accepted : (opens way lent).answer ≡ Ok 0
   pub leaves : (opens way lent).after ≡ raw
 
 -- something holds "After any sequence of repairs, refusals and undos" on every such recording

@@ -3,7 +3,7 @@
 -- nobody has to read.
 use Rattle.std.specs.Prelude.{ℕ, ◌<◌, ◌≡◌, false, List, [], ◌∷◌, ◌++◌, length, Float}
 use Rattle.recording.specs.Recording.{State}
-use Rattle.recording.specs.declared.Answer.TheVariants.{Done}
+use Rattle.std.specs.Prelude.{Ok}
 use Rattle.inpaint.specs.Runs.{Stretch}
 use Rattle.inpaint.specs.Order.{gap_order}
 use Rattle.splice.specs.Several.{spans, AnswerLists, answer_lists, lists_wrong, Several, several, in_turn, gaps_repair}
@@ -20,7 +20,7 @@ lent_on (words work) = []
 -- number, its figure, and the order beside them.
 unfoldable pub singly : ℕ → List Stretch → List Float → State → Several
 unfolding gap_order
-singly passes [] work s = several (Done 0) (answer_lists [] [] []) s work
+singly passes [] work s = several (Ok 0) (answer_lists [] [] []) s work
 singly passes (g ∷ gs) work s =
     let o = ran (gap g.start g.len passes work) s in
     let c = singly passes gs (lent_on o.work) o.after in

@@ -16,8 +16,8 @@ use Rattle.recording.specs.Answers.{reason_number, number}
 use Rattle.recording.specs.Recording.{readable}
 use Rattle.recording.specs.declared.Reason.{Reason}
 use Rattle.recording.specs.declared.Reason.TheVariants.{Workspace, Read, Pieces}
-use Rattle.recording.specs.declared.Answer.{Answer}
-use Rattle.recording.specs.declared.Answer.TheVariants.{Done, Refused}
+use Rattle.recording.specs.Answer.{Answer}
+use Rattle.std.specs.Prelude.{Ok, Err}
 use Rattle.recording.proofs.read.Laws.{ReadEnds, readable_ends}
 use Rattle.redraw.proofs.Ending.{done_not_refused}
 use lib.Ieee.{Float, binary32, to_bits}
@@ -36,14 +36,14 @@ as_many_as_due = due_length
 
 -- ---- The ways in which a call ends
 
-module _ (P : Told Holding → Type 0) (h : Holding) (room : List ℕ) (halted : P (told (Refused Pieces) (stopped h) room))
-    (short : P (told (Refused Workspace) h room)) where
+module _ (P : Told Holding → Type 0) (h : Holding) (room : List ℕ) (halted : P (told (Err Pieces) (stopped h) room))
+    (short : P (told (Err Workspace) h room)) where
   abbrev d : Detector
   d = h.detector
 
-  pub piece_by : (piece : List ℕ) → ((i : ℕ) → P (told (Refused (Read i)) (stopped h) room))
+  pub piece_by : (piece : List ℕ) → ((i : ℕ) → P (told (Err (Read i)) (stopped h) room))
       → (mean_over ≤ length h.values → flags_due d.start d.taken (length piece) ≤ length room
-      → P (told (Done (flags_due d.start d.taken (length piece))) (with_piece h piece) (flags_in room (flags_before h piece))))
+      → P (told (Ok (flags_due d.start d.taken (length piece))) (with_piece h piece) (flags_in room (flags_before h piece))))
       → P (piece_told h piece room)
   unfolding piece_told
   piece_by piece out taken =
@@ -56,13 +56,13 @@ module _ (P : Told Holding → Type 0) (h : Holding) (room : List ℕ) (halted :
       n = length piece
 
       read : (a : Answer) → ReadEnds a → mean_over ≤ length h.values → flags_due d.start d.taken n ≤ length room
-          → P (unless_out a h room (told (Done (flags_due d.start d.taken n)) (with_piece h piece) (flags_in room (flags_before h piece))))
-      read (Done m) e v k = taken v k
-      read (Refused why) (inl e) v k = absurd (done_not_refused 0 why (sym e))
-      read (Refused why) (inr (i, e)) v k = rw e (out i)
+          → P (unless_out a h room (told (Ok (flags_due d.start d.taken n)) (with_piece h piece) (flags_in room (flags_before h piece))))
+      read (Ok m) e v k = taken v k
+      read (Err why) (inl e) v k = absurd (done_not_refused 0 why (sym e))
+      read (Err why) (inr (i, e)) v k = rw e (out i)
 
   pub end_by : (mean_over ≤ length h.values → length (last_flags h) ≤ length room
-      → P (told (Done (length (last_flags h))) (holding (closed d) (last_values h)) (flags_in room (last_flags h))))
+      → P (told (Ok (length (last_flags h))) (holding (closed d) (last_values h)) (flags_in room (last_flags h))))
       → P (end_told h room)
   unfolding end_told
   end_by given =
@@ -111,12 +111,12 @@ last_behind h =
     picks (λ (l : List ℕ). drop mean_over l ≡ drop mean_over h.values) (eqb h.detector.taken 0) _ _ refl (values_behind h nought)
 
 -- a refusal has one reason, and is no acceptance
-same_reason : (v w : Reason) → Refused v ≡ Refused w → v ≡ w
+same_reason : (v w : Reason) → Err v ≡ Err w → v ≡ w
 same_reason v w e = cc
 
 module _ (h : Holding) (room : List ℕ) where
   -- 6
-  keeps : Ends h room (told (Refused Workspace) h room)
+  keeps : Ends h room (told (Err Workspace) h room)
   keeps =
       record {
         unwritten = λ w e. (refl, refl);
@@ -128,7 +128,7 @@ module _ (h : Holding) (room : List ℕ) where
       }
 
   -- any other
-  stops_run : (why : Reason) → (why ≡ Workspace → ⊥) → Ends h room (told (Refused why) (stopped h) room)
+  stops_run : (why : Reason) → (why ≡ Workspace → ⊥) → Ends h room (told (Err why) (stopped h) room)
   stops_run why other =
       record {
         unwritten = λ w e. (refl, refl);
@@ -141,7 +141,7 @@ module _ (h : Holding) (room : List ℕ) where
 
   -- an acceptance
   gives : (e : Holding) (fs : List Bool) (m : ℕ) → length fs ≡ m → length e.values ≡ length h.values
-      → drop mean_over e.values ≡ drop mean_over h.values → Ends h room (told (Done m) e (flags_in room fs))
+      → drop mean_over e.values ≡ drop mean_over h.values → Ends h room (told (Ok m) e (flags_in room fs))
   gives e fs m many long back =
       record {
         unwritten = λ w k. absurd (done_not_refused m w k);
@@ -152,7 +152,7 @@ module _ (h : Holding) (room : List ℕ) where
         behind_values = back;
       }
     where
-      same_count : (i : ℕ) → Done m ≡ Done i → m ≡ i
+      same_count : (i : ℕ) → Ok m ≡ Ok i → m ≡ i
       same_count i k = cc
 
 pub piece_ends : PieceEnds

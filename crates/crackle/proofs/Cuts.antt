@@ -20,8 +20,8 @@ use Rattle.leaves.proofs.Parts.{part_of_sets}
 use Rattle.recording.specs.Answers.{number}
 use Rattle.recording.specs.Recording.{most_samples, readable}
 use Rattle.recording.specs.declared.Reason.TheVariants.{Workspace, Read, Pieces}
-use Rattle.recording.specs.declared.Answer.{Answer}
-use Rattle.recording.specs.declared.Answer.TheVariants.{Done, Refused}
+use Rattle.recording.specs.Answer.{Answer}
+use Rattle.std.specs.Prelude.{Ok, Err}
 use Rattle.redraw.specs.Whole.{untouched, drawn}
 use Rattle.redraw.proofs.Ending.{done_not_refused}
 use Rattle.decrackle.specs.declared.Start.{Start}
@@ -43,7 +43,7 @@ not_more s t n d at h = rw (at.goes_on, at.total_is, at.taken_is, le-ltb (length
 
 -- a piece without room
 no_room : (s : List ℕ) (t : ℕ) (d : Holding) (piece room : List ℕ) → At s t d → t + length piece ≤ length s
-    → length room < flags_due d.detector.start t (length piece) → piece_told d piece room ≡ told (Refused Workspace) d room
+    → length room < flags_due d.detector.start t (length piece) → piece_told d piece room ≡ told (Err Workspace) d room
 unfolding piece_told
 no_room s t d piece room at h short =
     let start = d.detector.start in
@@ -54,7 +54,7 @@ no_room s t d piece room at h short =
 with_room : (s : List ℕ) (t : ℕ) (d : Holding) (piece room : List ℕ) (a : Answer) → At s t d → t + length piece ≤ length s
     → flags_due d.detector.start t (length piece) ≤ length room → readable t piece ≡ a
     → piece_told d piece room
-    ≡ unless_out a d room (told (Done (flags_due d.detector.start t (length piece))) (with_piece d piece) (flags_in room (flags_before d piece)))
+    ≡ unless_out a d room (told (Ok (flags_due d.detector.start t (length piece))) (with_piece d piece) (flags_in room (flags_before d piece)))
 unfolding piece_told
 with_room s t d piece room a at h enough e =
     let start = d.detector.start in
@@ -66,7 +66,7 @@ flags_there : (room : List ℕ) (fs : List Bool) (m : ℕ) → length fs ≡ m �
 flags_there room fs m e h = part_of_sets room (map flag_byte fs) 0 m (length-map fs flag_byte ∙ e) (omega (arith, h))
 
 -- the samples of a piece and those behind it, tested one after the other
-readable_both : (i : ℕ) (xs ys : List ℕ) → readable i (xs ++ ys) ≡ Done 0 → (readable i xs ≡ Done 0) × (readable (i + length xs) ys ≡ Done 0)
+readable_both : (i : ℕ) (xs ys : List ℕ) → readable i (xs ++ ys) ≡ Ok 0 → (readable i xs ≡ Ok 0) × (readable (i + length xs) ys ≡ Ok 0)
 unfolding readable
 readable_both i [] ys h = (refl, rw (add-zero i) h)
 readable_both i (x ∷ xs) ys h =
@@ -75,7 +75,7 @@ readable_both i (x ∷ xs) ys h =
           let both = readable_both (i + 1) xs ys (rw good at h) in
           let more : i + 1 + length xs ≡ i + suc (length xs) = omega arith in
           (rw good both.0, ap (λ (k : ℕ). readable k ys) (sym more) ∙ both.1)
-      | inr bad ↦ let never : Refused (Read i) ≡ Done 0 = rw bad at h in absurd (done_not_refused 0 (Read i) (sym never))
+      | inr bad ↦ let never : Err (Read i) ≡ Ok 0 = rw bad at h in absurd (done_not_refused 0 (Read i) (sym never))
     ]
 
 -- ---- Calls in turn
@@ -119,7 +119,7 @@ piece_start h [] = refl
 piece_start h (w ∷ ws) = piece_start (with_sample h (float w)) ws ∙ same_start h (float w)
 
 -- a piece that is taken in, and then such calls
-module _ (s : List ℕ) (t : ℕ) (d : Holding) (q rest : List ℕ) (at : At s t d) (e : drop t s ≡ q ++ rest) (good : readable t q ≡ Done 0)
+module _ (s : List ℕ) (t : ℕ) (d : Holding) (q rest : List ℕ) (at : At s t d) (e : drop t s ≡ q ++ rest) (good : readable t q ≡ Ok 0)
     (o : Offer) (os : List Offer) (more : List ℕ) (enough : flags_due d.detector.start t (length o.piece) ≤ length o.room)
     (parts : q ≡ o.piece ++ more) where
   abbrev n : ℕ
@@ -140,7 +140,7 @@ module _ (s : List ℕ) (t : ℕ) (d : Holding) (q rest : List ℕ) (at : At s t
   within : t + n ≤ length s
   within = omega (arith, at.inside, length-drop t s, ap length left_over, length-append o.piece (more ++ rest))
 
-  tested : (readable t o.piece ≡ Done 0) × (readable (t + n) more ≡ Done 0)
+  tested : (readable t o.piece ≡ Ok 0) × (readable (t + n) more ≡ Ok 0)
   tested = readable_both t o.piece more (sym (ap (readable t) parts) ∙ good)
 
   gave : At s (t + n) next × (fs ++ left s next.detector (t + n) ≡ left s d.detector t)
@@ -149,8 +149,8 @@ module _ (s : List ℕ) (t : ℕ) (d : Holding) (q rest : List ℕ) (at : At s t
   behind : drop (t + n) s ≡ more ++ rest
   behind = sym (drop-drop n t s) ∙ ap (drop n) left_over ∙ drop-append_seam o.piece (more ++ rest)
 
-  told_so : piece_told d o.piece o.room ≡ told (Done (flags_due start t n)) next (flags_in o.room fs)
-  told_so = with_room s t d o.piece o.room (Done 0) at within enough tested.0
+  told_so : piece_told d o.piece o.room ≡ told (Ok (flags_due start t n)) next (flags_in o.room fs)
+  told_so = with_room s t d o.piece o.room (Ok 0) at within enough tested.0
 
   written : take (flags_due start t n) (flags_in o.room fs) ≡ map flag_byte fs
   written =
@@ -190,7 +190,7 @@ none_bring s t d at =
 
 -- calls that bring in samples, from the start that the detector has
 calls_bring : (s : List ℕ) (start : Start) (offers : List Offer) (t : ℕ) (d : Holding) (q rest : List ℕ) → d.detector.start ≡ start → At s t d
-    → drop t s ≡ q ++ rest → readable t q ≡ Done 0 → Cut start (length s) t offers q → Brought s t d offers q (handed d offers)
+    → drop t s ≡ q ++ rest → readable t q ≡ Ok 0 → Cut start (length s) t offers q → Brought s t d offers q (handed d offers)
 unfolding in_turn Cut
 calls_bring s start [] t d q rest own at e good cut = rw cut (none_bring s t d at)
 calls_bring s start (o ∷ os) t d q rest own at e good (inl (short, fit, cut)) =
@@ -333,7 +333,7 @@ end_due : (s : List ℕ) (d : Holding) → At s (length s) d → length (last_fl
 end_due s d at = ap length (end_gives s d at) ∙ length_left s d.detector (length s)
 
 end-told : (s : List ℕ) (d : Holding) (room : List ℕ) → At s (length s) d → length s - given_by d.detector.start (length s) ≤ length room
-    → end_told d room ≡ told (Done (length (last_flags d))) (holding (closed d.detector) (last_values d)) (flags_in room (last_flags d))
+    → end_told d room ≡ told (Ok (length (last_flags d))) (holding (closed d.detector) (last_values d)) (flags_in room (last_flags d))
 unfolding end_told
 end-told s d room at enough =
     let all : eqb d.detector.taken d.detector.total ≡ true = eq-eqb _ _ (at.taken_is ∙ sym at.total_is) in
@@ -364,7 +364,7 @@ however_cut start sensitivity s values offers room may few good enough cut fit =
     fits : length s - given_by d.detector.start (length s) ≤ length room
     fits = rw (run_start start sensitivity s values enough s [] offers whole_so good cut) fit
 
-    ends : end_told d room ≡ told (Done (length (last_flags d))) (holding (closed d.detector) (last_values d)) (flags_in room (last_flags d))
+    ends : end_told d room ≡ told (Ok (length (last_flags d))) (holding (closed d.detector) (last_values d)) (flags_in room (last_flags d))
     ends = end-told s d room at fits
 
     given : run_all.flags ++ take (length (last_flags d)) (flags_in room (last_flags d)) ≡ map flag_byte (whole_flags start sensitivity s)
@@ -384,7 +384,7 @@ stopped_by_a_sample start sensitivity p piece later values room offers place goo
     let inside : length p + length piece ≤ length s = omega (arith, length-append p rest, length-append piece later) in (
       run_numbers start sensitivity s values enough p rest offers refl good cut,
       so_far start sensitivity s values enough p rest offers refl good cut,
-      with_room s (length p) _ piece room (Refused (Read place)) at inside (rw own fit) out,
+      with_room s (length p) _ piece room (Err (Read place)) at inside (rw own fit) out,
     )
 
 -- a detector that is closed stays so
@@ -408,15 +408,15 @@ stopped_is h e =
     (sym e)
 
 module _ (h : Holding) (room : List ℕ) (over : h.detector.running ≡ false) (enough : Enough h.values) where
-  closed_end : end_told h room ≡ told (Refused Pieces) h room
+  closed_end : end_told h room ≡ told (Err Pieces) h room
   unfolding end_told
   closed_end =
-      subst (λ (e : Holding). end_told e room ≡ told (Refused Pieces) e room) (stopped_is h over) (rw (le-ltb (length h.values) mean_over enough) refl)
+      subst (λ (e : Holding). end_told e room ≡ told (Err Pieces) e room) (stopped_is h over) (rw (le-ltb (length h.values) mean_over enough) refl)
 
-  closed_piece : (piece : List ℕ) → piece_told h piece room ≡ told (Refused Pieces) h room
+  closed_piece : (piece : List ℕ) → piece_told h piece room ≡ told (Err Pieces) h room
   unfolding piece_told
   closed_piece piece =
-      subst (λ (e : Holding). piece_told e piece room ≡ told (Refused Pieces) e room) (stopped_is h over)
+      subst (λ (e : Holding). piece_told e piece room ≡ told (Err Pieces) e room) (stopped_is h over)
       (rw (le-ltb (length h.values) mean_over enough) refl)
 
 -- no call gives anything

@@ -15,8 +15,8 @@ use Rattle.std.specs.Prelude.{if◌then◌else◌}
 use Rattle.recording.specs.Answers.{number}
 use Rattle.recording.specs.declared.Reason.{Reason}
 use Rattle.recording.specs.declared.Reason.TheVariants.{Workspace}
-use Rattle.recording.specs.declared.Answer.{Answer}
-use Rattle.recording.specs.declared.Answer.TheVariants.{Done, Refused}
+use Rattle.recording.specs.Answer.{Answer}
+use Rattle.std.specs.Prelude.{Ok, Err}
 use Rattle.crackle.specs.declared.Detector.{Detector}
 use Rattle.crackle.specs.declared.Announced.{Announced}
 use Rattle.crackle.specs.declared.Announced.TheVariants.{Begun, TurnedAway}
@@ -86,13 +86,13 @@ head_written d front values h =
 -- ---- The calls
 
 module _ (start : Start) (total : ℕ) (sensitivity : Float) (words : List ℕ) where
-  pub begin_few : length words < state_words → told (Refused Workspace) words [] ≡ begin_kept start total sensitivity words
+  pub begin_few : length words < state_words → told (Err Workspace) words [] ≡ begin_kept start total sensitivity words
   unfolding begin_kept
   begin_few h = rw (lt-ltb _ _ h) refl
 
   module _ (enough : state_words ≤ length words) (a : Announced) (ea : a ≡ announced start total sensitivity) where
     pub begin_so : (d : Detector) (after : List ℕ) → a ≡ Begun d → after ≡ sets words 0 (head_of d)
-        → told (Done 0) after [] ≡ begin_kept start total sensitivity words
+        → told (Ok 0) after [] ≡ begin_kept start total sensitivity words
     unfolding begin_kept
     begin_so d after h e =
         let front : length (take head_words words) ≡ head_words = length-take-le head_words words (omega (arith, enough)) in
@@ -101,7 +101,7 @@ module _ (start : Start) (total : ℕ) (sensitivity : Float) (words : List ℕ) 
         ∙ head_written d (take head_words words) (drop head_words words) front in
         rw (le-ltb _ _ enough, ← ea, h, so) refl
 
-    pub begin_away : (why : Reason) → a ≡ TurnedAway why → told (Refused why) words [] ≡ begin_kept start total sensitivity words
+    pub begin_away : (why : Reason) → a ≡ TurnedAway why → told (Err why) words [] ≡ begin_kept start total sensitivity words
     unfolding begin_kept
     begin_away why h = rw (le-ltb _ _ enough, ← ea, h) refl
 
@@ -144,7 +144,7 @@ back_is words values =
     ap (λ (l : List ℕ). take head_words words ++ (values ++ l)) none ∙ ap (λ (l : List ℕ). take head_words words ++ l) (append-nil values)
 
 module _ (call : Holding → List ℕ → Told Holding) (words room : List ℕ) where
-  pub kept_few : length words < state_words → told (Refused Workspace) words room ≡ kept_by call words room
+  pub kept_few : length words < state_words → told (Err Workspace) words room ≡ kept_by call words room
   unfolding kept_by
   kept_few h = rw (lt-ltb _ _ h) refl
 

@@ -18,8 +18,8 @@ use Rattle.leaves.proofs.words.Laws.{nan_test}
 use Rattle.recording.specs.Recording.{most_samples, readable}
 use Rattle.recording.specs.declared.Reason.{Reason}
 use Rattle.recording.specs.declared.Reason.TheVariants.{TooMany, Setting, Workspace, Pieces}
-use Rattle.recording.specs.declared.Answer.{Answer}
-use Rattle.recording.specs.declared.Answer.TheVariants.{Done, Refused}
+use Rattle.recording.specs.Answer.{Answer}
+use Rattle.std.specs.Prelude.{Ok, Err}
 use Rattle.decrackle.specs.declared.Start.{Start}
 use Rattle.decrackle.specs.Decrackle.{factor_for, mean_over, old_floor}
 use Rattle.decrackle.proofs.Opening.{millionth}
@@ -205,33 +205,33 @@ pub not_much : (d : Detector) (n : ℕ) (b : Bool) → b ≡ too_much d n → b 
 not_much d n b e h = ltb-false d.total (d.taken + n) (neither (not d.running) (ltb d.total (d.taken + n)) (sym e ∙ h)).1
 
 module _ (d : Detector) (held piece room : List ℕ) where
-  pub piece_few : length held < mean_over → told (Refused Workspace) (holding d held) room ≡ piece_told (holding d held) piece room
+  pub piece_few : length held < mean_over → told (Err Workspace) (holding d held) room ≡ piece_told (holding d held) piece room
   unfolding piece_told
   piece_few h = rw (lt-ltb _ _ h) refl
 
   module _ (values : mean_over ≤ length held) (b : Bool) (eb : b ≡ too_much d (length piece)) where
     pub piece_much : (e : Detector) → b ≡ true → e ≡ closed d
-        → told (Refused Pieces) (holding e held) room ≡ piece_told (holding d held) piece room
+        → told (Err Pieces) (holding e held) room ≡ piece_told (holding d held) piece room
     unfolding piece_told
     piece_much e h ee = rw (le-ltb _ _ values, ← eb, h, ee) refl
 
     module _ (right : b ≡ false) (due : ℕ) (ed : due ≡ flags_due d.start d.taken (length piece)) where
-      pub piece_short : length room < due → told (Refused Workspace) (holding d held) room ≡ piece_told (holding d held) piece room
+      pub piece_short : length room < due → told (Err Workspace) (holding d held) room ≡ piece_told (holding d held) piece room
       unfolding piece_told
       piece_short h = rw (le-ltb _ _ values, ← eb, right, ← ed, lt-ltb _ _ h) refl
 
       module _ (enough : due ≤ length room) (read : Answer) (er : read ≡ readable d.taken piece) where
-        pub piece_out : (e : Detector) (why : Reason) → read ≡ Refused why → e ≡ closed d
+        pub piece_out : (e : Detector) (why : Reason) → read ≡ Err why → e ≡ closed d
             → told read (holding e held) room ≡ piece_told (holding d held) piece room
         unfolding piece_told
         piece_out e why h ee = rw (le-ltb _ _ values, ← eb, right, ← ed, le-ltb _ _ enough, ← er, h, ee) refl
 
-        pub piece_taken : (e : Detector) (m : ℕ) (after flags : List ℕ) → read ≡ Done m
+        pub piece_taken : (e : Detector) (m : ℕ) (after flags : List ℕ) → read ≡ Ok m
             → (holding e after ≡ with_piece (holding d held) piece) × (flags ≡ flags_in room (flags_before (holding d held) piece))
-            → told (Done due) (holding e after) flags ≡ piece_told (holding d held) piece room
+            → told (Ok due) (holding e after) flags ≡ piece_told (holding d held) piece room
         unfolding piece_told
         piece_taken e m after flags h both =
-            ap (λ (t : Holding). told (Done due) t flags) both.0
+            ap (λ (t : Holding). told (Ok due) t flags) both.0
             ∙ rw (le-ltb _ _ values, ← eb, right, ← ed, le-ltb _ _ enough, ← er, h, both.1) refl
 
 -- ---- The end
@@ -249,17 +249,17 @@ last_some d held some =
     )
 
 module _ (d : Detector) (held room : List ℕ) where
-  pub end_few : length held < mean_over → told (Refused Workspace) (holding d held) room ≡ end_told (holding d held) room
+  pub end_few : length held < mean_over → told (Err Workspace) (holding d held) room ≡ end_told (holding d held) room
   unfolding end_told
   end_few h = rw (lt-ltb _ _ h) refl
 
   module _ (values : mean_over ≤ length held) (b : Bool) (eb : b ≡ not_all d) where
-    pub end_early : (e : Detector) → b ≡ true → e ≡ closed d → told (Refused Pieces) (holding e held) room ≡ end_told (holding d held) room
+    pub end_early : (e : Detector) → b ≡ true → e ≡ closed d → told (Err Pieces) (holding e held) room ≡ end_told (holding d held) room
     unfolding end_told
     end_early e h ee = rw (le-ltb _ _ values, ← eb, h, ee) refl
 
     pub end_empty : (e : Detector) → b ≡ false → d.taken ≡ 0 → e ≡ closed d
-        → told (Done 0) (holding e held) room ≡ end_told (holding d held) room
+        → told (Ok 0) (holding e held) room ≡ end_told (holding d held) room
     unfolding end_told last_values last_flags
     end_empty e h none ee = rw (le-ltb _ _ values, ← eb, h, eq-eqb d.taken 0 none, le-ltb (length room) 0 (omega arith), ee) refl
 
@@ -267,7 +267,7 @@ module _ (d : Detector) (held room : List ℕ) where
       due_so : d.taken - given ≡ length (last_flags (holding d held))
       due_so = ap (λ (k : ℕ). d.taken - k) eg ∙ sym (last_length (holding d held) values)
 
-      pub end_short : length room < d.taken - given → told (Refused Workspace) (holding d held) room ≡ end_told (holding d held) room
+      pub end_short : length room < d.taken - given → told (Err Workspace) (holding d held) room ≡ end_told (holding d held) room
       unfolding end_told
       end_short h = rw (le-ltb _ _ values, ← eb, right, ← due_so, lt-ltb _ _ h) refl
 
@@ -275,7 +275,7 @@ module _ (d : Detector) (held room : List ℕ) where
         pub end_some : (after flags : List ℕ) → (d.taken ≡ 0 → ⊥)
             → (after ≡ values_with (holding d held) (of_bits binary32 0))
             × (flags ≡ flags_in room (flags_with (holding d held) (of_bits binary32 0) true))
-            → told (Done (d.taken - given)) (holding e after) flags ≡ end_told (holding d held) room
+            → told (Ok (d.taken - given)) (holding e after) flags ≡ end_told (holding d held) room
         unfolding end_told
         end_some after flags some both =
             let last = last_some d held some in

@@ -18,7 +18,7 @@ use Rattle.leaves.specs.Floats.{larger, held}
 use Rattle.leaves.proofs.Choice.{picks}
 use Rattle.recording.specs.Answers.{number}
 use Rattle.recording.specs.declared.Reason.TheVariants.{Workspace}
-use Rattle.recording.specs.declared.Answer.TheVariants.{Done, Refused}
+use Rattle.std.specs.Prelude.{Ok, Err}
 use Rattle.decrackle.specs.declared.Start.{Start}
 use Rattle.decrackle.specs.declared.Start.TheVariants.{Mean, Old}
 use Rattle.decrackle.specs.Decrackle.{factor_for, least_floor, mean_over, summed, mean_floor, old_floor, opening_floor, alpha, floor_after}
@@ -152,7 +152,7 @@ written h f =
 
 -- it was refused by 6 and left what holds the detector, or the words are written; the room for values is as long
 record Left (h : Holding) (t : Told Holding) : Type 0 where
-  leaves : ((t.answer ≡ Refused Workspace) × (t.held ≡ h)) ⊎ ((eqb (number t.answer) 6 ≡ false) × Fitting t.held)
+  leaves : ((t.answer ≡ Err Workspace) × (t.held ≡ h)) ⊎ ((eqb (number t.answer) 6 ≡ false) × Fitting t.held)
   as_long : length t.held.values ≡ length h.values
 
 piece_left : (h : Holding) (piece room : List ℕ) → Fitting h → Left h (piece_told h piece room)
@@ -178,7 +178,7 @@ told_words : (words : List ℕ) (t : Told Holding) → state_words ≤ length wo
     → (holding_of (words_after t.answer t.held words) ≡ t.held) × (length (words_after t.answer t.held words) ≡ length words)
 told_words words t h l = go l.leaves
   where
-    go : ((t.answer ≡ Refused Workspace) × (t.held ≡ holding_of words)) ⊎ ((eqb (number t.answer) 6 ≡ false) × Fitting t.held)
+    go : ((t.answer ≡ Err Workspace) × (t.held ≡ holding_of words)) ⊎ ((eqb (number t.answer) 6 ≡ false) × Fitting t.held)
         → (holding_of (words_after t.answer t.held words) ≡ t.held) × (length (words_after t.answer t.held words) ≡ length words)
     go (inl (six, same)) = rw six (sym same, refl)
     go (inr (other, f)) = rw other (written t.held f, omega (arith, length_words t.held, l.as_long, values_count words h))
@@ -255,7 +255,7 @@ begun_fits start total sensitivity values =
 
 begun_told : (start : Start) (total : ℕ) (sensitivity : Float) (words : List ℕ) → state_words ≤ length words
     → announced start total sensitivity ≡ Begun (begun start total sensitivity)
-    → begin_kept start total sensitivity words ≡ told (Done 0) (words_of (fresh start total sensitivity (drop head_words words))) []
+    → begin_kept start total sensitivity words ≡ told (Ok 0) (words_of (fresh start total sensitivity (drop head_words words))) []
 unfolding begin_kept
 begun_told start total sensitivity words h e = rw (le-ltb (length words) state_words h, e) refl
 
@@ -283,7 +283,7 @@ however_cut_in_words start sensitivity s offers words room may few good enough-w
     many : length opened ≡ length words
     many = omega (arith, enough-words, length_words first, length-drop head_words words)
 
-    begun_so : begin_kept start (length s) sensitivity words ≡ told (Done 0) opened []
+    begun_so : begin_kept start (length s) sensitivity words ≡ told (Ok 0) opened []
     begun_so = begun_told start (length s) sensitivity words enough-words cuts.0
 
     holds : holding_of opened ≡ first

@@ -4,7 +4,7 @@ use Rattle.std.specs.Prelude.{ℕ, ◌≤◌, ◌≡◌, false, List, ◌⊎◌,
 use Rattle.recording.specs.Answers.{number}
 use Rattle.recording.specs.declared.Reason.{Reason}
 use Rattle.recording.specs.declared.Reason.TheVariants.{Workspace}
-use Rattle.recording.specs.declared.Answer.TheVariants.{Done, Refused}
+use Rattle.std.specs.Prelude.{Ok, Err}
 use Rattle.decrackle.specs.declared.Start.TheVariants.{Old}
 use Rattle.decrackle.specs.Decrackle.{mean_over}
 use Rattle.crackle.specs.Pieces.{flags_due, Holding, flags_before, Told, piece_told, end_told}
@@ -19,11 +19,11 @@ AsManyAsDue =
 -- unwritten", and no refusal touches what is held back; and where it is accepted, both rooms are as long, and neither what lies behind
 -- this call's flags is touched nor what lies behind the values.
 pub record Ends (h : Holding) (room : List ℕ) (t : Told Holding) : Type 0 where
-  pub unwritten : (why : Reason) → t.answer ≡ Refused why → (t.room ≡ room) × (t.held.values ≡ h.values)
-  pub nothing_in : t.answer ≡ Refused Workspace → t.held ≡ h
-  pub stops : (why : Reason) → t.answer ≡ Refused why → (why ≡ Workspace) ⊎ (t.held.detector.running ≡ false)
+  pub unwritten : (why : Reason) → t.answer ≡ Err why → (t.room ≡ room) × (t.held.values ≡ h.values)
+  pub nothing_in : t.answer ≡ Err Workspace → t.held ≡ h
+  pub stops : (why : Reason) → t.answer ≡ Err why → (why ≡ Workspace) ⊎ (t.held.detector.running ≡ false)
   pub as_long : (length t.room ≡ length room) × (length t.held.values ≡ length h.values)
-  pub behind : (m : ℕ) → t.answer ≡ Done m → drop m t.room ≡ drop m room
+  pub behind : (m : ℕ) → t.answer ≡ Ok m → drop m t.room ≡ drop m room
   pub behind_values : drop mean_over t.held.values ≡ drop mean_over h.values
 
 abbrev pub PieceEnds : Type 0

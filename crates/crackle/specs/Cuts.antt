@@ -5,8 +5,8 @@ use Rattle.std.specs.Prelude.{if◌then◌else◌}
 use Rattle.recording.specs.Answers.{number}
 use Rattle.recording.specs.Recording.{most_samples, readable}
 use Rattle.recording.specs.declared.Reason.TheVariants.{Read}
-use Rattle.recording.specs.declared.Answer.{Answer}
-use Rattle.recording.specs.declared.Answer.TheVariants.{Done, Refused}
+use Rattle.recording.specs.Answer.{Answer}
+use Rattle.std.specs.Prelude.{Ok, Err}
 use Rattle.decrackle.specs.declared.Start.{Start}
 use Rattle.decrackle.specs.Decrackle.{allowed, mean_over, least_samples, flags_of, decrackled}
 use Rattle.crackle.specs.declared.Announced.TheVariants.{Begun}
@@ -26,7 +26,7 @@ FlagsAreNamed = (start : Start) (sensitivity : Float) (s : List ℕ) → whole_f
 
 -- "an in-range recording": refusal 7 does not apply to its samples
 abbrev pub InRange : List ℕ → Type 0
-InRange s = readable 0 s ≡ Done 0
+InRange s = readable 0 s ≡ Ok 0
 
 -- ---- The calls
 
@@ -37,8 +37,8 @@ pub record Offer : Type 0 where
 
 -- the flags that a call gave, by its answer: as many, from the first place of the room on; none where it was refused
 abbrev pub flags_given : Answer → List ℕ → List ℕ
-flags_given (Done m) room = take m room
-flags_given (Refused why) room = []
+flags_given (Ok m) room = take m room
+flags_given (Err why) room = []
 
 -- what calls give, one after the other, each on what the one before it left: the number of each answer, "the flags joined together", and what
 -- holds the detector behind them
@@ -127,11 +127,11 @@ StoppedByASample =
     (start : Start) (sensitivity : Float) (p piece later values room : List ℕ) (offers : List Offer) (place : ℕ)
     → let s = p ++ (piece ++ later) in
     InRange p → Enough values → Cut start (length s) 0 offers p
-    → readable (length p) piece ≡ Refused (Read place) → flags_due start (length p) (length piece) ≤ length room
+    → readable (length p) piece ≡ Err (Read place) → flags_due start (length p) (length piece) ≤ length room
     → let run = handed (fresh start (length s) sensitivity values) offers in
     (run.numbers ≡ by_room start 0 offers)
     × (run.flags ≡ map flag_byte (take (given_by start (length p)) (whole_flags start sensitivity s)))
-    × (piece_told run.held piece room ≡ told (Refused (Read place)) (stopped run.held) room)
+    × (piece_told run.held piece room ≡ told (Err (Read place)) (stopped run.held) room)
 
 -- "and every later piece is refused", behind any stop and behind the end, and the end with them: nothing moves any more
 abbrev pub ClosedForGood : Type 0

@@ -3,7 +3,7 @@ use Rattle.std.specs.Prelude.{ℕ, Bool, false, List, ltb, eqb, Float}
 use Rattle.std.proofs.lemmas.List.Edits.{sets}
 use Rattle.std.specs.Prelude.{if◌then◌else◌}
 use Rattle.recording.specs.Answers.{number}
-use Rattle.recording.specs.declared.Answer.{Answer}
+use Rattle.recording.specs.Answer.{Answer}
 use Rattle.decrackle.specs.Decrackle.{flagged, least_samples}
 use Rattle.crackle.specs.declared.Detector.{Detector}
 use Rattle.crackle.specs.Pieces.{Holding, with_sample}

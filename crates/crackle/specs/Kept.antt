@@ -6,8 +6,8 @@ use Rattle.leaves.specs.Arithmetic.{float}
 use Rattle.std.specs.Prelude.{if◌then◌else◌}
 use Rattle.recording.specs.Answers.{number}
 use Rattle.recording.specs.declared.Reason.TheVariants.{Workspace}
-use Rattle.recording.specs.declared.Answer.{Answer}
-use Rattle.recording.specs.declared.Answer.TheVariants.{Done, Refused}
+use Rattle.recording.specs.Answer.{Answer}
+use Rattle.std.specs.Prelude.{Ok, Err}
 use Rattle.decrackle.specs.declared.Start.{Start}
 use Rattle.decrackle.specs.declared.Start.TheVariants.{Mean, Old}
 use Rattle.decrackle.specs.Decrackle.{mean_over}
@@ -91,18 +91,18 @@ kept_told t words = told t.answer (words_after t.answer t.held words) t.room
 
 -- an announcement, which has no room for flags; where it is turned away there is no detector, and the words stay
 abbrev pub kept_begun : Announced → List ℕ → Told (List ℕ)
-kept_begun (Begun d) words = told (Done 0) (words_of (holding d (drop head_words words))) []
-kept_begun (TurnedAway why) words = told (Refused why) words []
+kept_begun (Begun d) words = told (Ok 0) (words_of (holding d (drop head_words words))) []
+kept_begun (TurnedAway why) words = told (Err why) words []
 
 unfoldable pub begin_kept : Start → ℕ → Float → List ℕ → Told (List ℕ)
 unfolding announced words_of
 begin_kept start total sensitivity words =
-    if too_few words then told (Refused Workspace) words [] else kept_begun (announced start total sensitivity) words
+    if too_few words then told (Err Workspace) words [] else kept_begun (announced start total sensitivity) words
 
 -- any other call on the detector of the words, with this room
 unfoldable pub kept_by : (Holding → List ℕ → Told Holding) → List ℕ → List ℕ → Told (List ℕ)
 unfolding holding_of words_of
-kept_by call words room = if too_few words then told (Refused Workspace) words room else kept_told (call (holding_of words) room) words
+kept_by call words room = if too_few words then told (Err Workspace) words room else kept_told (call (holding_of words) room) words
 
 -- a piece, and the end
 abbrev pub piece_kept : List ℕ → List ℕ → List ℕ → Told (List ℕ)

@@ -9,8 +9,8 @@ use Rattle.std.specs.Prelude.{if◌then◌else◌}
 use Rattle.leaves.specs.Floats.{magnitude}
 use Rattle.recording.specs.Recording.{most_samples, readable}
 use Rattle.recording.specs.declared.Reason.TheVariants.{TooMany, Setting, Workspace, Pieces}
-use Rattle.recording.specs.declared.Answer.{Answer}
-use Rattle.recording.specs.declared.Answer.TheVariants.{Done, Refused}
+use Rattle.recording.specs.Answer.{Answer}
+use Rattle.std.specs.Prelude.{Ok, Err}
 use Rattle.decrackle.specs.declared.Start.{Start}
 use Rattle.decrackle.specs.declared.Start.TheVariants.{Mean, Old}
 use Rattle.decrackle.specs.Decrackle.{allowed, factor_for, from_middle, mean_over, old_floor, opening_floor, floor_after, flags_from, least_samples}
@@ -230,8 +230,8 @@ not_all d = not d.running || not (eqb d.taken d.total)
 
 -- what is left of a call once 13 and 6 are tested, by the test of the samples: 7, which stops the run, or these
 abbrev pub unless_out : Answer → Holding → List ℕ → Told Holding → Told Holding
-unless_out (Done m) h room rest = rest
-unless_out (Refused why) h room rest = told (Refused why) (stopped h) room
+unless_out (Ok m) h room rest = rest
+unless_out (Err why) h room rest = told (Err why) (stopped h) room
 
 -- A piece. "13, ..; 6, no room for this call's flags; 7 with the place in the whole; tested in that order. 13 and 7 stop the run, 6 takes
 -- nothing in, and all leave the flag room unwritten."
@@ -241,10 +241,10 @@ piece_told h piece room =
     let d = h.detector in
     let n = length piece in
     let due = flags_due d.start d.taken n in
-    if too_few_values h then told (Refused Workspace) h room else
-    if too_much d n then told (Refused Pieces) (stopped h) room else
-    if ltb (length room) due then told (Refused Workspace) h room else
-    unless_out (readable d.taken piece) h room (told (Done due) (with_piece h piece) (flags_in room (flags_before h piece)))
+    if too_few_values h then told (Err Workspace) h room else
+    if too_much d n then told (Err Pieces) (stopped h) room else
+    if ltb (length room) due then told (Err Workspace) h room else
+    unless_out (readable d.taken piece) h room (told (Ok due) (with_piece h piece) (flags_in room (flags_before h piece)))
 
 -- "and the last at the end": with the value of the last place, 0 as at both ends, all that was held back comes; nothing where the total is 0
 unfoldable pub last_flags : Holding → List Bool
@@ -262,7 +262,7 @@ unfolding last_flags last_values
 end_told h room =
     let d = h.detector in
     let flags = last_flags h in
-    if too_few_values h then told (Refused Workspace) h room else
-    if not_all d then told (Refused Pieces) (stopped h) room else
-    if ltb (length room) (length flags) then told (Refused Workspace) h room else
-    told (Done (length flags)) (holding (closed d) (last_values h)) (flags_in room flags)
+    if too_few_values h then told (Err Workspace) h room else
+    if not_all d then told (Err Pieces) (stopped h) room else
+    if ltb (length room) (length flags) then told (Err Workspace) h room else
+    told (Ok (length flags)) (holding (closed d) (last_values h)) (flags_in room flags)

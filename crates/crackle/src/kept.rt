@@ -105,14 +105,14 @@ pub fn begin(start: Start, total: usize, sensitivity: f32, words: &mut [u32]) ->
     ensures { told result words.new [] ≡ begin_kept start total sensitivity words.old }
 {
     if words.len() < STATE_WORDS {
-        return Answer::Refused(Reason::Workspace);
+        return Err(Reason::Workspace);
     }
     match announce(start, total, sensitivity) {
         Announced::Begun(detector) => {
             write_detector(detector, words);
-            Answer::Done(0)
+            Ok(0)
         }
-        Announced::TurnedAway(why) => Answer::Refused(why),
+        Announced::TurnedAway(why) => Err(why),
     }
 }
 
@@ -121,7 +121,7 @@ pub fn piece(words: &mut [u32], piece: &[u32], flags: &mut [u8]) -> Answer
     ensures { told result words.new flags.new ≡ piece_kept words.old piece.now flags.old }
 {
     if words.len() < STATE_WORDS {
-        return Answer::Refused(Reason::Workspace);
+        return Err(Reason::Workspace);
     }
     let detector = read_detector(words);
     let heard = super::piece(detector, &mut words[HEAD_WORDS..], piece, flags);
@@ -133,7 +133,7 @@ pub fn finish(words: &mut [u32], flags: &mut [u8]) -> Answer
     ensures { told result words.new flags.new ≡ end_kept words.old flags.old }
 {
     if words.len() < STATE_WORDS {
-        return Answer::Refused(Reason::Workspace);
+        return Err(Reason::Workspace);
     }
     let detector = read_detector(words);
     let heard = super::finish(detector, &mut words[HEAD_WORDS..], flags);

@@ -327,32 +327,32 @@ pub fn piece(detector: Detector, held: &mut [u32], piece: &[u32], flags: &mut [u
     let n = piece.len();
     if held.len() < MEAN_OVER {
         return Heard {
-            answer: Answer::Refused(Reason::Workspace),
+            answer: Err(Reason::Workspace),
             detector,
         };
     }
     if too_much(detector, n) {
         return Heard {
-            answer: Answer::Refused(Reason::Pieces),
+            answer: Err(Reason::Pieces),
             detector: close(detector),
         };
     }
     let due = flags_due(start, detector.taken as usize, n);
     if flags.len() < due {
         return Heard {
-            answer: Answer::Refused(Reason::Workspace),
+            answer: Err(Reason::Workspace),
             detector,
         };
     }
     let read = check_words(piece, detector.taken as usize);
-    let Answer::Done(_) = read else {
+    let Ok(_) = read else {
         return Heard {
             answer: read,
             detector: close(detector),
         };
     };
     Heard {
-        answer: Answer::Done(due),
+        answer: Ok(due),
         detector: take_in(detector, held, piece, flags),
     }
 }
@@ -365,13 +365,13 @@ pub fn finish(detector: Detector, held: &mut [u32], flags: &mut [u8]) -> Heard
 {
     if held.len() < MEAN_OVER {
         return Heard {
-            answer: Answer::Refused(Reason::Workspace),
+            answer: Err(Reason::Workspace),
             detector,
         };
     }
     if not_all(detector) {
         return Heard {
-            answer: Answer::Refused(Reason::Pieces),
+            answer: Err(Reason::Pieces),
             detector: close(detector),
         };
     }
@@ -379,20 +379,20 @@ pub fn finish(detector: Detector, held: &mut [u32], flags: &mut [u8]) -> Heard
     let taken = detector.taken as usize;
     if taken == 0 {
         return Heard {
-            answer: Answer::Done(0),
+            answer: Ok(0),
             detector: close(detector),
         };
     }
     let due = taken - given_by(start, taken);
     if flags.len() < due {
         return Heard {
-            answer: Answer::Refused(Reason::Workspace),
+            answer: Err(Reason::Workspace),
             detector,
         };
     }
     judge(detector, held, 0.0, true, flags, 0);
     Heard {
-        answer: Answer::Done(due),
+        answer: Ok(due),
         detector: close(detector),
     }
 }

@@ -139,7 +139,7 @@ pub fn declip(
         ≡ declip_repair threshold (length work.old) (lent samples marks counts journal used))
         × (work.new ≡ work_after 0 (needed (length samples.old)) result work.old) }
 {
-    let begun = begin(
+    begin(
         samples,
         marks,
         counts,
@@ -147,10 +147,7 @@ pub fn declip(
         *used,
         threshold_allowed(threshold),
         work,
-    );
-    let Answer::Done(_) = begun else {
-        return begun;
-    };
+    )?;
     bridge_runs(samples, threshold, work);
     finish(samples, marks, counts, journal, used, work, CUBIC_DECLIP)
 }

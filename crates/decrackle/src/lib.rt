@@ -288,7 +288,7 @@ pub fn decrackle(
         ≡ decrackle_repair start sensitivity (length work.old) (lent samples marks counts journal used))
         × (work.new ≡ work_after 0 (needed (length samples.old)) result work.old) }
 {
-    let begun = begin(
+    begin(
         samples,
         marks,
         counts,
@@ -296,10 +296,7 @@ pub fn decrackle(
         *used,
         sensitivity == sensitivity,
         work,
-    );
-    let Answer::Done(_) = begun else {
-        return begun;
-    };
+    )?;
     draw(samples, sensitivity, start, work);
     finish(samples, marks, counts, journal, used, work, mark_for(start))
 }

@@ -133,7 +133,7 @@ pub fn dequantize_cosparse(
         ≡ cosparse_repair bits strength iterations (length work.old) (lent samples marks counts journal used))
         × (work.new ≡ work_after 0 (needed (length samples.old)) result work.old) }
 {
-    let begun = begin(
+    begin(
         samples,
         marks,
         counts,
@@ -141,10 +141,7 @@ pub fn dequantize_cosparse(
         *used,
         strength == strength,
         work,
-    );
-    let Answer::Done(_) = begun else {
-        return begun;
-    };
+    )?;
     draw(work, samples.len(), bits, strength, iterations);
     finish(samples, marks, counts, journal, used, work, DEQUANTIZE)
 }

@@ -116,7 +116,7 @@ pub fn dequantize(
         ≡ dequantize_repair bits strength (length work.old) (lent samples marks counts journal used))
         × (work.new ≡ work_after 0 (needed (length samples.old)) result work.old) }
 {
-    let begun = begin(
+    begin(
         samples,
         marks,
         counts,
@@ -124,10 +124,7 @@ pub fn dequantize(
         *used,
         strength == strength,
         work,
-    );
-    let Answer::Done(_) = begun else {
-        return begun;
-    };
+    )?;
     draw(work, samples.len(), bits, strength);
     finish(samples, marks, counts, journal, used, work, DEQUANTIZE)
 }

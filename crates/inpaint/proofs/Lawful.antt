@@ -6,8 +6,8 @@ use Rattle.recording.specs.Recording.{Plan, refuse, change, span, or_else, reada
 use Rattle.recording.specs.Marks.{gap_by_model, gap_by_line, made}
 use Rattle.recording.specs.History.{Keeps}
 use Rattle.recording.specs.declared.Reason.TheVariants.{Gap, Workspace, Read}
-use Rattle.recording.specs.declared.Answer.{Answer}
-use Rattle.recording.specs.declared.Answer.TheVariants.{Done, Refused}
+use Rattle.recording.specs.Answer.{Answer}
+use Rattle.std.specs.Prelude.{Ok, Err}
 use Rattle.recording.proofs.Performing.{span_ascends}
 use Rattle.leaves.proofs.Choice.{picks, picks_by}
 use Rattle.inpaint.specs.Gap.{gap_wrong, by_line, from, needed, known_before, known_behind, all_readable, line, model}
@@ -33,8 +33,8 @@ module _ (P : Plan → Type 0) (start len passes room : ℕ) (samples : List ℕ
     readable_holds i (w ∷ ws) = picks (λ (a : Answer). P (unless_read a rest)) (in_range w) _ _ (readable_holds (i + 1) ws) (read i)
 
     either_holds : (a b : Answer) → P (unless_read a rest) → P (unless_read b rest) → P (unless_read (or_else a b) rest)
-    either_holds (Done m) b first second = second
-    either_holds (Refused why) b first second = first
+    either_holds (Ok m) b first second = second
+    either_holds (Err why) b first second = first
 
     known_holds : P (unless_read (all_readable samples start len) rest)
     unfolding all_readable

@@ -8,8 +8,8 @@ use Rattle.recording.specs.Recording.{refused}
 use Rattle.recording.specs.Marks.{gap_by_model, gap_by_line}
 use Rattle.recording.specs.History.{repair, did, run}
 use Rattle.recording.specs.declared.Reason.{Reason}
-use Rattle.recording.specs.declared.Answer.{Answer}
-use Rattle.recording.specs.declared.Answer.TheVariants.{Done, Refused}
+use Rattle.recording.specs.Answer.{Answer}
+use Rattle.std.specs.Prelude.{Ok, Err}
 use Rattle.recording.proofs.Put.{among_or_not}
 use Rattle.recording.proofs.Single.{refusal_changes_nothing, accepted_as_ruled}
 use Rattle.inpaint.specs.Gap.{gap_wrong, by_line, needed, all_readable, repaired, gap_plan, gap_repair}
@@ -35,8 +35,8 @@ module _ (start len passes : ℕ) (samples : List ℕ) where
   repaired_mark = picks_by (MarkSays len) (by_line len) _ _ (λ line. rw line refl) (λ model. rw model refl)
 
   unless_mark : (a : Answer) → MarkSays len (unless_read a (repaired passes samples start len))
-  unless_mark (Done m) = repaired_mark
-  unless_mark (Refused why) = tt
+  unless_mark (Ok m) = repaired_mark
+  unless_mark (Err why) = tt
 
   plan_mark : (room : ℕ) → MarkSays len (gap_plan start len passes room samples)
   unfolding gap_plan
@@ -53,18 +53,18 @@ by_model len mark e h =
     ]
 
 -- a call whose plan is a refusal is refused
-never_done : (s : State) (why : Reason) (m : ℕ) {A : Type 0} → (performed s (refuse why)).answer ≡ Done m → A
+never_done : (s : State) (why : Reason) (m : ℕ) {A : Type 0} → (performed s (refuse why)).answer ≡ Ok m → A
 unfolding performed carried
 never_done s why m {A} h = go (fitting s) h
   where
-    go : (a : Answer) → (unless_refused a s (refused s why)).answer ≡ Done m → A
-    go (Done k) both = let none : ◌≡◌ {A = ℕ} 0 1 = cc in absurd (omega arith)
-    go (Refused other) both = let none : ◌≡◌ {A = ℕ} 0 1 = cc in absurd (omega arith)
+    go : (a : Answer) → (unless_refused a s (refused s why)).answer ≡ Ok m → A
+    go (Ok k) both = let none : ◌≡◌ {A = ℕ} 0 1 = cc in absurd (omega arith)
+    go (Err other) both = let none : ◌≡◌ {A = ℕ} 0 1 = cc in absurd (omega arith)
 
 -- the mark at place j is as it was; or the gap was accepted and has place j, and where the mark is 1 then, it went by the model
 record Filled (start len j : ℕ) (e : Ended) : Type 0 where
   m : ℕ
-  accepted : e.answer ≡ Done m
+  accepted : e.answer ≡ Ok m
   from : start ≤ j
   to : j < start + len
   model : get_or e.after.marks j 0 ≡ gap_by_model → by_line len ≡ false
@@ -84,10 +84,10 @@ gap_marks start len passes room j s =
 
     go : (a : Answer) → (did (repair rule) s).answer ≡ a → (p : Plan) → rule s.samples ≡ p → NamesWithin start len j p → MarkSays len p
         → (get_or end.after.marks j 0 ≡ get_or s.marks j 0) ⊎ Filled start len j end
-    go (Refused why) e p plan there way =
+    go (Err why) e p plan there way =
         inl (ap (λ (t : State). get_or t.marks j 0) (refusal_changes_nothing (repair rule) s why e))
-    go (Done m) e (refuse why) plan there way = never_done s why m (sym (ap (λ (q : Plan). (performed s q).answer) plan) ∙ e)
-    go (Done m) e (change mark cs) plan there way =
+    go (Ok m) e (refuse why) plan there way = never_done s why m (sym (ap (λ (q : Plan). (performed s q).answer) plan) ∙ e)
+    go (Ok m) e (change mark cs) plan there way =
         let made = (accepted_as_ruled rule s mark cs m (gap_lawful start len passes room) plan e).0 in
         elim (among_or_not j (places cs)) [
           | inl among ↦
@@ -159,11 +159,11 @@ marked room (r ∷ rs) s j fresh h = go (ℕ_discrete (get_or next.marks j 0) ga
         made_later room r rs s j (later other (ap (λ (t : State). get_or t.marks j 0) (run_first source_passes room r rs s) ∙ h))
 
 -- the order of an accepted gap by the model is what stands there
-there : (room : ℕ) (r : Stretch) (s : State) (old m : ℕ) → (gap_repair r.start r.len source_passes room s).answer ≡ Done m
+there : (room : ℕ) (r : Stretch) (s : State) (old m : ℕ) → (gap_repair r.start r.len source_passes room s).answer ≡ Ok m
     → by_line r.len ≡ false → order_there room r s old ≡ gap_order r.start r.len source_passes room s
 there room r s old m accepted model =
     let order = gap_order r.start r.len source_passes room s in
-    let chosen : Answer → ℕ = λ (a : Answer). elim a [ Done k ↦ if by_line r.len then old else order | Refused why ↦ old ] in
+    let chosen : Answer → ℕ = λ (a : Answer). elim a [ Ok k ↦ if by_line r.len then old else order | Err why ↦ old ] in
     ap chosen accepted ∙ rw model refl
 
 pub marked_has_its_order : MarkedHasItsOrder

@@ -13,8 +13,8 @@ use Rattle.recording.specs.History.{run}
 use Rattle.recording.specs.Consequences.{Among}
 use Rattle.recording.specs.declared.Reason.{Reason}
 use Rattle.recording.specs.declared.Reason.TheVariants.{Gap}
-use Rattle.recording.specs.declared.Answer.{Answer}
-use Rattle.recording.specs.declared.Answer.TheVariants.{Done, Refused}
+use Rattle.recording.specs.Answer.{Answer}
+use Rattle.std.specs.Prelude.{Ok, Err}
 use Rattle.model.specs.Model.{order_for, pass}
 use Rattle.model.specs.Order.{passes_order}
 use Rattle.model.proofs.Orders.{order_at_most}
@@ -101,7 +101,7 @@ Outside j r = r.start ≤ j → j < r.start + r.len → ⊥
 -- there its order is not noted
 noted_elsewhere : (r : Stretch) (a : Answer) (order : ℕ) (orders : List ℕ) (j : ℕ) → Outside j r
     → get_or (noted r a order orders) j 0 ≡ get_or orders j 0
-noted_elsewhere r (Done m) order orders j out =
+noted_elsewhere r (Ok m) order orders j out =
     let count = length-replicate r.len order in
     let ws = replicate r.len order in
     picks (λ (l : List ℕ). get_or l j 0 ≡ get_or orders j 0) (by_line r.len) _ _ refl
@@ -116,13 +116,13 @@ noted_elsewhere r (Done m) order orders j out =
           | inl inside ↦ absurd (out from (ltb-true j (r.start + r.len) inside))
           | inr behind ↦ omega (arith, count, ltb-false j (r.start + r.len) behind)
         ]
-noted_elsewhere r (Refused why) order orders j out = refl
+noted_elsewhere r (Err why) order orders j out = refl
 
 -- at its places it is, where the list has them
 noted_there : (r : Stretch) (a : Answer) (order : ℕ) (orders : List ℕ) (j : ℕ) → r.start ≤ j → j < r.start + r.len → j < length orders
     → get_or (noted r a order orders) j 0
-    ≡ elim a [ Done m ↦ if by_line r.len then get_or orders j 0 else order | Refused why ↦ get_or orders j 0 ]
-noted_there r (Done m) order orders j low high short =
+    ≡ elim a [ Ok m ↦ if by_line r.len then get_or orders j 0 else order | Err why ↦ get_or orders j 0 ]
+noted_there r (Ok m) order orders j low high short =
     elim (truth (by_line r.len)) [
       | inl line ↦ rw line refl
       | inr model ↦ rw model stored
@@ -137,12 +137,12 @@ noted_there r (Done m) order orders j low high short =
         ∙ read_there orders (replicate r.len order) r.start (j - r.start) 0 (omega arith)
         (omega (arith, length-replicate r.len order))
         ∙ get_or-replicate r.len (j - r.start) order 0 (omega arith)
-noted_there r (Refused why) order orders j low high short = refl
+noted_there r (Err why) order orders j low high short = refl
 
 noted_length : (r : Stretch) (a : Answer) (order : ℕ) (orders : List ℕ) → length (noted r a order orders) ≡ length orders
-noted_length r (Done m) order orders =
+noted_length r (Ok m) order orders =
     picks (λ (l : List ℕ). length l ≡ length orders) (by_line r.len) _ _ refl (length-sets orders r.start (replicate r.len order))
-noted_length r (Refused why) order orders = refl
+noted_length r (Err why) order orders = refl
 
 module _ (room : ℕ) where
   over_length : (rs : List Stretch) (s : State) (orders : List ℕ) → length (orders_over room rs s orders) ≡ length orders
@@ -204,7 +204,7 @@ at_run room (b ∷ bs) later r i j s orders h low high short =
 -- ---- Of a scan
 
 -- one that is not turned away
-scanned : (rate : ℕ) (ms : Float) (held : ℕ) (work : List Float) (s : State) (orders : List ℕ) → scannable rate ms held s ≡ Done 0
+scanned : (rate : ℕ) (ms : Float) (held : ℕ) (work : List Float) (s : State) (orders : List ℕ) → scannable rate ms held s ≡ Ok 0
     → scan_orders rate ms held work s orders ≡ orders_over (length work) (runs_of s.samples (limit ms rate) held) s orders
 unfolding scan_orders
 scanned rate ms held work s orders h = rw (h, scan_orders) refl
@@ -214,10 +214,10 @@ unfolding scan_orders
 list_as_long rate ms held work s orders = go (scannable rate ms held s)
   where
     go : (a : Answer)
-        → length {A = ℕ} (elim a [ Done m ↦ orders_over (length work) (runs_of s.samples (limit ms rate) held) s orders | Refused why ↦ orders ])
+        → length {A = ℕ} (elim a [ Ok m ↦ orders_over (length work) (runs_of s.samples (limit ms rate) held) s orders | Err why ↦ orders ])
         ≡ length orders
-    go (Done m) = over_length (length work) (runs_of s.samples (limit ms rate) held) s orders
-    go (Refused why) = refl
+    go (Ok m) = over_length (length work) (runs_of s.samples (limit ms rate) held) s orders
+    go (Err why) = refl
 
 pub refused_scan_keeps_list : RefusedScanKeepsList
 unfolding scan_orders
@@ -239,14 +239,14 @@ orders_elsewhere rate ms held work s h orders j out =
 
 -- the code's list, from the rule's
 pub list_of_scan : (rate : ℕ) (ms : Float) (held : ℕ) (work : List Float) (s : State) (checked : Answer) (m most : ℕ) (orders left : List ℕ)
-    → checked ≡ scannable rate ms held s → checked ≡ Done m → most ≡ limit ms rate
+    → checked ≡ scannable rate ms held s → checked ≡ Ok m → most ≡ limit ms rate
     → left ≡ orders_over (length work) (runs_of s.samples most held) s orders → left ≡ scan_orders rate ms held work s orders
 unfolding scan_orders
 list_of_scan rate ms held work s checked m most orders left tested accepted e h =
     h ∙ rw (e, sym tested ∙ accepted, scan_orders) refl
 
 pub list_of_refused : (rate : ℕ) (ms : Float) (held : ℕ) (work : List Float) (s : State) (checked : Answer) (why : Reason) (orders : List ℕ)
-    → checked ≡ scannable rate ms held s → checked ≡ Refused why → orders ≡ scan_orders rate ms held work s orders
+    → checked ≡ scannable rate ms held s → checked ≡ Err why → orders ≡ scan_orders rate ms held work s orders
 list_of_refused rate ms held work s checked why orders tested refused =
     sym (refused_scan_keeps_list rate ms held work s orders why (sym tested ∙ refused))
 
@@ -261,9 +261,9 @@ fill_at_most (suc (suc n)) g len p seg = fill_at_most (suc n) g len p (pass g le
 
 beside_at_most : (start len passes : ℕ) (samples : List ℕ) (a : Answer) → order_beside start len passes samples a ≤ order_for len
 unfolding fill_order
-beside_at_most start len passes samples (Done m) =
+beside_at_most start len passes samples (Ok m) =
     picks (λ (k : ℕ). k ≤ order_for len) (by_line len) _ _ (omega arith) (fill_at_most passes _ len (order_for len) _)
-beside_at_most start len passes samples (Refused why) = omega arith
+beside_at_most start len passes samples (Err why) = omega arith
 
 pub gap_order_at_most : GapOrderAtMost
 unfolding gap_order
@@ -276,8 +276,8 @@ unfolding gap_order gap_repair called performed carried gap_plan
 wrong_order start len passes room s wrong = rw wrong (go (fitting s))
   where
     go : (a : Answer) → order_beside start len passes s.samples (unless_refused a s (refused s Gap)).answer ≡ 0
-    go (Done m) = refl
-    go (Refused why) = refl
+    go (Ok m) = refl
+    go (Err why) = refl
 
 pub order_of_every_count : OrderOfEveryCount
 order_of_every_count start len passes room s =
@@ -316,8 +316,8 @@ plan_answer start words s (change mark cs) = go (ranged cs)
         ]
 
     go : (a : Answer) → (unless_refused a t (entered t mark cs)).answer ≡ (unless_refused a s (entered s mark cs)).answer
-    go (Done m) = noted_down
-    go (Refused why) = refl
+    go (Ok m) = noted_down
+    go (Err why) = refl
 
 fitting_same : (start : ℕ) (words : List ℕ) (s : State) → fitting (with_words start words s) ≡ fitting s
 unfolding fitting alike
@@ -338,14 +338,14 @@ call_answer start len passes room s words count =
     t = with_words start words s
 
     go : (a : Answer) → (unless_refused a t (carried t p)).answer ≡ (unless_refused a s (carried s p)).answer
-    go (Done m) = plan_answer start words s p
-    go (Refused why) = refl
+    go (Ok m) = plan_answer start words s p
+    go (Err why) = refl
 
 beside_same : (start len passes : ℕ) (samples words : List ℕ) (a : Answer) → length words ≡ len → start + len ≤ length samples
     → order_beside start len passes (sets samples start words) a ≡ order_beside start len passes samples a
-beside_same start len passes samples words (Done m) count inside =
+beside_same start len passes samples words (Ok m) count inside =
     ap (λ (k : ℕ). if by_line len then 0 else k) (fill_order_same start len samples words count inside passes)
-beside_same start len passes samples words (Refused why) count inside = refl
+beside_same start len passes samples words (Err why) count inside = refl
 
 pub gap_has_no_say_in_order : GapHasNoSayInOrder
 gap_has_no_say_in_order start len passes room s words count =

@@ -15,7 +15,7 @@ use Rattle.inpaint.specs.Gap.{gap_wrong, context, from, to, window_size, window,
 use Rattle.recording.specs.Recording.{Plan, refuse, unless_read}
 use Rattle.std.specs.Prelude.{if◌then◌else◌}
 use Rattle.recording.specs.declared.Reason.TheVariants.{Gap, Workspace}
-use Rattle.recording.specs.declared.Answer.{Answer}
+use Rattle.recording.specs.Answer.{Answer}
 use Rattle.inpaint.specs.Gap.{known_before, known_behind, all_readable, left_of, right_of, line, model}
 use Rattle.inpaint.specs.Gap.{repaired, gap_plan}
 use Rattle.inpaint.specs.Order.{fill_order}

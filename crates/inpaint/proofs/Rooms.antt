@@ -10,8 +10,8 @@ use Rattle.recording.specs.Recording.{State, Ended, Placed, span, Plan, refuse, 
 use Rattle.recording.specs.Recording.{fitting, ranged, entered, committed, carried, performed, called}
 use Rattle.recording.specs.Recording.{unless_refused}
 use Rattle.recording.specs.Inner.{Fits}
-use Rattle.recording.specs.declared.Answer.{Answer}
-use Rattle.recording.specs.declared.Answer.TheVariants.{Done, Refused}
+use Rattle.recording.specs.Answer.{Answer}
+use Rattle.std.specs.Prelude.{Ok, Err}
 use Rattle.recording.proofs.commit.Laws.{length_span}
 use Rattle.recording.proofs.open.Laws.{fitting_by, fits_done, accepted_fits}
 use Rattle.recording.proofs.UndoCommit.{after_fits}
@@ -43,8 +43,8 @@ module _ (P : ℕ → Type 0) (s : State) (start len passes room : ℕ) (accepte
   Holds e = P (number e.answer)
 
   unless : (a : Answer) (e : Ended) → P (number a) → Holds e → Holds (unless_refused a s e)
-  unless (Done m) e p q = q
-  unless (Refused why) e p q = p
+  unless (Ok m) e p q = q
+  unless (Err why) e p q = p
 
   ranged_number : (cs : List Placed) → P (number (ranged cs))
   unfolding ranged
@@ -144,7 +144,7 @@ accepted_names_the_gap start len passes room m s h = go (ending s plan (gap_lawf
         let wrong = plan_gap s.samples start len passes room (rw (← none) refl) in
         absurd (omega (arith, ap changes (sym wrong ∙ p)))
     go (turned_away why e) =
-        let both : Refused why ≡ Done m = sym (ap (λ (end : Ended). end.answer) e) ∙ h in
+        let both : Err why ≡ Ok m = sym (ap (λ (end : Ended). end.answer) e) ∙ h in
         let none : ◌≡◌ {A = ℕ} 0 1 = cc in
         absurd (omega arith)
     go (enters mark cs p e) =
@@ -362,13 +362,13 @@ wide_suffices rate ms held work s wide = all_numbers P I (limit ms rate) held (l
     )
 
 -- a scan that is not turned away fits
-scannable_fits : (rate : ℕ) (ms : Float) (held : ℕ) (s : State) → scannable rate ms held s ≡ Done 0 → Fits s
+scannable_fits : (rate : ℕ) (ms : Float) (held : ℕ) (s : State) → scannable rate ms held s ≡ Ok 0 → Fits s
 scannable_fits rate ms held s h = go (fitting s) refl
   where
     go : (a : Answer) → a ≡ fitting s → Fits s
-    go (Done m) e = accepted_fits s m (sym e)
-    go (Refused why) e =
-        let both : Refused why ≡ Done 0 = scannable_unfit rate ms held s (Refused why) e why refl ∙ h in
+    go (Ok m) e = accepted_fits s m (sym e)
+    go (Err why) e =
+        let both : Err why ≡ Ok 0 = scannable_unfit rate ms held s (Err why) e why refl ∙ h in
         let none : ◌≡◌ {A = ℕ} 0 1 = cc in
         absurd (omega arith)
 
@@ -385,7 +385,7 @@ own_answers rate ms held work s h = all_numbers P I (limit ms rate) held (length
     refusal k a b = inr (a, b)
 
     two : 2 ≤ held
-    two = accepted_held rate ms held work s (Done 0) (sym h) 0 refl
+    two = accepted_held rate ms held work s (Ok 0) (sym h) 0 refl
 
     step : Step P I s.samples (limit ms rate) held (length work)
     step i start len t k f =

@@ -13,8 +13,8 @@ use Rattle.recording.specs.Recording.{entry_size, clears, work_after}
 use Rattle.recording.specs.History.{run, did}
 use Rattle.recording.specs.Consequences.{Among}
 use Rattle.recording.specs.declared.Reason.{Reason}
-use Rattle.recording.specs.declared.Answer.{Answer}
-use Rattle.recording.specs.declared.Answer.TheVariants.{Done, Refused}
+use Rattle.recording.specs.Answer.{Answer}
+use Rattle.std.specs.Prelude.{Ok, Err}
 use Rattle.leaves.proofs.Choice.{picks, truth, EitherWay}
 use Rattle.recording.proofs.Single.{above_zero}
 use Rattle.recording.proofs.Put.{length_put, put_elsewhere}
@@ -77,8 +77,8 @@ module _ (end : ℕ) (s : State) where
   Leaves e = Behind end s.samples e.after.samples
 
   unless : (a : Answer) (e : Ended) → Leaves e → Leaves (unless_refused a s e)
-  unless (Done m) e h = h
-  unless (Refused why) e h = unchanged end s.samples
+  unless (Ok m) e h = h
+  unless (Err why) e h = unchanged end s.samples
 
   carried_leaves : (p : Plan) → Before end s.samples p → Leaves (carried s p)
   unfolding carried entered committed
@@ -308,12 +308,12 @@ ends most held (suc k) i c h = go (next_run c.after.samples most held i) refl (e
         (later (start + len) (repair_at c start len) (omega (arith, left.count, f.on, (fits f).ends)))
 
 -- the scan of a whole call
-whole : (rate : ℕ) (ms : Float) (held : ℕ) (work : List Float) (s : State) → scannable rate ms held s ≡ Done 0
+whole : (rate : ℕ) (ms : Float) (held : ℕ) (work : List Float) (s : State) → scannable rate ms held s ≡ Ok 0
     → automatic rate ms held work s ≡ over (runs_of s.samples (limit ms rate) held) (scan 0 0 0 s work)
 whole rate ms held work s h =
     let most = limit ms rate in
     let c = scan 0 0 0 s work in
-    sym (automatic_scanned rate ms held work s (Done 0) (sym h) 0 refl most _ refl refl)
+    sym (automatic_scanned rate ms held work s (Ok 0) (sym h) 0 refl most _ refl refl)
     ∙ ends most held (length s.samples) 0 c (omega arith)
     ∙ ap (λ (n : ℕ). over (runs_among s.samples most held 0 0 n) c) (sub-zero (length s.samples))
 
@@ -325,12 +325,12 @@ numbered why = ne_eqb (reason_number why) 0 (λ (e : reason_number why ≡ 0). o
 
 -- so an answer is counted, and its number is the first, as the scan does it
 accepts : (a : Answer) (later : List Answer) → acceptances (a ∷ later) ≡ cond (eqb (number a) 0) 1 0 + acceptances later
-accepts (Done m) later = omega arith
-accepts (Refused why) later = rw (numbered why) (omega arith)
+accepts (Ok m) later = omega arith
+accepts (Err why) later = rw (numbered why) (omega arith)
 
 refuses : (a : Answer) (later : List Answer) → first_refusal (a ∷ later) ≡ cond (eqb (number a) 0) (first_refusal later) (number a)
-refuses (Done m) later = refl
-refuses (Refused why) later = rw (numbered why) refl
+refuses (Ok m) later = refl
+refuses (Err why) later = rw (numbered why) refl
 
 -- the first number that is not 0, with one number more before the others
 first_of : (k j later : ℕ)
@@ -411,7 +411,7 @@ scan_counts_its_runs rate ms held work s h =
 
 pub refused_scan : RefusedScan
 refused_scan rate ms held work s why h =
-    sym (ap (λ (c : Scan). c.after) (automatic_refused rate ms held work s (Refused why) (sym h) why _ refl refl))
+    sym (ap (λ (c : Scan). c.after) (automatic_refused rate ms held work s (Err why) (sym h) why _ refl refl))
 
 pub list_lawful : ListLawful
 list_lawful passes room [] = tt

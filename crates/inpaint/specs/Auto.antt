@@ -10,8 +10,8 @@ use Rattle.recording.specs.Recording.{State, fitting, or_else, work_after}
 use Rattle.std.specs.Prelude.{if◌then◌else◌}
 use Rattle.recording.specs.Runs.{run_length}
 use Rattle.recording.specs.declared.Reason.TheVariants.{Setting}
-use Rattle.recording.specs.declared.Answer.{Answer}
-use Rattle.recording.specs.declared.Answer.TheVariants.{Done, Refused}
+use Rattle.recording.specs.Answer.{Answer}
+use Rattle.std.specs.Prelude.{Ok, Err}
 use Rattle.inpaint.specs.Gap.{needed, gap_repair}
 use Rattle.inpaint.specs.declared.Run.{Run}
 use Rattle.inpaint.specs.declared.Run.TheVariants.{At, Nowhere}
@@ -155,13 +155,13 @@ scan_from most held i (suc n) c =
 -- refusals 1, 14 and 2 to 4, which "are tested once"; or else an acceptance
 unfoldable pub scannable : ℕ → Float → ℕ → State → Answer
 unfolding fitting
-scannable rate ms held s = or_else (fitting s) (if allowed rate ms && held_allowed held then Done 0 else Refused Setting)
+scannable rate ms held s = or_else (fitting s) (if allowed rate ms && held_allowed held then Ok 0 else Err Setting)
 
 -- the call: refusals 1, 14 and 2 to 4 end it with nothing counted, and else it scans from the first place on
 unfoldable pub automatic : ℕ → Float → ℕ → List Float → State → Scan
 unfolding scannable scan_from limit
 automatic rate ms held w s =
     elim (scannable rate ms held s) [
-      | Done m ↦ scan_from (limit ms rate) held 0 (length s.samples) (scan 0 0 0 s w)
-      | Refused why ↦ scan 0 0 (reason_number why) s w
+      | Ok m ↦ scan_from (limit ms rate) held 0 (length s.samples) (scan 0 0 0 s w)
+      | Err why ↦ scan 0 0 (reason_number why) s w
     ]

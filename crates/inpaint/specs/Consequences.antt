@@ -10,8 +10,8 @@ use Rattle.recording.specs.History.{LawfulRepair, Lawful, run}
 use Rattle.recording.specs.Marks.{gap_by_model}
 use Rattle.recording.specs.Consequences.{Among}
 use Rattle.recording.specs.declared.Reason.{Reason}
-use Rattle.recording.specs.declared.Answer.{Answer}
-use Rattle.recording.specs.declared.Answer.TheVariants.{Done, Refused}
+use Rattle.recording.specs.Answer.{Answer}
+use Rattle.std.specs.Prelude.{Ok, Err}
 use Rattle.model.specs.Model.{order_for}
 use Rattle.inpaint.specs.Gap.{by_line, needed, gap_plan, gap_repair}
 use Rattle.inpaint.specs.Auto.{limit, source_passes, scannable, automatic}
@@ -37,7 +37,7 @@ NeededAtMost = (n start len : ℕ) → by_line len ≡ false → needed n start 
 -- an accepted repair names all samples of its gap, and there is one at least
 abbrev pub AcceptedNamesTheGap : Type 0
 AcceptedNamesTheGap =
-    (start len passes room m : ℕ) (s : State) → (gap_repair start len passes room s).answer ≡ Done m → (m ≡ len) × (1 ≤ len)
+    (start len passes room m : ℕ) (s : State) → (gap_repair start len passes room s).answer ≡ Ok m → (m ≡ len) × (1 ≤ len)
 
 -- demand 3 covers the repair of a gap
 abbrev pub GapLawful : Type 0
@@ -56,7 +56,7 @@ ScanLawful = (room : ℕ) (runs : List Stretch) → Lawful (gap_calls room runs)
 -- a scan that refusals 1, 14 and 2 to 4 turn away changes nothing
 abbrev pub RefusedScan : Type 0
 RefusedScan =
-    (rate : ℕ) (ms : Float) (held : ℕ) (work : List Float) (s : State) (why : Reason) → scannable rate ms held s ≡ Refused why
+    (rate : ℕ) (ms : Float) (held : ℕ) (work : List Float) (s : State) (why : Reason) → scannable rate ms held s ≡ Err why
     → (automatic rate ms held work s).after ≡ s
 
 -- something holds of the number of each of these answers, which for an acceptance is 0
@@ -125,14 +125,14 @@ ListAsLong =
 abbrev pub RefusedScanKeepsList : Type 0
 RefusedScanKeepsList =
     (rate : ℕ) (ms : Float) (held : ℕ) (work : List Float) (s : State) (orders : List ℕ) (why : Reason)
-    → scannable rate ms held s ≡ Refused why → scan_orders rate ms held work s orders ≡ orders
+    → scannable rate ms held s ≡ Err why → scan_orders rate ms held work s orders ≡ orders
 
 -- what stands at a place of a run's gap, where `old` stood before: the order of the model that repaired it, or else `old`
 abbrev pub order_there : ℕ → Stretch → State → ℕ → ℕ
 order_there room r s old =
     elim (gap_repair r.start r.len source_passes room s).answer [
-      | Done m ↦ if by_line r.len then old else gap_order r.start r.len source_passes room s
-      | Refused why ↦ old
+      | Ok m ↦ if by_line r.len then old else gap_order r.start r.len source_passes room s
+      | Err why ↦ old
     ]
 
 -- so it is at each place of the gap of each run, which is repaired on what the runs before it left
@@ -155,7 +155,7 @@ pub record MadeByModel (room : ℕ) (s : State) (runs : List Stretch) (j : ℕ) 
   pub to : j < stretch.start + stretch.len
   pub model : by_line stretch.len ≡ false
   pub m : ℕ
-  pub accepted : (gap_repair stretch.start stretch.len source_passes room (run (gap_calls room before) s)).answer ≡ Done m
+  pub accepted : (gap_repair stretch.start stretch.len source_passes room (run (gap_calls room before) s)).answer ≡ Ok m
 
 -- So where the scan set mark 1, as far as the list goes, the order of the model stands that made the sample: of a freshly opened recording,
 -- whose marks are 0 or 6, that is every sample with mark 1.

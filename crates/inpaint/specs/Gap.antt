@@ -10,7 +10,7 @@ use Rattle.recording.specs.Marks.{gap_by_model, gap_by_line}
 use Rattle.std.specs.Prelude.{if◌then◌else◌}
 use Rattle.recording.specs.Recording.{or_else, readable, unless_read}
 use Rattle.recording.specs.declared.Reason.TheVariants.{Gap, Workspace}
-use Rattle.recording.specs.declared.Answer.{Answer}
+use Rattle.recording.specs.Answer.{Answer}
 use Rattle.model.specs.Model.{order_for, doubles_for, filled}
 
 -- 5: "gap length 0, start at or past the end, or gap past the end"

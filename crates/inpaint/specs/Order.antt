@@ -6,8 +6,8 @@ use Rattle.std.proofs.lemmas.List.Edits.{sets}
 use Rattle.leaves.specs.Arithmetic.{float}
 use Rattle.std.specs.Prelude.{if◌then◌else◌}
 use Rattle.recording.specs.Recording.{State}
-use Rattle.recording.specs.declared.Answer.{Answer}
-use Rattle.recording.specs.declared.Answer.TheVariants.{Done, Refused}
+use Rattle.recording.specs.Answer.{Answer}
+use Rattle.std.specs.Prelude.{Ok, Err}
 use Rattle.model.specs.Model.{order_for}
 use Rattle.model.specs.Order.{passes_order}
 use Rattle.inpaint.specs.Gap.{by_line, from, window, gap_repair}
@@ -24,8 +24,8 @@ fill_order passes samples start len =
 
 -- "A gap repair returns it beside m": "Straight-line fills return 0", and so does every refusal
 abbrev pub order_beside : ℕ → ℕ → ℕ → List ℕ → Answer → ℕ
-order_beside start len passes samples (Done m) = if by_line len then 0 else fill_order passes samples start len
-order_beside start len passes samples (Refused why) = 0
+order_beside start len passes samples (Ok m) = if by_line len then 0 else fill_order passes samples start len
+order_beside start len passes samples (Err why) = 0
 
 -- of the call
 unfoldable pub gap_order : ℕ → ℕ → ℕ → ℕ → State → ℕ
@@ -38,8 +38,8 @@ gap_order start len passes room s = order_beside start len passes s.samples (gap
 -- stays: .. of a run that was refused or became a straight line". This is the list after a run that ended so. "a shorter list is written as
 -- far as it goes": nothing is stored behind its end.
 abbrev pub noted : Stretch → Answer → ℕ → List ℕ → List ℕ
-noted r (Done m) order orders = if by_line r.len then orders else sets orders r.start (replicate r.len order)
-noted r (Refused why) order orders = orders
+noted r (Ok m) order orders = if by_line r.len then orders else sets orders r.start (replicate r.len order)
+noted r (Err why) order orders = orders
 
 -- run after run, each on what the ones before it left, with so many doubles of workspace
 unfoldable pub orders_over : ℕ → List Stretch → State → List ℕ → List ℕ
@@ -54,6 +54,6 @@ unfoldable pub scan_orders : ℕ → Float → ℕ → List Float → State → 
 unfolding scannable limit runs_among orders_over
 scan_orders rate ms held work s orders =
     elim (scannable rate ms held s) [
-      | Done m ↦ orders_over (length work) (runs_of s.samples (limit ms rate) held) s orders
-      | Refused why ↦ orders
+      | Ok m ↦ orders_over (length work) (runs_of s.samples (limit ms rate) held) s orders
+      | Err why ↦ orders
     ]

@@ -8,8 +8,8 @@ use Rattle.std.specs.Prelude.{if◌then◌else◌}
 use Rattle.recording.specs.Runs.{run_length}
 use Rattle.recording.specs.Answers.{reason_number}
 use Rattle.recording.specs.History.{Call, repair, did, run}
-use Rattle.recording.specs.declared.Answer.{Answer}
-use Rattle.recording.specs.declared.Answer.TheVariants.{Done, Refused}
+use Rattle.recording.specs.Answer.{Answer}
+use Rattle.std.specs.Prelude.{Ok, Err}
 use Rattle.inpaint.specs.Gap.{gap_plan}
 use Rattle.inpaint.specs.Auto.{limit, continues, kept, qualifies, gap_at, gap_length, starts, source_passes, scannable, automatic}
 
@@ -58,19 +58,19 @@ run_answers rate ms held work s = answers (scan_calls rate ms held work s) s
 -- how many of these answers are acceptances
 abbrev pub acceptances : List Answer → ℕ
 acceptances [] = 0
-acceptances (Done m ∷ later) = 1 + acceptances later
-acceptances (Refused why ∷ later) = acceptances later
+acceptances (Ok m ∷ later) = 1 + acceptances later
+acceptances (Err why ∷ later) = acceptances later
 
 -- "number of the first refusal or 0"
 abbrev pub first_refusal : List Answer → ℕ
 first_refusal [] = 0
-first_refusal (Done m ∷ later) = first_refusal later
-first_refusal (Refused why ∷ later) = reason_number why
+first_refusal (Ok m ∷ later) = first_refusal later
+first_refusal (Err why ∷ later) = reason_number why
 
 -- something holds of every scan that refusals 1, 14 and 2 to 4 do not turn away
 abbrev pub OfEveryScan : (ℕ → Float → ℕ → List Float → State → Type 0) → Type 0
 OfEveryScan P =
-    (rate : ℕ) (ms : Float) (held : ℕ) (work : List Float) (s : State) → scannable rate ms held s ≡ Done 0 → P rate ms held work s
+    (rate : ℕ) (ms : Float) (held : ℕ) (work : List Float) (s : State) → scannable rate ms held s ≡ Ok 0 → P rate ms held work s
 
 -- the recording after the scan is the recording after these calls
 abbrev pub ScanIsItsRuns : Type 0

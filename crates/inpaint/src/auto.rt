@@ -235,14 +235,11 @@ fn check_scan(
 ) -> Answer
     ensures { result ≡ scannable rate millis held (seen samples marks counts journal used) }
 {
-    let sized = check_sizes(samples, marks, counts, journal, used);
-    let Answer::Done(_) = sized else {
-        return sized;
-    };
+    check_sizes(samples, marks, counts, journal, used)?;
     if scan_allowed(rate, millis, held) {
-        Answer::Done(0)
+        Ok(0)
     } else {
-        Answer::Refused(Reason::Setting)
+        Err(Reason::Setting)
     }
 }
 
@@ -282,7 +279,7 @@ fn note_order(orders: &mut [u32], start: usize, len: usize, filled: GapAnswer)
     ensures { orders.new ≡ noted (stretch start len) filled.answer filled.order orders.old }
 {
     let answer = filled.answer;
-    let Answer::Done(_) = answer else {
+    let Ok(_) = answer else {
         return;
     };
     if len <= MAX_SOLVE {
@@ -356,7 +353,7 @@ pub fn inpaint_auto(
         × (orders.new ≡ scan_orders rate millis held work.old (lent samples marks counts journal used) orders.old) }
 {
     let checked = check_scan(samples, marks, counts, journal, *used, rate, millis, held);
-    let Answer::Done(_) = checked else {
+    let Ok(_) = checked else {
         return Scanned {
             qualified: 0,
             repaired: 0,

@@ -47,11 +47,11 @@ fn check_results(results: &[f64], start: usize) -> Answer
     let mut i: usize = 0;
     while i < results.len() {
         if !in_range(word_of_double(results[i])) {
-            return Answer::Refused(Reason::Result(start + i));
+            return Err(Reason::Result(start + i));
         }
         i += 1;
     }
-    Answer::Done(0)
+    Ok(0)
 }
 
 // Writes the words of the model's doubles into the gap.
@@ -101,7 +101,7 @@ pub fn repair_by_model(
     let order = fill_by_model(work, size, start - window_from(start, len), len, p) as u32;
     let at = results_at(size, len, p);
     let checked = check_results(&work[at..at + len], start);
-    let Answer::Done(_) = checked else {
+    let Ok(_) = checked else {
         return without_model(checked);
     };
     let entered = enter_span(
@@ -114,7 +114,7 @@ pub fn repair_by_model(
         len,
         GAP_BY_MODEL,
     );
-    let Answer::Done(_) = entered else {
+    let Ok(_) = entered else {
         return without_model(entered);
     };
     model_fill(&mut samples[start..start + len], &work[at..at + len]);

@@ -34,18 +34,18 @@ pub fn inpaint_gap(
         × (result.order ≡ gap_order start len passes (length work.old) (lent samples marks counts journal used)) }
 {
     let sized = check_sizes(samples, marks, counts, journal, *used);
-    let Answer::Done(_) = sized else {
+    let Ok(_) = sized else {
         return without_model(sized);
     };
     if gap_wrong(samples.len(), start, len) {
-        return without_model(Answer::Refused(Reason::Gap));
+        return without_model(Err(Reason::Gap));
     }
     let needed = needed_for(samples.len(), start, len);
     if work.len() < needed {
-        return without_model(Answer::Refused(Reason::Workspace));
+        return without_model(Err(Reason::Workspace));
     }
     let read = check_known(samples, start, len);
-    let Answer::Done(_) = read else {
+    let Ok(_) = read else {
         return without_model(read);
     };
     if MAX_SOLVE < len {

@@ -53,11 +53,11 @@ fn check_line(left: f32, right: f32, len: usize, start: usize) -> Answer
     let mut i: usize = 0;
     while i < len {
         if !in_range(line_word(left, right, len, i)) {
-            return Answer::Refused(Reason::Result(start + i));
+            return Err(Reason::Result(start + i));
         }
         i += 1;
     }
-    Answer::Done(0)
+    Ok(0)
 }
 
 // Writes the line into the gap.
@@ -90,11 +90,8 @@ pub fn repair_by_line(
     let end = start + len;
     let left = left_of(samples, start);
     let right = right_of(samples, end);
-    let checked = check_line(left, right, len, start);
-    let Answer::Done(_) = checked else {
-        return checked;
-    };
-    let entered = enter_span(
+    check_line(left, right, len, start)?;
+    enter_span(
         samples,
         marks,
         counts,
@@ -103,10 +100,7 @@ pub fn repair_by_line(
         start,
         len,
         GAP_BY_LINE,
-    );
-    let Answer::Done(_) = entered else {
-        return entered;
-    };
+    )?;
     line_fill(&mut samples[start..end], left, right);
     entered
 }

@@ -21,8 +21,8 @@ use Rattle.recording.specs.Consequences.{Among, MadeOf}
 use Rattle.recording.proofs.Performing.{unless_kept}
 use Rattle.recording.proofs.Single.{accepted_as_ruled}
 use Rattle.recording.specs.declared.Reason.TheVariants.{Proposal}
-use Rattle.recording.specs.declared.Answer.{Answer}
-use Rattle.recording.specs.declared.Answer.TheVariants.{Done, Refused}
+use Rattle.recording.specs.Answer.{Answer}
+use Rattle.std.specs.Prelude.{Ok, Err}
 use Rattle.redraw.proofs.Ending.{done_not_refused}
 use Rattle.declip.specs.Declip.{allowed, clipped}
 use Rattle.proposed.specs.Proposed.{answers, answered, taken, named, proposed_plan, proposed_repair}
@@ -35,9 +35,9 @@ use Rattle.proposed.proofs.Laws.{taken_length, taken_zero, taken_ranged, accepts
 -- ---- Demand 3
 
 -- a refusal decides between plans that keep to the law, where the one that is accepted does
-accepted_kept : (n : ℕ) (a : Answer) (p : Plan) → ((m : ℕ) → a ≡ Done m → Keeps n p) → Keeps n (unless_read a p)
-accepted_kept n (Done m) p kept = kept m refl
-accepted_kept n (Refused why) p kept = tt
+accepted_kept : (n : ℕ) (a : Answer) (p : Plan) → ((m : ℕ) → a ≡ Ok m → Keeps n p) → Keeps n (unless_read a p)
+accepted_kept n (Ok m) p kept = kept m refl
+accepted_kept n (Err why) p kept = tt
 
 pub proposed_is_lawful : ProposedIsLawful
 unfolding proposed_plan
@@ -53,7 +53,7 @@ proposed_is_lawful threshold proposal samples =
 -- ---- "accepted exactly when"
 
 -- every sample is answered where the test of all of them accepts, and the other way round
-each_answered : (threshold : Float) (j : ℕ) (ws ps : List ℕ) → length ps ≡ length ws → answered threshold j ws ps ≡ Done 0
+each_answered : (threshold : Float) (j : ℕ) (ws ps : List ℕ) → length ps ≡ length ws → answered threshold j ws ps ≡ Ok 0
     → (i : ℕ) → i < length ws → answers threshold (get_or ws i 0) (get_or ps i 0) ≡ true
 unfolding answered
 each_answered threshold j [] ps same h i k = absurd (omega arith)
@@ -71,7 +71,7 @@ each_answered threshold j (w ∷ ws) (p ∷ ps) same h i k =
 
 all_answered : (threshold : Float) (j : ℕ) (ws ps : List ℕ) → length ps ≡ length ws
     → ((i : ℕ) → i < length ws → answers threshold (get_or ws i 0) (get_or ps i 0) ≡ true)
-    → answered threshold j ws ps ≡ Done 0
+    → answered threshold j ws ps ≡ Ok 0
 unfolding answered
 all_answered threshold j [] ps same each = refl
 all_answered threshold j (w ∷ ws) [] same each = refl
@@ -83,12 +83,12 @@ pub taken_exactly_when : TakenExactlyWhen
 unfolding taken
 taken_exactly_when threshold samples proposal = (forth, back)
   where
-    forth : taken threshold samples proposal ≡ Done 0 → AnswersEach threshold samples proposal
+    forth : taken threshold samples proposal ≡ Ok 0 → AnswersEach threshold samples proposal
     forth h =
         let same = taken_length threshold samples proposal 0 h in
         (same, each_answered threshold 0 samples proposal same (taken_zero threshold samples proposal 0 h))
 
-    back : AnswersEach threshold samples proposal → taken threshold samples proposal ≡ Done 0
+    back : AnswersEach threshold samples proposal → taken threshold samples proposal ≡ Ok 0
     back h = rw (eq-eqb _ _ h.0) (all_answered threshold 0 samples proposal h.0 h.1)
 
 pub results_are_in_range : ResultsAreInRange
@@ -97,7 +97,7 @@ results_are_in_range threshold samples proposal h = taken_ranged threshold sampl
 -- ---- After an accepted proposal
 
 -- with the words before place i passed, the named words make of the others the proposal
-put_from : (threshold : Float) (i : ℕ) (front ws ps : List ℕ) → length front ≡ i → length ps ≡ length ws → answered threshold i ws ps ≡ Done 0
+put_from : (threshold : Float) (i : ℕ) (front ws ps : List ℕ) → length front ≡ i → length ps ≡ length ws → answered threshold i ws ps ≡ Ok 0
     → put (picked i (map (clipped threshold) ws) ps) (front ++ ws) ≡ front ++ ps
 unfolding answered picked put
 put_from threshold i front [] [] count same h = refl
@@ -125,19 +125,19 @@ put_from threshold i front (w ∷ ws) (p ∷ ps) count same h =
 
 -- what an acceptance tells: the proposal is taken, and this is the plan
 record Taken (threshold : Float) (proposal samples : List ℕ) : Type 0 where
-  is_taken : answered threshold 0 samples proposal ≡ Done 0
+  is_taken : answered threshold 0 samples proposal ≡ Ok 0
   as_long : length proposal ≡ length samples
   plan : proposed_plan threshold proposal samples ≡ change declip_proposed (named threshold samples proposal)
 
-accepted_taken : (threshold : Float) (proposal : List ℕ) (s : State) (m : ℕ) → (proposed_repair threshold proposal s).answer ≡ Done m
+accepted_taken : (threshold : Float) (proposal : List ℕ) (s : State) (m : ℕ) → (proposed_repair threshold proposal s).answer ≡ Ok m
     → Taken threshold proposal s.samples
 accepted_taken threshold proposal s m h = go (checked threshold proposal s) refl
   where
     go : (a : Answer) → checked threshold proposal s ≡ a → Taken threshold proposal s.samples
-    go (Refused why) e =
-        let end = ends_refused threshold proposal s (Refused why) why (sym e) refl in
+    go (Err why) e =
+        let end = ends_refused threshold proposal s (Err why) why (sym e) refl in
         absurd (done_not_refused m why (sym h ∙ sym (ap (λ (x : Ended). x.answer) end)))
-    go (Done k) e =
+    go (Ok k) e =
         let all = accepts threshold proposal s k e in
         let done = all.takes.1 in
         record {
@@ -147,7 +147,7 @@ accepted_taken threshold proposal s m h = go (checked threshold proposal s) refl
         }
 
 -- so the words and marks are as the plan makes them
-accepted_made : (threshold : Float) (proposal : List ℕ) (s : State) (m : ℕ) → (proposed_repair threshold proposal s).answer ≡ Done m
+accepted_made : (threshold : Float) (proposal : List ℕ) (s : State) (m : ℕ) → (proposed_repair threshold proposal s).answer ≡ Ok m
     → MadeOf declip_proposed (named threshold s.samples proposal) s (proposed_repair threshold proposal s).after
 unfolding proposed_repair did
 accepted_made threshold proposal s m h =

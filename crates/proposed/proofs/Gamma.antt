@@ -24,7 +24,7 @@ use Rattle.leaves.proofs.Comparing.{above_beyond, below_beyond, above_not_below}
 use Rattle.recording.specs.Recording.{State, Placed, change, readable, ranged, fitting, entered, carried, performed, entry_size}
 use Rattle.recording.specs.Marks.{declip_proposed}
 use Rattle.recording.specs.declared.Reason.TheVariants.{Proposal}
-use Rattle.recording.specs.declared.Answer.TheVariants.{Done, Refused}
+use Rattle.std.specs.Prelude.{Ok, Err}
 use Rattle.declip.specs.Declip.{allowed, clipped}
 use Rattle.proposed.specs.Proposed.{keeps_bits, answered_above, answered_below, answers, answered, taken, named, proposed_plan, proposed_repair}
 use Rattle.proposed.specs.Gamma.{project_gamma, projected_word, projected, in_range_or_nan, Candidates, InRange}
@@ -167,7 +167,7 @@ gamma_is t x y = refl
 
 -- the first sample is answered, or the call is refused with its place
 answered_cons : (t : Float) (i w p : ℕ) (ws ps : List ℕ)
-    → answered t i (w ∷ ws) (p ∷ ps) ≡ (if answers t w p then answered t (i + 1) ws ps else Refused (Proposal i))
+    → answered t i (w ∷ ws) (p ∷ ps) ≡ (if answers t w p then answered t (i + 1) ws ps else Err (Proposal i))
 unfolding answered
 answered_cons t i w p ws ps = refl
 
@@ -239,7 +239,7 @@ module _ (t : Float) (f : fits binary32 t ≡ true) (ok : allowed t ≡ true) wh
   -- ---- All samples
 
   -- none of them is refused, at whatever place they begin
-  gamma_answered : (i : ℕ) (cs ws : List ℕ) → Candidates cs → InRange ws → answered t i ws (projected t cs ws) ≡ Done 0
+  gamma_answered : (i : ℕ) (cs ws : List ℕ) → Candidates cs → InRange ws → answered t i ws (projected t cs ws) ≡ Ok 0
   gamma_answered i [] [] h r = unfold answered in refl
   gamma_answered i [] (w ∷ ws) h r = unfold answered projected in refl
   gamma_answered i (c ∷ cs) [] h r = unfold answered in refl
@@ -255,12 +255,12 @@ module _ (t : Float) (f : fits binary32 t ≡ true) (ok : allowed t ≡ true) wh
   gamma_length (c ∷ cs) (w ∷ ws) e = ap suc (gamma_length cs ws (omega arith))
 
   -- so refusal 15 is not given
-  gamma_taken : (cs ws : List ℕ) → Candidates cs → InRange ws → length cs ≡ length ws → taken t ws (projected t cs ws) ≡ Done 0
+  gamma_taken : (cs ws : List ℕ) → Candidates cs → InRange ws → length cs ≡ length ws → taken t ws (projected t cs ws) ≡ Ok 0
   unfolding taken
   gamma_taken cs ws h r e = rw (eq-eqb _ _ (gamma_length cs ws e), gamma_answered 0 cs ws h r)
 
 -- every sample of a recording in range is readable
-all_readable : (i : ℕ) (ws : List ℕ) → InRange ws → readable i ws ≡ Done 0
+all_readable : (i : ℕ) (ws : List ℕ) → InRange ws → readable i ws ≡ Ok 0
 unfolding readable
 all_readable i [] r = refl
 all_readable i (w ∷ ws) r = rw r.0 (all_readable (i + 1) ws r.2)
@@ -273,8 +273,8 @@ projected_is_taken t cs ws f ok r h e = rw (ok, all_readable 0 ws r, gamma_taken
 -- ---- The call
 
 -- a repair ends with so many samples, where the recording fits, every result is in range, and the journal has room for what is named
-accepted : (s : State) (mark : ℕ) (cs : List Placed) → fitting s ≡ Done 0 → ranged cs ≡ Done 0
-    → (1 ≤ length cs → entry_size (length cs) ≤ length s.journal - s.used) → (performed s (change mark cs)).answer ≡ Done (length cs)
+accepted : (s : State) (mark : ℕ) (cs : List Placed) → fitting s ≡ Ok 0 → ranged cs ≡ Ok 0
+    → (1 ≤ length cs → entry_size (length cs) ≤ length s.journal - s.used) → (performed s (change mark cs)).answer ≡ Ok (length cs)
 unfolding performed carried entered
 accepted s mark cs f r room = elim (truth (eqb (length cs) 0)) [
   | inl z ↦ rw (f, r, z, eqb-true (length cs) 0 z)

@@ -23,8 +23,8 @@ use Rattle.recording.specs.History.{Ascending}
 use Rattle.recording.specs.Inner.{Fits, Recountable}
 use Rattle.recording.specs.declared.Reason.{Reason}
 use Rattle.recording.specs.declared.Reason.TheVariants.{Setting, Proposal}
-use Rattle.recording.specs.declared.Answer.{Answer}
-use Rattle.recording.specs.declared.Answer.TheVariants.{Done, Refused}
+use Rattle.recording.specs.Answer.{Answer}
+use Rattle.std.specs.Prelude.{Ok, Err}
 use Rattle.recording.proofs.Put.{length_places}
 use Rattle.recording.proofs.open.Laws.{accepted_fits}
 use Rattle.recording.proofs.Performing.{picked_ascends}
@@ -116,7 +116,7 @@ module _ (threshold : Float) (samples proposal : List ℕ) where
   abbrev pub rest_answered : ℕ → Answer
   rest_answered i = answered threshold i (drop i samples) (drop i proposal)
 
-  pub taken_short : (length proposal ≡ length samples → ⊥) → Refused (Proposal 0) ≡ taken threshold samples proposal
+  pub taken_short : (length proposal ≡ length samples → ⊥) → Err (Proposal 0) ≡ taken threshold samples proposal
   unfolding taken
   taken_short h = rw (ne_eqb _ _ h) refl
 
@@ -133,13 +133,13 @@ module _ (threshold : Float) (samples proposal : List ℕ) where
           let there : i < length proposal = omega arith in
           rw (drop-cons samples i 0, drop-cons proposal i 0, e, add-one i) refl
 
-      pub answered_out : answers threshold (get_or samples i 0) (get_or proposal i 0) ≡ false → rest_answered i ≡ Refused (Proposal i)
+      pub answered_out : answers threshold (get_or samples i 0) (get_or proposal i 0) ≡ false → rest_answered i ≡ Err (Proposal i)
       unfolding answered
       answered_out e =
           let there : i < length proposal = omega arith in
           rw (drop-cons samples i 0, drop-cons proposal i 0, e) refl
 
-    pub answered_done : (i : ℕ) → length samples ≤ i → rest_answered i ≡ Done 0
+    pub answered_done : (i : ℕ) → length samples ≤ i → rest_answered i ≡ Ok 0
     unfolding answered
     answered_done i h = rw (drop_of_length-le samples h) refl
 
@@ -276,21 +276,21 @@ module _ (threshold : Float) (samples proposal : List ℕ) (same : length propos
 -- ---- Refusals 1, 14, 2, 3, 4, 7 and 15
 
 module _ (threshold : Float) (proposal : List ℕ) (s : State) (a : Answer) (sized : a ≡ fitting s) where
-  pub checked_unfit : (why : Reason) → a ≡ Refused why → a ≡ checked threshold proposal s
+  pub checked_unfit : (why : Reason) → a ≡ Err why → a ≡ checked threshold proposal s
   unfolding checked
   checked_unfit why e = rw (sym sized ∙ e, e) refl
 
-  module _ (m : ℕ) (fits : a ≡ Done m) where
-    pub checked_setting : allowed threshold ≡ false → Refused Setting ≡ checked threshold proposal s
+  module _ (m : ℕ) (fits : a ≡ Ok m) where
+    pub checked_setting : allowed threshold ≡ false → Err Setting ≡ checked threshold proposal s
     unfolding checked
     checked_setting h = rw (sym sized ∙ fits, h) refl
 
     module _ (right : allowed threshold ≡ true) (b : Answer) (read : b ≡ readable 0 s.samples) where
-      pub checked_read : (why : Reason) → b ≡ Refused why → b ≡ checked threshold proposal s
+      pub checked_read : (why : Reason) → b ≡ Err why → b ≡ checked threshold proposal s
       unfolding checked
       checked_read why e = rw (sym sized ∙ fits, right, sym read ∙ e, e) refl
 
-      pub checked_taken : (k : ℕ) (c : Answer) → b ≡ Done k → c ≡ taken threshold s.samples proposal → c ≡ checked threshold proposal s
+      pub checked_taken : (k : ℕ) (c : Answer) → b ≡ Ok k → c ≡ taken threshold s.samples proposal → c ≡ checked threshold proposal s
       unfolding checked
       checked_taken k c e t = rw (sym sized ∙ fits, right, sym read ∙ e) t
 
@@ -298,37 +298,37 @@ module _ (threshold : Float) (proposal : List ℕ) (s : State) (a : Answer) (siz
 
 -- their tests, with what they test under other names
 abbrev first : Answer → Bool → Answer → Answer → Answer
-first f b r k = or_else f (if b then Refused Setting else or_else r k)
+first f b r k = or_else f (if b then Err Setting else or_else r k)
 
 abbrev ruled : State → Answer → Bool → Answer → Answer → Plan → Ended
 ruled s f b r k p = unless_refused f s (carried s (if b then refuse Setting else unless_read r (unless_read k p)))
 
 -- a refusal of theirs is the call's
-first_refuses : (s : State) (f : Answer) (b : Bool) (r k : Answer) (p : Plan) (why : Reason) → first f b r k ≡ Refused why
+first_refuses : (s : State) (f : Answer) (b : Bool) (r k : Answer) (p : Plan) (why : Reason) → first f b r k ≡ Err why
     → ended (first f b r k) s ≡ ruled s f b r k p
 unfolding carried
-first_refuses s (Refused x) b r k p why e = refl
-first_refuses s (Done m) true r k p why e = refl
-first_refuses s (Done m) false (Refused x) k p why e = refl
-first_refuses s (Done m) false (Done n) (Refused x) p why e = refl
-first_refuses s (Done m) false (Done n) (Done l) p why e = absurd (done_not_refused l why e)
+first_refuses s (Err x) b r k p why e = refl
+first_refuses s (Ok m) true r k p why e = refl
+first_refuses s (Ok m) false (Err x) k p why e = refl
+first_refuses s (Ok m) false (Ok n) (Err x) p why e = refl
+first_refuses s (Ok m) false (Ok n) (Ok l) p why e = absurd (done_not_refused l why e)
 
 -- where they accept, each of them does, and the plan decides
 pub record Accepts (s : State) (f : Answer) (b : Bool) (r k : Answer) (p : Plan) : Type 0 where
-  pub fits : (m : ℕ) × (f ≡ Done m)
-  pub takes : (m : ℕ) × (k ≡ Done m)
+  pub fits : (m : ℕ) × (f ≡ Ok m)
+  pub takes : (m : ℕ) × (k ≡ Ok m)
   pub plans : (if b then refuse Setting else unless_read r (unless_read k p)) ≡ p
   pub on : carried s p ≡ ruled s f b r k p
 
-first_accepts : (s : State) (f : Answer) (b : Bool) (r k : Answer) (p : Plan) (m : ℕ) → first f b r k ≡ Done m → Accepts s f b r k p
-first_accepts s (Refused x) b r k p m e = absurd (done_not_refused m x (sym e))
-first_accepts s (Done n) true r k p m e = absurd (done_not_refused m Setting (sym e))
-first_accepts s (Done n) false (Refused x) k p m e = absurd (done_not_refused m x (sym e))
-first_accepts s (Done n) false (Done l) (Refused x) p m e = absurd (done_not_refused m x (sym e))
-first_accepts s (Done n) false (Done l) (Done j) p m e = record { fits = (n, refl); takes = (j, refl); plans = refl; on = refl }
+first_accepts : (s : State) (f : Answer) (b : Bool) (r k : Answer) (p : Plan) (m : ℕ) → first f b r k ≡ Ok m → Accepts s f b r k p
+first_accepts s (Err x) b r k p m e = absurd (done_not_refused m x (sym e))
+first_accepts s (Ok n) true r k p m e = absurd (done_not_refused m Setting (sym e))
+first_accepts s (Ok n) false (Err x) k p m e = absurd (done_not_refused m x (sym e))
+first_accepts s (Ok n) false (Ok l) (Err x) p m e = absurd (done_not_refused m x (sym e))
+first_accepts s (Ok n) false (Ok l) (Ok j) p m e = record { fits = (n, refl); takes = (j, refl); plans = refl; on = refl }
 
 -- a proposal that is taken is as long as the recording, and is answered with 0
-pub taken_length : (threshold : Float) (samples proposal : List ℕ) (m : ℕ) → taken threshold samples proposal ≡ Done m
+pub taken_length : (threshold : Float) (samples proposal : List ℕ) (m : ℕ) → taken threshold samples proposal ≡ Ok m
     → length proposal ≡ length samples
 unfolding taken
 taken_length threshold samples proposal m h =
@@ -337,7 +337,7 @@ taken_length threshold samples proposal m h =
       | inr other ↦ absurd (done_not_refused m (Proposal 0) (sym (rw other at h)))
     ]
 
-answered_zero : (threshold : Float) (i : ℕ) (ws ps : List ℕ) (m : ℕ) → answered threshold i ws ps ≡ Done m → answered threshold i ws ps ≡ Done 0
+answered_zero : (threshold : Float) (i : ℕ) (ws ps : List ℕ) (m : ℕ) → answered threshold i ws ps ≡ Ok m → answered threshold i ws ps ≡ Ok 0
 unfolding answered
 answered_zero threshold i [] ps m h = refl
 answered_zero threshold i (w ∷ ws) [] m h = refl
@@ -347,16 +347,16 @@ answered_zero threshold i (w ∷ ws) (p ∷ ps) m h =
       | inr wrong ↦ absurd (done_not_refused m (Proposal i) (sym (rw wrong at h)))
     ]
 
-pub taken_zero : (threshold : Float) (samples proposal : List ℕ) (m : ℕ) → taken threshold samples proposal ≡ Done m
-    → answered threshold 0 samples proposal ≡ Done 0
+pub taken_zero : (threshold : Float) (samples proposal : List ℕ) (m : ℕ) → taken threshold samples proposal ≡ Ok m
+    → answered threshold 0 samples proposal ≡ Ok 0
 unfolding taken
 taken_zero threshold samples proposal m h =
     let same : eqb (length proposal) (length samples) ≡ true = eq-eqb _ _ (taken_length threshold samples proposal m h) in
     answered_zero threshold 0 samples proposal m (rw same at h)
 
 -- its words for the named samples are in range
-answered_ranged : (threshold : Float) (i : ℕ) (ws ps : List ℕ) → answered threshold i ws ps ≡ Done 0
-    → ranged (picked i (map (clipped threshold) ws) ps) ≡ Done 0
+answered_ranged : (threshold : Float) (i : ℕ) (ws ps : List ℕ) → answered threshold i ws ps ≡ Ok 0
+    → ranged (picked i (map (clipped threshold) ws) ps) ≡ Ok 0
 unfolding answered picked ranged
 answered_ranged threshold i [] ps h = refl
 answered_ranged threshold i (w ∷ ws) [] h = refl
@@ -366,13 +366,13 @@ answered_ranged threshold i (w ∷ ws) (p ∷ ps) h =
       | inl right ↦ one right (answered_ranged threshold (i + 1) ws ps (rw right at h)) (truth (clipped threshold w))
     ]
   where
-    one : answers threshold w p ≡ true → ranged (picked (i + 1) (map (clipped threshold) ws) ps) ≡ Done 0 → EitherWay (clipped threshold w)
-        → ranged (picked i (map (clipped threshold) (w ∷ ws)) (p ∷ ps)) ≡ Done 0
+    one : answers threshold w p ≡ true → ranged (picked (i + 1) (map (clipped threshold) ws) ps) ≡ Ok 0 → EitherWay (clipped threshold w)
+        → ranged (picked i (map (clipped threshold) (w ∷ ws)) (p ∷ ps)) ≡ Ok 0
     one right later (inl beyond) = rw (beyond, clipped_answered threshold w p right beyond) later
     one right later (inr under) = rw under later
 
-pub taken_ranged : (threshold : Float) (samples proposal : List ℕ) (m : ℕ) → taken threshold samples proposal ≡ Done m
-    → ranged (named threshold samples proposal) ≡ Done 0
+pub taken_ranged : (threshold : Float) (samples proposal : List ℕ) (m : ℕ) → taken threshold samples proposal ≡ Ok m
+    → ranged (named threshold samples proposal) ≡ Ok 0
 unfolding named
 taken_ranged threshold samples proposal m h = answered_ranged threshold 0 samples proposal (taken_zero threshold samples proposal m h)
 
@@ -390,21 +390,21 @@ module _ (threshold : Float) (proposal : List ℕ) (s : State) where
   unfolding proposed_repair called performed proposed_plan
   repair_is = refl
 
-  pub accepts : (m : ℕ) → checked threshold proposal s ≡ Done m
+  pub accepts : (m : ℕ) → checked threshold proposal s ≡ Ok m
       → Accepts s (fitting s) (not (allowed threshold)) (readable 0 s.samples) (taken threshold s.samples proposal) planned
   accepts m e =
       first_accepts s (fitting s) (not (allowed threshold)) (readable 0 s.samples) (taken threshold s.samples proposal) planned m
       (checked_first ∙ e)
 
   -- a refusal of the tests ends it
-  pub ends_refused : (a : Answer) (why : Reason) → a ≡ checked threshold proposal s → a ≡ Refused why → ended a s ≡ proposed_repair threshold proposal s
+  pub ends_refused : (a : Answer) (why : Reason) → a ≡ checked threshold proposal s → a ≡ Err why → ended a s ≡ proposed_repair threshold proposal s
   ends_refused a why ea e =
       let tested = checked_first ∙ sym ea in
       sym (ap (λ (x : Answer). ended x s) tested)
       ∙ first_refuses s (fitting s) (not (allowed threshold)) (readable 0 s.samples) (taken threshold s.samples proposal) planned why (tested ∙ e)
       ∙ repair_is
 
-  module _ (a : Answer) (m : ℕ) (ea : a ≡ checked threshold proposal s) (e : a ≡ Done m) where
+  module _ (a : Answer) (m : ℕ) (ea : a ≡ checked threshold proposal s) (e : a ≡ Ok m) where
     -- what their acceptance tells
     pub accepted_fit : Fits s × (length proposal ≡ length s.samples)
     accepted_fit =
@@ -417,7 +417,7 @@ module _ (threshold : Float) (proposal : List ℕ) (s : State) where
     ends_committed end ee =
         let all = accepts m (sym ea ∙ e) in
         ee
-        ∙ carried_on s declip_proposed (named threshold s.samples proposal) (Done 0) 0
+        ∙ carried_on s declip_proposed (named threshold s.samples proposal) (Ok 0) 0
         (sym (taken_ranged threshold s.samples proposal all.takes.0 all.takes.1)) refl
         ∙ all.on
         ∙ repair_is

@@ -8,7 +8,7 @@ use Rattle.leaves.specs.Floats.{in_range}
 use Rattle.recording.specs.Recording.{State, change, fitting, ranged, entry_size}
 use Rattle.recording.specs.Marks.{declip_proposed}
 use Rattle.recording.specs.History.{LawfulRepair}
-use Rattle.recording.specs.declared.Answer.TheVariants.{Done}
+use Rattle.std.specs.Prelude.{Ok}
 use Rattle.declip.specs.Declip.{allowed, clipped}
 use Rattle.proposed.specs.Proposed.{answers, taken, named, proposed_plan, proposed_repair}
 use Rattle.proposed.specs.Gamma.{projected, Candidates, InRange}
@@ -29,20 +29,20 @@ AnswersEach threshold samples proposal =
 abbrev pub TakenExactlyWhen : Type 0
 TakenExactlyWhen =
     (threshold : Float) (samples proposal : List ℕ)
-    → (taken threshold samples proposal ≡ Done 0 → AnswersEach threshold samples proposal)
-    × (AnswersEach threshold samples proposal → taken threshold samples proposal ≡ Done 0)
+    → (taken threshold samples proposal ≡ Ok 0 → AnswersEach threshold samples proposal)
+    × (AnswersEach threshold samples proposal → taken threshold samples proposal ≡ Ok 0)
 
 -- "8 isn't given": where 15 is not, every named sample has a word in range
 abbrev pub ResultsAreInRange : Type 0
 ResultsAreInRange =
-    (threshold : Float) (samples proposal : List ℕ) → taken threshold samples proposal ≡ Done 0 → ranged (named threshold samples proposal) ≡ Done 0
+    (threshold : Float) (samples proposal : List ℕ) → taken threshold samples proposal ≡ Ok 0 → ranged (named threshold samples proposal) ≡ Ok 0
 
 -- ---- After an accepted proposal
 
 -- the recording's samples are the proposal, bit for bit
 abbrev pub SamplesAreTheProposal : Type 0
 SamplesAreTheProposal =
-    (threshold : Float) (proposal : List ℕ) (s : State) (m : ℕ) → (proposed_repair threshold proposal s).answer ≡ Done m
+    (threshold : Float) (proposal : List ℕ) (s : State) (m : ℕ) → (proposed_repair threshold proposal s).answer ≡ Ok m
     → (proposed_repair threshold proposal s).after.samples ≡ proposal
 
 -- both are at or above the threshold, or both at or below the negative threshold
@@ -63,7 +63,7 @@ pub record Stands (threshold : Float) (before after : State) (i : ℕ) : Type 0 
 -- so it is of every sample, whatever method made the proposal
 abbrev pub EachSampleStands : Type 0
 EachSampleStands =
-    (threshold : Float) (proposal : List ℕ) (s : State) (m : ℕ) → (proposed_repair threshold proposal s).answer ≡ Done m
+    (threshold : Float) (proposal : List ℕ) (s : State) (m : ℕ) → (proposed_repair threshold proposal s).answer ≡ Ok m
     → (i : ℕ) → i < length s.samples → Stands threshold s (proposed_repair threshold proposal s).after i
 
 -- ---- "Whatever `project_gamma` makes of in-range or NaN candidates from an in-range recording is accepted."
@@ -83,7 +83,7 @@ ProjectedIsAccepted =
     (threshold : Float) (candidates : List ℕ) (s : State) → fits binary32 threshold ≡ true → allowed threshold ≡ true → InRange s.samples
     → Candidates candidates
     → length candidates ≡ length s.samples
-    → fitting s ≡ Done 0
+    → fitting s ≡ Ok 0
     → let proposal = projected threshold candidates s.samples in
     let m = length (named threshold s.samples proposal) in
-    (1 ≤ m → entry_size m ≤ length s.journal - s.used) → (proposed_repair threshold proposal s).answer ≡ Done m
+    (1 ≤ m → entry_size m ≤ length s.journal - s.used) → (proposed_repair threshold proposal s).answer ≡ Ok m

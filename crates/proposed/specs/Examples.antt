@@ -7,7 +7,7 @@ use Rattle.recording.specs.Marks.{measured}
 use Rattle.recording.specs.Counts.{counted}
 use Rattle.recording.specs.History.{fresh}
 use Rattle.recording.specs.declared.Reason.TheVariants.{Room, Proposal}
-use Rattle.recording.specs.declared.Answer.TheVariants.{Done}
+use Rattle.std.specs.Prelude.{Ok}
 use Rattle.proposed.specs.Proposed.{proposed_repair}
 use Rattle.proposed.specs.Gamma.{projected}
 
@@ -22,7 +22,7 @@ proposing room proposal = proposed_repair one proposal (three room)
 
 -- 0.5, 1.5 and -2: accepted, and both samples at or beyond the threshold are named, the one that keeps its word too
 pub accepted : proposing 8 (0x3f000000 ∷ 0x3fc00000 ∷ 0xc0000000 ∷ [])
-    ≡ ended (Done 2)
+    ≡ ended (Ok 2)
     (state (0x3f000000 ∷ 0x3fc00000 ∷ 0xc0000000 ∷ []) (0 ∷ 8 ∷ 8 ∷ []) (2 ∷ []) (1 ∷ 0x3f800000 ∷ 0 ∷ 2 ∷ 0xc0000000 ∷ 0 ∷ 2 ∷ 8 ∷ []) 8)
 unfolding proposing counted
 accepted = refl

@@ -4,8 +4,8 @@ use Rattle.std.specs.Float.Ieee.{lt}
 use Rattle.std.specs.Prelude.{if◌then◌else◌}
 use Rattle.recording.specs.Recording.{State, fitting, or_else, readable}
 use Rattle.recording.specs.declared.Reason.TheVariants.{Setting}
-use Rattle.recording.specs.declared.Answer.{Answer}
-use Rattle.recording.specs.declared.Answer.TheVariants.{Refused}
+use Rattle.recording.specs.Answer.{Answer}
+use Rattle.std.specs.Prelude.{Err}
 use Rattle.declip.specs.Declip.{allowed, clipped}
 use Rattle.proposed.specs.Proposed.{taken}
 
@@ -14,7 +14,7 @@ unfoldable pub checked : Float → List ℕ → State → Answer
 unfolding fitting lt readable taken
 checked threshold proposal s =
     or_else (fitting s)
-    (if not (allowed threshold) then Refused Setting else
+    (if not (allowed threshold) then Err Setting else
     or_else (readable 0 s.samples) (taken threshold s.samples proposal))
 
 -- the places of the clipped samples, of samples that stand from place i on

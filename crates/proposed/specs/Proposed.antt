@@ -9,8 +9,8 @@ use Rattle.leaves.specs.Floats.{in_range}
 use Rattle.recording.specs.Recording.{State, Ended, Placed, Plan, refuse, change, picked, readable, unless_read, called}
 use Rattle.recording.specs.Marks.{declip_proposed}
 use Rattle.recording.specs.declared.Reason.TheVariants.{Setting, Proposal}
-use Rattle.recording.specs.declared.Answer.{Answer}
-use Rattle.recording.specs.declared.Answer.TheVariants.{Done, Refused}
+use Rattle.recording.specs.Answer.{Answer}
+use Rattle.std.specs.Prelude.{Ok, Err}
 use Rattle.declip.specs.Declip.{allowed, clipped}
 
 -- ---- "It is accepted exactly when": of one sample, whose word is w, and of the word p that the proposal has for it
@@ -37,17 +37,17 @@ answers threshold w p = keeps_bits threshold w p && answered_above threshold w p
 -- "breaking the rule, with the lowest place", of samples that stand from place i on and as many words; or else an acceptance
 unfoldable pub answered : Float → ℕ → List ℕ → List ℕ → Answer
 unfolding answers
-answered threshold i [] ps = Done 0
-answered threshold i (w ∷ ws) [] = Done 0
+answered threshold i [] ps = Ok 0
+answered threshold i (w ∷ ws) [] = Ok 0
 answered threshold i (w ∷ ws) (p ∷ ps) =
     let later = answered threshold (i + 1) ws ps in
-    if answers threshold w p then later else Refused (Proposal i)
+    if answers threshold w p then later else Err (Proposal i)
 
 -- "15, proposal of another length, with place 0, or breaking the rule"
 unfoldable pub taken : Float → List ℕ → List ℕ → Answer
 unfolding answered
 taken threshold samples proposal =
-    if not (eqb (length proposal) (length samples)) then Refused (Proposal 0) else
+    if not (eqb (length proposal) (length samples)) then Err (Proposal 0) else
     answered threshold 0 samples proposal
 
 -- ---- The repair

@@ -82,16 +82,16 @@ fn check_proposal(samples: &[u32], proposal: &[u32], threshold: f32) -> Answer
     ensures { result ≡ taken threshold samples.now proposal.now }
 {
     if proposal.len() != samples.len() {
-        return Answer::Refused(Reason::Proposal(0));
+        return Err(Reason::Proposal(0));
     }
     let mut i: usize = 0;
     while i < samples.len() {
         if !is_answered(threshold, samples[i], proposal[i]) {
-            return Answer::Refused(Reason::Proposal(i));
+            return Err(Reason::Proposal(i));
         }
         i += 1;
     }
-    Answer::Done(0)
+    Ok(0)
 }
 
 // Refusals 1, 14, 2, 3, 4, 7 and 15, in this order; accepted, with 0, where none of them applies.
@@ -106,17 +106,11 @@ fn check_call(
 ) -> Answer
     ensures { result ≡ checked threshold proposal.now (seen samples marks counts journal used) }
 {
-    let sized = check_sizes(samples, marks, counts, journal, used);
-    let Answer::Done(_) = sized else {
-        return sized;
-    };
+    check_sizes(samples, marks, counts, journal, used)?;
     if !threshold_allowed(threshold) {
-        return Answer::Refused(Reason::Setting);
+        return Err(Reason::Setting);
     }
-    let read = check_words(samples, 0);
-    let Answer::Done(_) = read else {
-        return read;
-    };
+    check_words(samples, 0)?;
     check_proposal(samples, proposal, threshold)
 }
 
@@ -192,17 +186,17 @@ fn commit_proposal(
 {
     let m = count_clipped(samples, threshold);
     if m == 0 {
-        return Answer::Done(0);
+        return Ok(0);
     }
     let at = *used;
     if journal.len() - at < 3 * m + 2 {
-        return Answer::Refused(Reason::Room);
+        return Err(Reason::Room);
     }
     save_clipped(samples, marks, journal, at, threshold);
     write_clipped(samples, marks, proposal, threshold);
     recount(marks, counts, journal, at, m);
     seal(journal, used, m, DECLIP_PROPOSED);
-    Answer::Done(m)
+    Ok(m)
 }
 
 // Takes a proposal for the clipped samples, as many words as there are samples, where it keeps to the rule at
@@ -219,9 +213,6 @@ pub fn declip_proposed(
     ensures { ended result (left samples marks counts journal used)
         ≡ proposed_repair threshold proposal.now (lent samples marks counts journal used) }
 {
-    let checked = check_call(samples, marks, counts, journal, *used, threshold, proposal);
-    let Answer::Done(_) = checked else {
-        return checked;
-    };
+    check_call(samples, marks, counts, journal, *used, threshold, proposal)?;
     commit_proposal(samples, marks, counts, journal, used, threshold, proposal)
 }

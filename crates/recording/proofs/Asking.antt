@@ -19,8 +19,8 @@ use Rattle.recording.specs.Counts.{counted, miscounted}
 use Rattle.recording.specs.Question.{all_are, marks_say, counts_say, span_measured, span_past, span_verdict}
 use Rattle.recording.specs.Consequences.{EachMeasured, AnswerIsEachMark, YesExactlyWhen}
 use Rattle.recording.specs.Consequences.{OtherMarksHaveNoSay, OtherCountsHaveNoSay}
-use Rattle.recording.specs.declared.Verdict.{Verdict}
-use Rattle.recording.specs.declared.Verdict.TheVariants.{Yes, No}
+use Rattle.recording.specs.Answer.{Verdict}
+use Rattle.std.specs.Prelude.{Ok, Err, true, false}
 use Rattle.recording.proofs.Counting.{length_counted, read_counted}
 use Rattle.recording.proofs.question.Laws.{span_one, span_parts}
 
@@ -133,25 +133,25 @@ answer_is_each_mark marks start len h =
     rw (eq-eqb _ _ (length_counted marks), le-ltb (length marks) (start + len) h, span_each marks start len h) refl
 
 -- a span that passes the end has no answer
-past_no_answer : (marks counts : List ℕ) (start len : ℕ) → span_verdict marks counts start len ≡ Yes → start + len ≤ length marks
+past_no_answer : (marks counts : List ℕ) (start len : ℕ) → span_verdict marks counts start len ≡ Ok true → start + len ≤ length marks
 unfolding span_verdict
 past_no_answer marks counts start len =
-    picks_by (λ (v : Verdict). v ≡ Yes → start + len ≤ length marks) (miscounted (length marks) counts) _ _
+    picks_by (λ (v : Verdict). v ≡ Ok true → start + len ≤ length marks) (miscounted (length marks) counts) _ _
     (λ wrong e. absurd (omega (arith, ap verdict_yes e)))
-    (λ right. picks_by (λ (v : Verdict). v ≡ Yes → start + len ≤ length marks) (span_past (length marks) start len) _ _
+    (λ right. picks_by (λ (v : Verdict). v ≡ Ok true → start + len ≤ length marks) (span_past (length marks) start len) _ _
     (λ past e. absurd (omega (arith, ap verdict_yes e))) (λ within e. ltb-false _ _ within))
 
 pub yes_exactly_when : YesExactlyWhen
 yes_exactly_when marks start len = (yes_each (truth (marks_say marks start len)), each_yes)
   where
-    yes_each : EitherWay (marks_say marks start len) → span_verdict marks (counted marks) start len ≡ Yes → EachMeasured marks start len
+    yes_each : EitherWay (marks_say marks start len) → span_verdict marks (counted marks) start len ≡ Ok true → EachMeasured marks start len
     yes_each (inl t) e i = all_each measured marks start len t i
     yes_each (inr f) e i =
         let within = past_no_answer marks (counted marks) start len e in
-        let no : No ≡ Yes = sym (rw f at (answer_is_each_mark marks start len within)) ∙ e in
+        let no : Ok false ≡ Ok true = sym (rw f at (answer_is_each_mark marks start len within)) ∙ e in
         absurd (omega (arith, ap verdict_yes no))
 
-    each_yes : start + len ≤ length marks → EachMeasured marks start len → span_verdict marks (counted marks) start len ≡ Yes
+    each_yes : start + len ≤ length marks → EachMeasured marks start len → span_verdict marks (counted marks) start len ≡ Ok true
     each_yes within all = rw (each_all measured marks start len all) at (answer_is_each_mark marks start len within)
 
 -- ---- Who has no say

@@ -21,7 +21,7 @@ use Rattle.recording.specs.Consequences.{Among}
 use Rattle.recording.specs.Inner.{Fits}
 use Rattle.recording.specs.declared.Reason.{Reason}
 use Rattle.recording.specs.declared.Reason.TheVariants.{Result, Room}
-use Rattle.recording.specs.declared.Answer.TheVariants.{Done, Refused}
+use Rattle.std.specs.Prelude.{Ok, Err}
 use Rattle.recording.proofs.Put.{among_or_not, among_below, put_elsewhere, put_each, places_each}
 use Rattle.recording.proofs.Put.{length_put, length_places}
 use Rattle.recording.proofs.Counting.{recounted_all}
@@ -32,7 +32,7 @@ use Rattle.leaves.proofs.Choice.{truth, EitherWay, both_hold, either}
 -- a repair of these samples is accepted, names some and enters them
 pub record Enters (s : State) (mark : ℕ) (cs : List Placed) : Type 0 where
   pub fits : Fits s
-  pub in-range : ranged cs ≡ Done 0
+  pub in-range : ranged cs ≡ Ok 0
   pub some : 0 < length cs
   pub room : s.used + entry_size (length cs) ≤ length s.journal
   pub valid : made mark ≡ true
@@ -58,14 +58,14 @@ made_byte k h =
 
 -- such a repair ends in the commit
 pub enters_ends : {s : State} {mark : ℕ} {cs : List Placed} → Enters s mark cs
-    → performed s (change mark cs) ≡ ended (Done (length cs)) (committed s mark cs)
+    → performed s (change mark cs) ≡ ended (Ok (length cs)) (committed s mark cs)
 unfolding performed carried entered
 enters_ends {s} {mark} {cs} e =
     rw (fits_done e.fits, e.in-range, ne_eqb (length cs) 0 (λ (z : length cs ≡ 0). omega arith))
     (rw (le-ltb (length s.journal - s.used) (entry_size (length cs)) (omega arith)) refl)
 
 -- every result is in range, or one is refused with its place
-pub ranged_ends : (cs : List Placed) → (ranged cs ≡ Done 0) ⊎ ((place : ℕ) × (ranged cs ≡ Refused (Result place)))
+pub ranged_ends : (cs : List Placed) → (ranged cs ≡ Ok 0) ⊎ ((place : ℕ) × (ranged cs ≡ Err (Result place)))
 unfolding ranged
 ranged_ends [] = inl refl
 ranged_ends (c ∷ cs) =
@@ -78,8 +78,8 @@ empty (c ∷ cs) h = absurd (omega (arith, eqb-true (length (c ∷ cs)) 0 h))
 
 -- the three ways in which a repair ends
 pub data Ending (s : State) (p : Plan) : Type 0 where
-  unnamed : (mark : ℕ) → p ≡ change mark [] → performed s p ≡ ended (Done 0) s → Ending s p
-  turned_away : (why : Reason) → performed s p ≡ ended (Refused why) s → Ending s p
+  unnamed : (mark : ℕ) → p ≡ change mark [] → performed s p ≡ ended (Ok 0) s → Ending s p
+  turned_away : (why : Reason) → performed s p ≡ ended (Err why) s → Ending s p
   enters : (mark : ℕ) (cs : List Placed) → p ≡ change mark cs → Enters s mark cs → Ending s p
 
 pub ending : (s : State) (p : Plan) → Keeps (length s.samples) p → Ending s p
@@ -97,7 +97,7 @@ ending s p k = elim (fits_or_not s) [ inl f ↦ planned f p k | inr n ↦ turned
         free : ℕ
         free = length s.journal - s.used
 
-        sized : ranged cs ≡ Done 0 → EitherWay (eqb (length cs) 0) → EitherWay (ltb free (entry_size (length cs)))
+        sized : ranged cs ≡ Ok 0 → EitherWay (eqb (length cs) 0) → EitherWay (ltb free (entry_size (length cs)))
             → Ending s (change mark cs)
         sized g (inl z) r = let none : cs ≡ [] = empty cs z in unnamed mark (ap (change mark) none) (rw (fits_done f, g, z))
         sized g (inr z) (inl r) = turned_away Room (rw (fits_done f, g, z, r))

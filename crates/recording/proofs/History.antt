@@ -19,8 +19,8 @@ use Rattle.recording.specs.History.{OpeningIsFresh, Bytes, RawMarks, Keeps, Lawf
 use Rattle.recording.specs.Consequences.{AllName, SurvivorsStand, UndoTakesBackTheLast, UndoingAll, MeasuredIsRaw, UnmadeIsRaw}
 use Rattle.recording.specs.Consequences.{FreeIsZero, CountsAreWorkedOut}
 use Rattle.recording.specs.Consequences.{Closing, closings, mark_of, returned, EntriesAreSurvivors}
-use Rattle.recording.specs.declared.Answer.{Answer}
-use Rattle.recording.specs.declared.Answer.TheVariants.{Done, Refused}
+use Rattle.recording.specs.Answer.{Answer}
+use Rattle.std.specs.Prelude.{Ok, Err}
 use Rattle.recording.proofs.Journal.{all_zero}
 use Rattle.leaves.proofs.Choice.{picks_by}
 use Rattle.recording.proofs.Tests.{undone_idle}
@@ -56,12 +56,12 @@ did_undo s = refl
 
 -- a repair that enters some samples, whatever repair it is
 did_enter : (r : Repair) {s : State} {mark : ℕ} {cs : List Placed} → r s.samples ≡ change mark cs → Enters s mark cs
-    → did (repair r) s ≡ ended (Done (length cs)) (committed s mark cs)
+    → did (repair r) s ≡ ended (Ok (length cs)) (committed s mark cs)
 did_enter r {s} p e = did_repair r s ∙ ap (λ (q : Plan). performed s q) p ∙ enters_ends e
 
 -- undo takes the last repair back
 did_undo_more : {raw : State} {kept : List Repair} {s : State} {mark : ℕ} {cs : List Placed}
-    → Reached raw kept s → Enters s mark cs → did undo (committed s mark cs) ≡ ended (Done (length cs)) s
+    → Reached raw kept s → Enters s mark cs → did undo (committed s mark cs) ≡ ended (Ok (length cs)) s
 did_undo_more {s = s} {mark} {cs} before e = did_undo (committed s mark cs) ∙ undo_commit e (reached_sound before)
 
 -- and leaves the raw recording as it is; where no repair survived, none survives it
@@ -69,8 +69,8 @@ did_undo_none : (raw : State) → raw.used ≡ 0 → (did undo raw).after ≡ ra
 did_undo_none raw empty = rw did_undo (undone_idle raw empty)
 
 none_left : (a : Answer) → surviving undo a [] ≡ []
-none_left (Done m) = refl
-none_left (Refused why) = refl
+none_left (Ok m) = refl
+none_left (Err why) = refl
 
 -- a call leads from a reached recording to a reached one
 step_repair : (r : Repair) {raw : State} {kept : List Repair} {s : State}
@@ -143,7 +143,7 @@ reached_unmade i (more before p e) h =
 
 -- the survivors are accepted again, and each names a sample; one more may follow
 all_name_last : (rs : List Repair) (r : Repair) (s : State) → AllName rs s
-    → (m : ℕ) × ((did (repair r) (replay rs s)).answer ≡ Done (suc m)) → AllName (rs ++ (r ∷ [])) s
+    → (m : ℕ) × ((did (repair r) (replay rs s)).answer ≡ Ok (suc m)) → AllName (rs ++ (r ∷ [])) s
 unfolding replay run
 all_name_last [] r s all last = (last, tt)
 all_name_last (q ∷ rs) r s all last = (all.0, all_name_last rs r (did (repair q) s).after all.1 last)
@@ -154,7 +154,7 @@ reached_names {raw} (more {r} {kept} {s} {mark} {cs} before p e) =
     rw reverse-cons (all_name_last (reverse kept) r raw (reached_names before) (rw (reached_replay before) (named cs p e)))
   where
     named : (cs : List Placed) → r s.samples ≡ change mark cs → Enters s mark cs
-        → (m : ℕ) × ((did (repair r) s).answer ≡ Done (suc m))
+        → (m : ℕ) × ((did (repair r) s).answer ≡ Ok (suc m))
     named [] p e = absurd (omega (arith, e.some))
     named (c ∷ cs) p e = (length cs, ap (λ (end : Ended). end.answer) (did_enter r p e))
 
@@ -202,8 +202,8 @@ unfolding opened_with
 opening_is_fresh marks s h = go (alike s) refl
   where
     go : (a : Answer) → alike s ≡ a → (opened_with marks s).after ≡ fresh s.samples marks (length s.journal)
-    go (Done m) e = rw e
-    go (Refused why) e = let no-done : Refused why ≡ Done 0 = rw e at h in cc
+    go (Ok m) e = rw e
+    go (Err why) e = let no-done : Err why ≡ Ok 0 = rw e at h in cc
 
 -- whose marks are bytes
 pub zeros_are_bytes : (n : ℕ) → Bytes (replicate n 0)
@@ -242,12 +242,12 @@ undo_takes_back_the_last words marks room cs bytes l r m keeps accepted = go (en
     s = run cs (fresh words marks room)
 
     -- what its plan comes to is its answer
-    told : (e : Ended) → performed s (r s.samples) ≡ e → e.answer ≡ Done (suc m)
+    told : (e : Ended) → performed s (r s.samples) ≡ e → e.answer ≡ Ok (suc m)
     told e ends = ap (λ (end : Ended). end.answer) (sym (did_repair r s ∙ ends)) ∙ accepted
 
     go : Ending s (r s.samples) → (did undo (did (repair r) s).after).after ≡ s
     go (unnamed mark p e) = absurd (omega (arith, ap value (told _ e)))
-    go (turned_away why e) = let never : Refused why ≡ Done (suc m) = told _ e in cc
+    go (turned_away why e) = let never : Err why ≡ Ok (suc m) = told _ e in cc
     go (enters mark ps p e) =
         rw (did_enter r p e) (ap (λ (end : Ended). end.after) (did_undo_more (reached words marks room cs bytes l) e))
 

@@ -14,8 +14,8 @@ use Rattle.recording.specs.Recording.{work_after, unless_read}
 use Rattle.recording.specs.Recording.{Placed, entry_size, entered, ranged, Plan, change, span, picked, carried, performed}
 use Rattle.recording.specs.History.{Ascending, Keeps}
 use Rattle.recording.specs.declared.Reason.{Reason}
-use Rattle.recording.specs.declared.Answer.{Answer}
-use Rattle.recording.specs.declared.Answer.TheVariants.{Done, Refused}
+use Rattle.recording.specs.Answer.{Answer}
+use Rattle.std.specs.Prelude.{Ok, Err}
 use Rattle.leaves.proofs.Choice.{truth, EitherWay}
 use Rattle.recording.proofs.open.Laws.{fitting_by}
 use Rattle.recording.proofs.Entering.{ranged_ends}
@@ -24,25 +24,25 @@ use Rattle.recording.proofs.Entering.{ranged_ends}
 
 module _ (s : State) (p : Plan) (a : Answer) (sized : a ≡ fitting s) where
   -- one of them applies
-  pub unfit : (why : Reason) → a ≡ Refused why → ended a s ≡ performed s p
+  pub unfit : (why : Reason) → a ≡ Err why → ended a s ≡ performed s p
   unfolding performed
   unfit why e = rw (sym sized ∙ e, e) refl
 
   -- none does
-  pub fit : (m : ℕ) → a ≡ Done m → carried s p ≡ performed s p
+  pub fit : (m : ℕ) → a ≡ Ok m → carried s p ≡ performed s p
   unfolding performed
   fit m e = rw (sym sized ∙ e) refl
 
 -- ---- The workspace
 
 -- refusals 1, 14, 2 and 3 keep its contents
-pub fitting_keeps : (s : State) (why : Reason) → fitting s ≡ Refused why → clears (fitting s) ≡ false
+pub fitting_keeps : (s : State) (why : Reason) → fitting s ≡ Err why → clears (fitting s) ≡ false
 fitting_keeps s why =
-    fitting_by (λ (a : Answer). a ≡ Refused why → clears a ≡ false) s (λ one e. refl) (λ one fourteen e. refl)
+    fitting_by (λ (a : Answer). a ≡ Err why → clears a ≡ false) s (λ one e. refl) (λ one fourteen e. refl)
     (λ one fourteen two e. refl) (λ one fourteen two three e. refl)
     (λ one fourteen two three e. let none : ◌≡◌ {A = ℕ} 0 1 = cc in absurd (omega arith))
 
-pub unfit_keeps : {A : Type 0} (nought : A) (s : State) (a : Answer) → a ≡ fitting s → (why : Reason) → a ≡ Refused why
+pub unfit_keeps : {A : Type 0} (nought : A) (s : State) (a : Answer) → a ≡ fitting s → (why : Reason) → a ≡ Err why
     → (n : ℕ) (work : List A) → work ≡ work_after nought n a work
 unfit_keeps nought s a sized why e n work =
     let kept : clears a ≡ false = rw sized (fitting_keeps s why (sym sized ∙ e)) in
@@ -60,7 +60,7 @@ carried_clears s mark cs =
     free : ℕ
     free = length s.journal - s.used
 
-    sized : ranged cs ≡ Done 0 → EitherWay (eqb (length cs) 0) → EitherWay (ltb free (entry_size (length cs)))
+    sized : ranged cs ≡ Ok 0 → EitherWay (eqb (length cs) 0) → EitherWay (ltb free (entry_size (length cs)))
         → clears (carried s (change mark cs)).answer ≡ true
     sized g (inl z) r = rw (g, z) refl
     sized g (inr z) (inl r) = rw (g, z, r) refl
@@ -118,5 +118,5 @@ picked_ascends n least i (b ∷ bs) (w ∷ ws) h k =
 
 -- a refusal decides between plans that keep to the law
 pub unless_kept : (n : ℕ) (a : Answer) (p : Plan) → Keeps n p → Keeps n (unless_read a p)
-unless_kept n (Done m) p kp = kp
-unless_kept n (Refused why) p kp = tt
+unless_kept n (Ok m) p kp = kp
+unless_kept n (Err why) p kp = tt

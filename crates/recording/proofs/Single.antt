@@ -15,8 +15,8 @@ use Rattle.recording.specs.declared.Reason.{Reason}
 use Rattle.recording.specs.declared.Reason.TheVariants.{Counts, TooMany, Used, Setting, Gap, Workspace, Read}
 use Rattle.recording.specs.declared.Reason.TheVariants.{Result, Room, Nothing, Malformed, Frames, Pieces, Blocks, Proposal, Version, Stored}
 use Rattle.recording.specs.declared.Reason.TheVariants.{Wave, Coding, Output}
-use Rattle.recording.specs.declared.Answer.{Answer}
-use Rattle.recording.specs.declared.Answer.TheVariants.{Done, Refused}
+use Rattle.recording.specs.Answer.{Answer}
+use Rattle.std.specs.Prelude.{Ok, Err}
 use Rattle.leaves.proofs.Choice.{picks}
 use Rattle.recording.proofs.Entering.{Enters, Ending, unnamed, turned_away, enters, ending, enters_ends}
 use Rattle.recording.proofs.Entering.{after_elsewhere, after_named}
@@ -31,12 +31,12 @@ pub record Keeps (s : State) (e : Ended) : Type 0 where
 refused_keeps : (s : State) (why : Reason) → Keeps s (refused s why)
 refused_keeps s why = record { keeps = λ h. refl }
 
-done_keeps : (m : ℕ) (s t : State) → Keeps s (ended (Done m) t)
+done_keeps : (m : ℕ) (s t : State) → Keeps s (ended (Ok m) t)
 done_keeps m s t = record { keeps = λ h. absurd (omega arith) }
 
 unless_keeps : (a : Answer) (s : State) (rest : Ended) → Keeps s rest → Keeps s (unless_refused a s rest)
-unless_keeps (Done m) s rest h = h
-unless_keeps (Refused why) s rest h = refused_keeps s why
+unless_keeps (Ok m) s rest h = h
+unless_keeps (Err why) s rest h = refused_keeps s why
 
 entered_keeps : (s : State) (mark : ℕ) (cs : List Placed) → Keeps s (entered s mark cs)
 unfolding entered
@@ -99,21 +99,21 @@ made_of_some {s} {mark} {cs} e =
 pub accepted_as_ruled : AcceptedAsRuled
 accepted_as_ruled r s mark cs m l p h = go (ending s (r s.samples) (l s.samples))
   where
-    made : (k : ℕ) (ds : List Placed) (t : State) → r s.samples ≡ change k ds → performed s (r s.samples) ≡ ended (Done (length ds)) t
+    made : (k : ℕ) (ds : List Placed) (t : State) → r s.samples ≡ change k ds → performed s (r s.samples) ≡ ended (Ok (length ds)) t
         → MadeOf k ds s t → MadeOf mark cs s (did (repair r) s).after × (m ≡ length cs)
     made k ds t q e all =
-        let ends : did (repair r) s ≡ ended (Done (length ds)) t = did_repair r s ∙ e in
+        let ends : did (repair r) s ≡ ended (Ok (length ds)) t = did_repair r s ∙ e in
         let same : change k ds ≡ change mark cs = sym q ∙ p in
         let marks : k ≡ mark = cc in
         let named : ds ≡ cs = cc in
-        let answers : Done (length ds) ≡ Done m = rw ends at h in
+        let answers : Ok (length ds) ≡ Ok m = rw ends at h in
         let counts : m ≡ length ds = cc in
         (rw (ends, ← marks, ← named) all, counts ∙ ap length named)
 
     go : Ending s (r s.samples) → MadeOf mark cs s (did (repair r) s).after × (m ≡ length cs)
     go (unnamed k q e) = made k [] s q e (made_of_none k s)
     go (turned_away why e) =
-        let ends : did (repair r) s ≡ ended (Refused why) s = did_repair r s ∙ e in
-        let never : Refused why ≡ Done m = rw ends at h in
+        let ends : did (repair r) s ≡ ended (Err why) s = did_repair r s ∙ e in
+        let never : Err why ≡ Ok m = rw ends at h in
         absurd (omega (arith, ap number never, above_zero why))
     go (enters k ds q e) = made k ds (committed s k ds) q (ap (performed s) q ∙ enters_ends e) (made_of_some e)

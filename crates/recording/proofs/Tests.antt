@@ -14,7 +14,7 @@ use Rattle.recording.specs.Marks.{made}
 use Rattle.recording.specs.Recording.{last_saved, place_past, not_rising, mark_past, malformed, old_words, old_marks}
 use Rattle.recording.specs.Recording.{put, state, recounted_by, taken_back, undone}
 use Rattle.recording.specs.Inner.{Fits}
-use Rattle.recording.specs.declared.Answer.TheVariants.{Done}
+use Rattle.std.specs.Prelude.{Ok}
 use Rattle.recording.proofs.open.Laws.{fits_done, fits_or_not}
 
 -- a last entry that passes every test of undo: its count, the mark that was set, and what was saved
@@ -51,14 +51,14 @@ module _ {s : State} {m mark : ℕ} {olds : List Saved} (e : Sealed s m mark old
   sealed_back = rw (e.saved_there, e.count)
 
   -- undo does so
-  pub sealed_undone : Fits s → undone s ≡ ended (Done m) (without s m olds)
+  pub sealed_undone : Fits s → undone s ≡ ended (Ok m) (without s m olds)
   sealed_undone f =
       accepted (fits_done f) (ne_eqb s.used 0 (λ (z : s.used ≡ 0). omega (arith, e.fits))) well_formed
       ∙ rw (e.count, sealed_back)
     where
-      accepted : fitting s ≡ Done 0 → eqb s.used 0 ≡ false
+      accepted : fitting s ≡ Ok 0 → eqb s.used 0 ≡ false
           → malformed (length s.samples) s.journal s.used ≡ false
-          → undone s ≡ ended (Done (last_count s.journal s.used)) (taken_back s)
+          → undone s ≡ ended (Ok (last_count s.journal s.used)) (taken_back s)
       accepted one two three = unfold undone in rw (one, two, three)
 
 -- where nothing was entered, undo leaves all as it is

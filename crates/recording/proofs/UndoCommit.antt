@@ -10,7 +10,7 @@ use Rattle.recording.specs.Recording.{old_marks, entry_size, entry, committed, l
 use Rattle.recording.specs.Recording.{recounted_by, undone}
 use Rattle.recording.specs.Counts.{recounted}
 use Rattle.recording.specs.Inner.{Fits}
-use Rattle.recording.specs.declared.Answer.TheVariants.{Done}
+use Rattle.std.specs.Prelude.{Ok}
 use Rattle.recording.proofs.Put.{length_put, length_places, ascending_count, put_back, marks_back, words_kept}
 use Rattle.recording.proofs.Put.{marks_kept, places_valued}
 use Rattle.recording.proofs.Journal.{length_entry, entry_count, entry_mark, entry_saved, stored_back, all_zero}
@@ -131,7 +131,7 @@ module _ {s : State} {mark : ℕ} {cs : List Placed} (e : Enters s mark cs) wher
         same = unfold committed in sym (length_put (each mark (places cs)) s.marks)
 
     -- so undo gives back the very state before
-    pub undo_commit : undone (committed s mark cs) ≡ ended (Done (length cs)) s
+    pub undo_commit : undone (committed s mark cs) ≡ ended (Ok (length cs)) s
     undo_commit =
         sealed_undone last_sealed after_fits
-        ∙ (rw last_begin (λ i. ended (Done (length cs)) (state (words_back i) (mark_back i) (count_back i) (entry_back i) s.used)))
+        ∙ (rw last_begin (λ i. ended (Ok (length cs)) (state (words_back i) (mark_back i) (count_back i) (entry_back i) s.used)))

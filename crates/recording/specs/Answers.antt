@@ -1,13 +1,12 @@
 -- What documents 01 and 02 say of an answer: its number, and the value that goes with it. Definitions only.
-use Rattle.std.specs.Prelude.{ℕ}
+use Rattle.std.specs.Prelude.{ℕ, if◌then◌else◌}
 use Rattle.recording.specs.declared.Reason.{Reason}
 use Rattle.recording.specs.declared.Reason.TheVariants.{Counts, TooMany, Used, Setting, Gap, Workspace, Read}
 use Rattle.recording.specs.declared.Reason.TheVariants.{Result, Room, Nothing, Malformed, Frames, Pieces, Blocks, Proposal, Version, Stored}
 use Rattle.recording.specs.declared.Reason.TheVariants.{Wave, Coding, Output}
-use Rattle.recording.specs.declared.Answer.{Answer}
-use Rattle.recording.specs.declared.Answer.TheVariants.{Done, Refused}
-use Rattle.recording.specs.declared.Verdict.{Verdict}
-use Rattle.recording.specs.declared.Verdict.TheVariants.{Yes, No, TurnedAway}
+use Rattle.recording.specs.Answer.{Answer}
+use Rattle.std.specs.Prelude.{Ok, Err}
+use Rattle.recording.specs.Answer.{Verdict}
 
 -- "What is turned away": the table's number of each reason; from 12 on document 02's
 abbrev pub reason_number : Reason → ℕ
@@ -58,22 +57,20 @@ reason_place Output = 0
 
 -- 0 for an acceptance, and else the number of the refusal
 abbrev pub number : Answer → ℕ
-number (Done m) = 0
-number (Refused why) = reason_number why
+number (Ok m) = 0
+number (Err why) = reason_number why
 
 -- "An accepted repair returns m; an accepted undo returns the m it took back." For a refusal it is the place.
 abbrev pub value : Answer → ℕ
-value (Done m) = m
-value (Refused why) = reason_place why
+value (Ok m) = m
+value (Err why) = reason_place why
 
 -- of the span question: 0 where it is answered, and else the number of the refusal
 abbrev pub verdict_number : Verdict → ℕ
-verdict_number Yes = 0
-verdict_number No = 0
-verdict_number (TurnedAway why) = reason_number why
+verdict_number (Ok says) = 0
+verdict_number (Err why) = reason_number why
 
 -- 1 for yes, and else 0
 abbrev pub verdict_yes : Verdict → ℕ
-verdict_yes Yes = 1
-verdict_yes No = 0
-verdict_yes (TurnedAway why) = 0
+verdict_yes (Ok says) = if says then 1 else 0
+verdict_yes (Err why) = 0

@@ -1,5 +1,6 @@
 -- What follows from the rules of a call, from those of the span question and from demand 3. Proved in proofs/Single.antt,
 -- proofs/Counting.antt, proofs/Asking.antt and proofs/History.antt under the same names, written small.
+use Rattle.std.specs.Prelude.{true}
 use Rattle.std.specs.Prelude.{ℕ, zero, suc, ◌+◌, ◌-◌, ◌≤◌, ◌<◌, ◌⊎◌, ◌≡◌, false, List, [], ◌∷◌, map, reverse, length, get_or, replicate}
 use Rattle.recording.specs.Answers.{value}
 use Rattle.recording.specs.Recording.{State, Placed, places, put, Plan, refuse, change}
@@ -10,14 +11,13 @@ use Rattle.recording.specs.Counts.{block_of, count_of, counted, recounted}
 use Rattle.recording.specs.Question.{marks_say, span_verdict}
 use Rattle.recording.specs.History.{Repair, Call, repair, undo, did, run, survivors, LawfulRepair, AfterAny}
 use Rattle.recording.specs.declared.Reason.{Reason}
-use Rattle.recording.specs.declared.Answer.TheVariants.{Done, Refused}
-use Rattle.recording.specs.declared.Verdict.TheVariants.{Yes, No}
+use Rattle.std.specs.Prelude.{Ok, Err}
 
 -- ---- Of every call, on any recording
 
 -- demand 1: "A refusal changes nothing."
 abbrev pub RefusalChangesNothing : Type 0
-RefusalChangesNothing = (c : Call) (s : State) (why : Reason) → (did c s).answer ≡ Refused why → (did c s).after ≡ s
+RefusalChangesNothing = (c : Call) (s : State) (why : Reason) → (did c s).answer ≡ Err why → (did c s).after ≡ s
 
 -- it is one of these
 abbrev pub Among : {A : Type 0} → A → List A → Type 0
@@ -36,7 +36,7 @@ pub record MadeOf (mark : ℕ) (cs : List Placed) (before after : State) : Type 
 abbrev pub AcceptedAsRuled : Type 0
 AcceptedAsRuled =
     (r : Repair) (s : State) (mark : ℕ) (cs : List Placed) (m : ℕ) → LawfulRepair r → r s.samples ≡ change mark cs
-    → (did (repair r) s).answer ≡ Done m → MadeOf mark cs s (did (repair r) s).after × (m ≡ length cs)
+    → (did (repair r) s).answer ≡ Ok m → MadeOf mark cs s (did (repair r) s).after × (m ≡ length cs)
 
 -- request P5: "recounts the blocks of its samples and no others", for samples at any places, whatever counts are lent: a block of theirs
 -- gets the count of the marks as they are now, and any other keeps what it had
@@ -56,14 +56,14 @@ EachMeasured marks start len = (i : ℕ) → start ≤ i → i < start + len →
 abbrev pub AnswerIsEachMark : Type 0
 AnswerIsEachMark =
     (marks : List ℕ) (start len : ℕ) → start + len ≤ length marks
-    → span_verdict marks (counted marks) start len ≡ (if marks_say marks start len then Yes else No)
+    → span_verdict marks (counted marks) start len ≡ Ok (marks_say marks start len)
 
 -- so it is yes exactly when every mark of the span is 0
 abbrev pub YesExactlyWhen : Type 0
 YesExactlyWhen =
     (marks : List ℕ) (start len : ℕ)
-    → (span_verdict marks (counted marks) start len ≡ Yes → EachMeasured marks start len)
-    × (start + len ≤ length marks → EachMeasured marks start len → span_verdict marks (counted marks) start len ≡ Yes)
+    → (span_verdict marks (counted marks) start len ≡ Ok true → EachMeasured marks start len)
+    × (start + len ≤ length marks → EachMeasured marks start len → span_verdict marks (counted marks) start len ≡ Ok true)
 
 -- "looks at marks only in the blocks its ends fall in": two lists of marks that agree there give the same answer, whatever the counts are
 abbrev pub OtherMarksHaveNoSay : Type 0
@@ -88,7 +88,7 @@ CountsAreWorkedOut = AfterAny (λ raw cs. (run cs raw).counts ≡ counted (run c
 -- every repair of a replay is accepted, as it was, and names a sample
 abbrev pub AllName : List Repair → State → Type 0
 AllName [] s = Unit {0}
-AllName (r ∷ rs) s = ((m : ℕ) × ((did (repair r) s).answer ≡ Done (suc m))) × AllName rs (did (repair r) s).after
+AllName (r ∷ rs) s = ((m : ℕ) × ((did (repair r) s).answer ≡ Ok (suc m))) × AllName rs (did (repair r) s).after
 
 abbrev pub SurvivorsStand : Type 0
 SurvivorsStand = AfterAny (λ raw cs. AllName (survivors cs raw) raw)
@@ -98,7 +98,7 @@ abbrev pub UndoTakesBackTheLast : Type 0
 UndoTakesBackTheLast =
     AfterAny
     (λ raw cs.
-    (r : Repair) (m : ℕ) → LawfulRepair r → (did (repair r) (run cs raw)).answer ≡ Done (suc m)
+    (r : Repair) (m : ℕ) → LawfulRepair r → (did (repair r) (run cs raw)).answer ≡ Ok (suc m)
     → (did undo (did (repair r) (run cs raw)).after).after ≡ run cs raw)
 
 -- undoing everything, and also going on to undo after that, returns every raw word and mark, and an empty journal

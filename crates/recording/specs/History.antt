@@ -7,8 +7,8 @@ use Rattle.recording.specs.Recording.{State, state, Ended, Placed, Plan, refuse,
 use Rattle.recording.specs.Marks.{measured, not_received, made}
 use Rattle.recording.specs.Counts.{counted}
 use Rattle.recording.specs.Recording.{called, undone, kept_mark, opened_with}
-use Rattle.recording.specs.declared.Answer.{Answer}
-use Rattle.recording.specs.declared.Answer.TheVariants.{Done, Refused}
+use Rattle.recording.specs.Answer.{Answer}
+use Rattle.std.specs.Prelude.{Ok, Err}
 
 -- ---- "any sequence of repairs, refusals and undos"
 
@@ -37,12 +37,12 @@ run (c ∷ cs) s = run cs (did c s).after
 -- the survivors, the last on top, after one call more: an accepted repair that named a sample is put on top, an accepted undo
 -- takes the top one off, and all else leaves them
 abbrev pub surviving : Call → Answer → List Repair → List Repair
-surviving (repair r) (Done zero) kept = kept
-surviving (repair r) (Done (suc m)) kept = r ∷ kept
-surviving (repair r) (Refused why) kept = kept
-surviving undo (Done m) [] = []
-surviving undo (Done m) (r ∷ kept) = kept
-surviving undo (Refused why) kept = kept
+surviving (repair r) (Ok zero) kept = kept
+surviving (repair r) (Ok (suc m)) kept = r ∷ kept
+surviving (repair r) (Err why) kept = kept
+surviving undo (Ok m) [] = []
+surviving undo (Ok m) (r ∷ kept) = kept
+surviving undo (Err why) kept = kept
 
 unfoldable pub survivors_over : List Repair → List Call → State → List Repair
 unfolding did
@@ -69,7 +69,7 @@ fresh words marks room = state words marks (counted marks) (replicate room 0) 0
 -- an accepted opening gives such a recording, under the raw marks that it sets
 abbrev pub OpeningIsFresh : Type 0
 OpeningIsFresh =
-    (marks : List ℕ) (s : State) → (opened_with marks s).answer ≡ Done 0
+    (marks : List ℕ) (s : State) → (opened_with marks s).answer ≡ Ok 0
     → (opened_with marks s).after ≡ fresh s.samples marks (length s.journal)
 
 -- a mark is a byte

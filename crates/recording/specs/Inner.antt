@@ -5,8 +5,8 @@ use Rattle.std.proofs.lemmas.List.Edits.{sets}
 use Rattle.std.specs.Prelude.{if◌then◌else◌}
 use Rattle.recording.specs.Recording.{State, state, Placed, Saved, most_samples, picked, saved_at, place_past, mark_past}
 use Rattle.recording.specs.Counts.{blocks}
-use Rattle.recording.specs.declared.Answer.{Answer}
-use Rattle.recording.specs.declared.Answer.TheVariants.{Done, Refused}
+use Rattle.recording.specs.Answer.{Answer}
+use Rattle.std.specs.Prelude.{Ok, Err}
 
 -- refusals 1, 14, 2 and 3 do not apply
 pub record Fits (s : State) : Type 0 where
@@ -22,8 +22,8 @@ consecutive i (suc n) = i ∷ consecutive (i + 1) n
 
 -- a recording in which a span was entered, once the words are in place, which they are where the call was accepted
 abbrev pub filled : Answer → ℕ → List ℕ → State → State
-filled (Done m) start words s = state (sets s.samples start words) s.marks s.counts s.journal s.used
-filled (Refused why) start words s = s
+filled (Ok m) start words s = state (sets s.samples start words) s.marks s.counts s.journal s.used
+filled (Err why) start words s = s
 
 -- The workspace of a repair over the whole recording, of n samples: n new words, then n words of which each that is not 0
 -- names the sample of its place.

@@ -1,10 +1,29 @@
 -- The memory that a call on a recording is lent, as one recording, so that a contract names samples, marks, counts, journal and used once
--- for each moment. A parameter that is lent has two moments, `.entry` and `.exit`, and `now` is what it holds then; one of the two that a
--- definition does not ask for may be of any type. Definitions only.
-use Rattle.std.specs.Prelude.{ℕ, List}
+-- for each moment. Definitions only.
+use Rattle.std.specs.Prelude.{ℕ, List, ◌≡◌}
 use Rattle.std.specs.Borrow.{Bor, MutBor}
 use denote.Triple.Both.{Both}
 use Rattle.recording.specs.Recording.{State, state}
+use Rattle.recording.specs.declared.Recording.{Recording}
+
+-- ---- A recording that is lent as one
+
+-- what stands in its memory
+abbrev pub held : Recording → State
+held r = state r.samples.now r.marks.now r.counts.now r.journal.now r.used.now
+
+-- it lies in the same memory afterwards: each of its five parts is still what the caller lent, so that the caller finds there what the
+-- call left
+abbrev pub SameMemory : Recording → Recording → Type 0
+SameMemory before after =
+    (after.samples.ghost_name ≡ before.samples.ghost_name)
+    × (after.marks.ghost_name ≡ before.marks.ghost_name)
+    × (after.counts.ghost_name ≡ before.counts.ghost_name)
+    × (after.journal.ghost_name ≡ before.journal.ghost_name)
+    × (after.used.ghost_name ≡ before.used.ghost_name)
+
+-- ---- A recording that is lent in parts, as callers in C do. A parameter that is lent has two moments, `.entry` and `.exit`, and `now` is
+-- what it holds then; one of the two that a definition does not ask for may be of any type.
 
 -- as the call began
 abbrev pub lent : {S M C J U : Type 0} → Both (MutBor (List ℕ)) S → Both (MutBor (List ℕ)) M → Both (MutBor (List ℕ)) C
@@ -29,17 +48,3 @@ abbrev pub left_reading : {S M C J U : Type 0} → Both (Bor (List ℕ)) S → B
     → Both J (MutBor (List ℕ)) → Both U (MutBor ℕ) → State
 left_reading samples marks counts journal used =
     state samples.entry.now marks.exit.now counts.exit.now journal.exit.now used.exit.now
-
--- of a step that only reads all of it, and takes used as a number
-abbrev pub seen : {S M C J : Type 0} → Both (Bor (List ℕ)) S → Both (Bor (List ℕ)) M → Both (Bor (List ℕ)) C → Both (Bor (List ℕ)) J → ℕ
-    → State
-seen samples marks counts journal used =
-    state samples.entry.now marks.entry.now counts.entry.now journal.entry.now used
-
--- as a `requires` has it, which knows one moment only
-abbrev pub given : MutBor (List ℕ) → MutBor (List ℕ) → MutBor (List ℕ) → MutBor (List ℕ) → MutBor ℕ → State
-given samples marks counts journal used = state samples.now marks.now counts.now journal.now used.now
-
--- the same, of a call that only reads the samples
-abbrev pub given_reading : Bor (List ℕ) → MutBor (List ℕ) → MutBor (List ℕ) → MutBor (List ℕ) → MutBor ℕ → State
-given_reading samples marks counts journal used = state samples.now marks.now counts.now journal.now used.now

@@ -1,3 +1,4 @@
+pub mod Answer
 pub mod Answers
 pub mod Marks
 pub mod Counts

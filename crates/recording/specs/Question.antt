@@ -5,8 +5,8 @@ use Rattle.std.specs.Prelude.{if◌then◌else◌}
 use Rattle.recording.specs.Marks.{measured}
 use Rattle.recording.specs.Counts.{block_of, block_begin, miscounted}
 use Rattle.recording.specs.declared.Reason.TheVariants.{Gap, Blocks}
-use Rattle.recording.specs.declared.Verdict.{Verdict}
-use Rattle.recording.specs.declared.Verdict.TheVariants.{Yes, No, TurnedAway}
+use Rattle.recording.specs.Answer.{Verdict}
+use Rattle.std.specs.Prelude.{Ok, Err}
 
 -- whether each of the n elements from place i on is this one
 unfoldable pub all_are : ℕ → List ℕ → ℕ → ℕ → Bool
@@ -43,7 +43,6 @@ span_past n start len = ltb n (start + len)
 unfoldable pub span_verdict : List ℕ → List ℕ → ℕ → ℕ → Verdict
 unfolding span_measured
 span_verdict marks counts start len =
-    if miscounted (length marks) counts then TurnedAway Blocks else
-    if span_past (length marks) start len then TurnedAway Gap else
-    if span_measured marks counts start len then Yes else
-    No
+    if miscounted (length marks) counts then Err Blocks else
+    if span_past (length marks) start len then Err Gap else
+    Ok (span_measured marks counts start len)

@@ -7,8 +7,8 @@ use Rattle.std.specs.Prelude.{if◌then◌else◌}
 use Rattle.leaves.specs.Floats.{in_range}
 use Rattle.recording.specs.declared.Reason.{Reason}
 use Rattle.recording.specs.declared.Reason.TheVariants.{Counts, TooMany, Used, Read, Result, Room, Nothing, Malformed, Blocks}
-use Rattle.recording.specs.declared.Answer.{Answer}
-use Rattle.recording.specs.declared.Answer.TheVariants.{Done, Refused}
+use Rattle.recording.specs.Answer.{Answer}
+use Rattle.std.specs.Prelude.{Ok, Err}
 use Rattle.recording.specs.Answers.{number}
 use Rattle.recording.specs.Marks.{measured, not_received, made}
 use Rattle.recording.specs.Counts.{miscounted, counted, recounted}
@@ -43,7 +43,7 @@ ended a s = record { answer = a; after = s }
 
 -- "All refusals keep samples, marks, journal and used.", and the counts
 abbrev pub refused : State → Reason → Ended
-refused s why = ended (Refused why) s
+refused s why = ended (Err why) s
 
 -- 1: "marks and samples differ in number"
 abbrev pub differ : State → Bool
@@ -63,26 +63,26 @@ over_used s = ltb (length s.journal) s.used
 
 -- the first refusal of two tests, or else an acceptance
 abbrev pub or_else : Answer → Answer → Answer
-or_else (Done m) later = later
-or_else (Refused why) later = Refused why
+or_else (Ok m) later = later
+or_else (Err why) later = Err why
 
 -- the refusal among 1, 14 and 2, or else an acceptance: 14 is given "after 1"
 unfoldable pub alike : State → Answer
 alike s =
-    if differ s then Refused Counts else
-    if counts_wrong s then Refused Blocks else
-    if too_many s then Refused TooMany else
-    Done 0
+    if differ s then Err Counts else
+    if counts_wrong s then Err Blocks else
+    if too_many s then Err TooMany else
+    Ok 0
 
 -- the refusal among 1, 14, 2 and 3, or else an acceptance
 unfoldable pub fitting : State → Answer
 unfolding alike
-fitting s = or_else (alike s) (if over_used s then Refused Used else Done 0)
+fitting s = or_else (alike s) (if over_used s then Err Used else Ok 0)
 
 -- a refusal where there is one, and else the rest of the call
 abbrev pub unless_refused : Answer → State → Ended → Ended
-unless_refused (Done m) s rest = rest
-unless_refused (Refused why) s rest = refused s why
+unless_refused (Ok m) s rest = rest
+unless_refused (Err why) s rest = refused s why
 
 -- ---- An accepted repair
 
@@ -166,19 +166,19 @@ pub data Plan : Type 0 where
 -- else an acceptance
 unfoldable pub readable : ℕ → List ℕ → Answer
 unfolding in_range
-readable i [] = Done 0
-readable i (w ∷ ws) = let later = readable (i + 1) ws in if in_range w then later else Refused (Read i)
+readable i [] = Ok 0
+readable i (w ∷ ws) = let later = readable (i + 1) ws in if in_range w then later else Err (Read i)
 
 -- a refusal where there is one, and else the rest of the plan
 abbrev pub unless_read : Answer → Plan → Plan
-unless_read (Done m) rest = rest
-unless_read (Refused why) rest = refuse why
+unless_read (Ok m) rest = rest
+unless_read (Err why) rest = refuse why
 
 -- 8: "a result at a named sample is not in range", with "the lowest such place"; or else an acceptance
 unfoldable pub ranged : List Placed → Answer
 unfolding in_range
-ranged [] = Done 0
-ranged (c ∷ cs) = let later = ranged cs in if in_range c.value then later else Refused (Result c.place)
+ranged [] = Ok 0
+ranged (c ∷ cs) = let later = ranged cs in if in_range c.value then later else Err (Result c.place)
 
 -- 9: "m is at least 1 and the journal has fewer than 3m+2 free words". "Naming nothing is accepted and appends nothing".
 unfoldable pub entered : State → ℕ → List Placed → Ended
@@ -186,9 +186,9 @@ unfolding committed
 entered s mark cs =
     let m = length cs in
     let free = length s.journal - s.used in
-    if eqb m 0 then ended (Done 0) s else
+    if eqb m 0 then ended (Ok 0) s else
     if ltb free (entry_size m) then refused s Room else
-    ended (Done m) (committed s mark cs)
+    ended (Ok m) (committed s mark cs)
 
 -- refusals 4 to 7 and 15 are the plan's own, then 8, then 9
 unfoldable pub carried : State → Plan → Ended
@@ -228,7 +228,7 @@ blank marks s = state s.samples marks (counted marks) (replicate (length s.journ
 -- "It gives refusals 1 and 2 only, and returns 0 when accepted." Request P5: 14 is "given by opening and undo too".
 unfoldable pub opened_with : List ℕ → State → Ended
 unfolding alike
-opened_with marks s = unless_refused (alike s) s (ended (Done 0) (blank marks s))
+opened_with marks s = unless_refused (alike s) s (ended (Ok 0) (blank marks s))
 
 -- "Opening sets all marks and all journal words to 0 and used to 0."
 unfoldable pub opened : State → Ended
@@ -327,4 +327,4 @@ undone s =
     unless_refused (fitting s) s
     (if eqb s.used 0 then refused s Nothing else
     if malformed (length s.samples) s.journal s.used then refused s Malformed else
-    ended (Done (last_count s.journal s.used)) (taken_back s))
+    ended (Ok (last_count s.journal s.used)) (taken_back s))

@@ -3,12 +3,12 @@
 ghost use Rattle.std.specs.Prelude.{ℕ, ◌+◌, ◌*◌, ◌≤◌, ◌<◌, ◌≡◌, List, [], ◌∷◌, length};
 ghost use Rattle.std.proofs.lemmas.List.Edits.{sets};
 ghost use Rattle.recording.specs.Recording.{ended, most_samples, places, put, each, saved, three_words, entered, ranged, change, span, carried};
-ghost use Rattle.recording.specs.Lent.{left, left_reading, lent, lent_reading, given, given_reading};
+ghost use Rattle.recording.specs.Lent.{held, SameMemory};
 ghost use Rattle.recording.specs.Inner.{Fits, consecutive, filled, picked_by};
 
-use super::clear::set_marks;
+use super::clear::set_all;
 use super::counts::recount;
-use super::{Answer, Reason};
+use super::{Answer, Reason, Recording};
 use leaves::words::in_range;
 
 // Place, old word and old mark of one sample, written from journal word `at` on.
@@ -55,35 +55,64 @@ fn save_span(
     }
 }
 
-// Refusal 9 for a repair that names the len samples from `start` on, and else all of its commit but the
-// new words: they are the caller's to write, through the part of the recording that it lends on.
-pub fn enter_span(
-    samples: &[u32],
-    marks: &mut [u8],
-    counts: &mut [u16],
-    journal: &mut [u32],
-    used: &mut usize,
-    start: usize,
-    len: usize,
-    mark: u8,
-) -> Answer
-    requires { Fits (given_reading samples marks counts journal used) × (start + len ≤ length samples.now) }
-    ensures { (words : List ℕ) → length words ≡ len
-        → ended result (filled result start words (left_reading samples marks counts journal used))
-        ≡ entered (lent_reading samples marks counts journal used) mark (span start words) }
-{
-    if len == 0 {
-        return Answer::Done(0);
+impl Recording<'_> {
+    // Refusal 9 for a repair that names the len samples from `start` on, and else all of its commit but the
+    // new words: they are the caller's to write, whatever they are.
+    pub fn enter_span(&mut self, start: usize, len: usize, mark: u8) -> Answer
+        requires { Fits (held self.old) × (start + len ≤ length self.old.samples.now) }
+        ensures memory { SameMemory self.old self.new }
+        ensures samples { self.new.samples.now ≡ self.old.samples.now }
+        ensures rule { (words : List ℕ) → length words ≡ len
+            → ended result (filled result start words (held self.new)) ≡ entered (held self.old) mark (span start words) }
+    {
+        if len == 0 {
+            return Ok(0);
+        }
+        let at = *self.used;
+        if self.journal.len() - at < 3 * len + 2 {
+            return Err(Reason::Room);
+        }
+        let samples = &mut *self.samples;
+        let marks = &mut *self.marks;
+        let counts = &mut *self.counts;
+        let journal = &mut *self.journal;
+        let used = &mut *self.used;
+        save_span(samples, marks, journal, at, start, len);
+        set_all(marks, start, len, mark);
+        recount(marks, counts, journal, at, len);
+        seal(journal, used, len, mark);
+        Ok(len)
     }
-    let at = *used;
-    if journal.len() - at < 3 * len + 2 {
-        return Answer::Refused(Reason::Room);
+
+    // Commits a repair whose named samples and new words stand in a workspace of 2n words (see `picked_by`):
+    // refusals 8 and 9 in their order, and else the entry, the marks, the counts and the words.
+    pub fn commit_picked(&mut self, work: &[u32], mark: u8) -> Answer
+        requires { Fits (held self.old) × (length self.old.samples.now + length self.old.samples.now ≤ length work.now) }
+        ensures memory { SameMemory self.old self.new }
+        ensures rule { ended result (held self.new)
+            ≡ carried (held self.old) (change mark (picked_by work.now (length self.old.samples.now))) }
+    {
+        let n = self.samples.len();
+        check_picked(work, n)?;
+        let m = count_picked(work, n);
+        if m == 0 {
+            return Ok(0);
+        }
+        let at = *self.used;
+        if self.journal.len() - at < 3 * m + 2 {
+            return Err(Reason::Room);
+        }
+        let samples = &mut *self.samples;
+        let marks = &mut *self.marks;
+        let counts = &mut *self.counts;
+        let journal = &mut *self.journal;
+        let used = &mut *self.used;
+        save_picked(samples, marks, journal, at, work);
+        write_picked(samples, marks, work, mark);
+        recount(marks, counts, journal, at, m);
+        seal(journal, used, m, mark);
+        Ok(m)
     }
-    save_span(samples, marks, journal, at, start, len);
-    set_marks(marks, start, len, mark);
-    recount(marks, counts, journal, at, len);
-    seal(journal, used, len, mark);
-    Answer::Done(len)
 }
 
 // Refusal 8 for the samples that the workspace names (see `picked_by`); accepted, with 0, where all
@@ -98,11 +127,11 @@ fn check_picked(work: &[u32], n: usize) -> Answer
         i += 1;
         if work[n + place] != 0 {
             if !in_range(work[place]) {
-                return Answer::Refused(Reason::Result(place));
+                return Err(Reason::Result(place));
             }
         }
     }
-    Answer::Done(0)
+    Ok(0)
 }
 
 // How many samples the workspace names.
@@ -160,39 +189,4 @@ fn write_picked(samples: &mut [u32], marks: &mut [u8], work: &[u32], mark: u8)
             marks[place] = mark;
         }
     }
-}
-
-// Commits a repair whose named samples and new words stand in a workspace of 2n words (see `picked_by`):
-// refusals 8 and 9 in their order, and else the entry, the marks, the counts and the words.
-pub fn commit_picked(
-    samples: &mut [u32],
-    marks: &mut [u8],
-    counts: &mut [u16],
-    journal: &mut [u32],
-    used: &mut usize,
-    work: &[u32],
-    mark: u8,
-) -> Answer
-    requires { Fits (given samples marks counts journal used) × (length samples.old + length samples.old ≤ length work.now) }
-    ensures { ended result (left samples marks counts journal used)
-        ≡ carried (lent samples marks counts journal used) (change mark (picked_by work.now (length samples.old))) }
-{
-    let n = samples.len();
-    let checked = check_picked(work, n);
-    let Answer::Done(_) = checked else {
-        return checked;
-    };
-    let m = count_picked(work, n);
-    if m == 0 {
-        return Answer::Done(0);
-    }
-    let at = *used;
-    if journal.len() - at < 3 * m + 2 {
-        return Answer::Refused(Reason::Room);
-    }
-    save_picked(samples, marks, journal, at, work);
-    write_picked(samples, marks, work, mark);
-    recount(marks, counts, journal, at, m);
-    seal(journal, used, m, mark);
-    Answer::Done(m)
 }

@@ -61,17 +61,19 @@ pub enum Reason {
     Output,
 }
 
-// How a call ends: accepted, with the number of samples that it named or took back, or refused.
-#[derive(Clone, Copy)]
-pub enum Answer {
-    Done(usize),
-    Refused(Reason),
+// A recording in memory that is lent: the samples as words, a mark for each, a count for each block of marks,
+// the journal and how many of its words are used. What a repair or an undo works on.
+#[derive(Drop)]
+pub struct Recording<'a> {
+    pub samples: &'a mut [u32],
+    pub marks: &'a mut [u8],
+    pub counts: &'a mut [u16],
+    pub journal: &'a mut [u32],
+    pub used: &'a mut usize,
 }
 
-// What the question whether a span was measured gives: an answer, or why it is turned away.
-#[derive(Clone, Copy)]
-pub enum Verdict {
-    Yes,
-    No,
-    TurnedAway(Reason),
-}
+// How a call ends: accepted, with the number of samples that it named or took back, or refused.
+pub type Answer = Result<usize, Reason>;
+
+// What the question whether a span was measured gives: yes or no, or why it is turned away.
+pub type Verdict = Result<bool, Reason>;

@@ -2,12 +2,12 @@
 ghost use Rattle.std.specs.Prelude.{◌≡◌, [], map, length, replicate};
 ghost use Rattle.recording.specs.Counts.{blocks, counted};
 ghost use Rattle.recording.specs.Recording.{state, ended, alike, fitting, opened, kept_mark, opened_received};
-ghost use Rattle.recording.specs.Lent.{lent_reading, left_reading, seen};
+ghost use Rattle.recording.specs.Lent.{held, lent_reading, left_reading};
 
-use super::clear::{clear_words, set_marks};
+use super::clear::set_all;
 use super::counts::{block_count, count_all};
 use super::marks::{MEASURED, NOT_RECEIVED};
-use super::{Answer, Reason};
+use super::{Answer, Reason, Recording};
 
 // The number of samples that a recording has at most.
 pub const MOST_SAMPLES: usize = 1_048_576;
@@ -18,35 +18,28 @@ fn check_counts(samples: &[u32], marks: &[u8], counts: &[u16]) -> Answer
     ensures { result ≡ alike (state samples.now marks.now counts.now [] 0) }
 {
     if marks.len() != samples.len() {
-        return Answer::Refused(Reason::Counts);
+        return Err(Reason::Counts);
     }
     if counts.len() != block_count(samples.len()) {
-        return Answer::Refused(Reason::Blocks);
+        return Err(Reason::Blocks);
     }
     if MOST_SAMPLES < samples.len() {
-        return Answer::Refused(Reason::TooMany);
+        return Err(Reason::TooMany);
     }
-    Answer::Done(0)
+    Ok(0)
 }
 
-// Refusals 1, 14, 2 and 3, in this order; accepted, with 0, where none of them applies.
-pub fn check_sizes(
-    samples: &[u32],
-    marks: &[u8],
-    counts: &[u16],
-    journal: &[u32],
-    used: usize,
-) -> Answer
-    ensures { result ≡ fitting (seen samples marks counts journal used) }
-{
-    let counted = check_counts(samples, marks, counts);
-    let Answer::Done(_) = counted else {
-        return counted;
-    };
-    if journal.len() < used {
-        return Answer::Refused(Reason::Used);
+impl Recording<'_> {
+    // Refusals 1, 14, 2 and 3, in this order; accepted, with 0, where none of them applies.
+    pub fn check_sizes(&self) -> Answer
+        ensures { result ≡ fitting (held self.now) }
+    {
+        check_counts(self.samples, self.marks, self.counts)?;
+        if self.journal.len() < *self.used {
+            return Err(Reason::Used);
+        }
+        Ok(0)
     }
-    Answer::Done(0)
 }
 
 // Empties a journal: all its words become 0, and none is used.
@@ -54,7 +47,7 @@ fn empty_journal(journal: &mut [u32], used: &mut usize)
     ensures { (journal.new ≡ replicate (length journal.old) 0) × (used.new ≡ 0) }
 {
     let room = journal.len();
-    clear_words(journal, 0, room);
+    set_all(journal, 0, room, 0);
     *used = 0;
 }
 
@@ -79,14 +72,11 @@ pub fn open(
 ) -> Answer
     ensures { ended result (left_reading samples marks counts journal used) ≡ opened (lent_reading samples marks counts journal used) }
 {
-    let counted = check_counts(samples, marks, counts);
-    let Answer::Done(_) = counted else {
-        return counted;
-    };
+    check_counts(samples, marks, counts)?;
     let count = marks.len();
-    set_marks(marks, 0, count, MEASURED);
+    set_all(marks, 0, count, MEASURED);
     begin_afresh(marks, counts, journal, used);
-    Answer::Done(0)
+    Ok(0)
 }
 
 // What a lent mark becomes where a recording opens as it was received.
@@ -122,11 +112,8 @@ pub fn open_received(
 ) -> Answer
     ensures { ended result (left_reading samples marks counts journal used) ≡ opened_received (lent_reading samples marks counts journal used) }
 {
-    let counted = check_counts(samples, marks, counts);
-    let Answer::Done(_) = counted else {
-        return counted;
-    };
+    check_counts(samples, marks, counts)?;
     keep_received(marks);
     begin_afresh(marks, counts, journal, used);
-    Answer::Done(0)
+    Ok(0)
 }

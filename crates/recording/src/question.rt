@@ -78,14 +78,10 @@ pub fn measured(marks: &[u8], counts: &[u16], start: usize, len: usize) -> Verdi
     ensures { result ≡ span_verdict marks.now counts.now start len }
 {
     if counts.len() != block_count(marks.len()) {
-        return Verdict::TurnedAway(Reason::Blocks);
+        return Err(Reason::Blocks);
     }
     if span_past(marks.len(), start, len) {
-        return Verdict::TurnedAway(Reason::Gap);
+        return Err(Reason::Gap);
     }
-    if span_measured(marks, counts, start, len) {
-        Verdict::Yes
-    } else {
-        Verdict::No
-    }
+    Ok(span_measured(marks, counts, start, len))
 }

@@ -14,9 +14,9 @@ pub fn check_words(words: &[u32], first: usize) -> Answer
     let mut i: usize = 0;
     while i < words.len() {
         if !in_range(words[i]) {
-            return Answer::Refused(Reason::Read(first + i));
+            return Err(Reason::Read(first + i));
         }
         i += 1;
     }
-    Answer::Done(0)
+    Ok(0)
 }

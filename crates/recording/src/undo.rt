@@ -1,14 +1,13 @@
 // Undo: the last entry of the journal is taken back.
 ghost use Rattle.std.specs.Prelude.{◌≡◌, ◌+◌, ◌*◌, ◌≤◌, ◌<◌, length};
 ghost use Rattle.recording.specs.Recording.{ended, saved_at, put, old_words, old_marks, malformed, undone};
-ghost use Rattle.recording.specs.Lent.{left, lent};
+ghost use Rattle.recording.specs.Lent.{held, SameMemory};
 ghost use Rattle.recording.specs.Inner.{any_wrong, Restorable};
 
-use super::clear::clear_words;
+use super::clear::set_all;
 use super::counts::recount;
 use super::marks::is_made;
-use super::open::check_sizes;
-use super::{Answer, Reason};
+use super::{Answer, Reason, Recording};
 
 // The largest mark that a byte holds.
 const LAST_BYTE: u32 = 255;
@@ -87,33 +86,30 @@ fn give_back(samples: &mut [u32], marks: &mut [u8], journal: &[u32], begin: usiz
     }
 }
 
-// Takes back the last entry: its samples get their old words and marks, their blocks are recounted, and its
-// journal words become 0 and free. Any journal whatever is answered, also one that no repair wrote.
-pub fn undo(
-    samples: &mut [u32],
-    marks: &mut [u8],
-    counts: &mut [u16],
-    journal: &mut [u32],
-    used: &mut usize,
-) -> Answer
-    ensures { ended result (left samples marks counts journal used) ≡ undone (lent samples marks counts journal used) }
-{
-    let end = *used;
-    let sized = check_sizes(samples, marks, counts, journal, end);
-    let Answer::Done(_) = sized else {
-        return sized;
-    };
-    if end == 0 {
-        return Answer::Refused(Reason::Nothing);
+impl Recording<'_> {
+    // Takes back the last entry: its samples get their old words and marks, their blocks are recounted, and its
+    // journal words become 0 and free. Any journal whatever is answered, also one that no repair wrote.
+    pub fn undo(&mut self) -> Answer
+        ensures memory { SameMemory self.old self.new }
+        ensures rule { ended result (held self.new) ≡ undone (held self.old) }
+    {
+        self.check_sizes()?;
+        let end = *self.used;
+        if end == 0 {
+            return Err(Reason::Nothing);
+        }
+        if last_malformed(self.samples.len(), self.journal, end) {
+            return Err(Reason::Malformed);
+        }
+        let m = index(self.journal[end - 2]);
+        let begin = end - (3 * m + 2);
+        let samples = &mut *self.samples;
+        let marks = &mut *self.marks;
+        let journal = &mut *self.journal;
+        give_back(samples, marks, journal, begin, m);
+        recount(marks, self.counts, journal, begin, m);
+        set_all(journal, begin, 3 * m + 2, 0);
+        *self.used = begin;
+        Ok(m)
     }
-    if last_malformed(samples.len(), journal, end) {
-        return Answer::Refused(Reason::Malformed);
-    }
-    let m = index(journal[end - 2]);
-    let begin = end - (3 * m + 2);
-    give_back(samples, marks, journal, begin, m);
-    recount(marks, counts, journal, begin, m);
-    clear_words(journal, begin, 3 * m + 2);
-    *used = begin;
-    Answer::Done(m)
 }

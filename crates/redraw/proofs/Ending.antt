@@ -17,8 +17,8 @@ use Rattle.recording.specs.History.{Keeps, LawfulRepair}
 use Rattle.recording.specs.Inner.{Fits, picked_by}
 use Rattle.recording.specs.declared.Reason.{Reason}
 use Rattle.recording.specs.declared.Reason.TheVariants.{Setting, Workspace}
-use Rattle.recording.specs.declared.Answer.{Answer}
-use Rattle.recording.specs.declared.Answer.TheVariants.{Done, Refused}
+use Rattle.recording.specs.Answer.{Answer}
+use Rattle.std.specs.Prelude.{Ok, Err}
 use Rattle.leaves.proofs.Choice.{picks}
 use Rattle.recording.proofs.Performing.{commit_clears, cleared_too, picked_ascends, fitting_keeps, unless_kept}
 use Rattle.recording.proofs.open.Laws.{accepted_fits}
@@ -31,17 +31,17 @@ use Rattle.redraw.specs.Inner.{begun, Begun, words_in, drawn_in, Holds, Room}
 
 -- their tests, with what they test under other names
 abbrev first : Answer → Bool → Bool → Answer → Answer
-first (Done m) true c r = Refused Setting
-first (Done m) false true r = Refused Workspace
-first (Done m) false false r = r
-first (Refused why) b c r = Refused why
+first (Ok m) true c r = Err Setting
+first (Ok m) false true r = Err Workspace
+first (Ok m) false false r = r
+first (Err why) b c r = Err why
 
 first_is : (f : Answer) (b c : Bool) (r : Answer)
-    → first f b c r ≡ or_else f (if b then Refused Setting else if c then Refused Workspace else r)
-first_is (Done m) true c r = refl
-first_is (Done m) false true r = refl
-first_is (Done m) false false r = refl
-first_is (Refused why) b c r = refl
+    → first f b c r ≡ or_else f (if b then Err Setting else if c then Err Workspace else r)
+first_is (Ok m) true c r = refl
+first_is (Ok m) false true r = refl
+first_is (Ok m) false false r = refl
+first_is (Err why) b c r = refl
 
 module _ (allowed : Bool) (room : ℕ) (s : State) where
   abbrev tested : Answer → Bool → Bool → Answer
@@ -52,39 +52,39 @@ module _ (allowed : Bool) (room : ℕ) (s : State) where
   begun_first = first_is (fitting s) (not allowed) (ltb room (needed (length s.samples))) (readable 0 s.samples)
 
   module _ (a : Answer) (sized : a ≡ fitting s) where
-    pub begun_unfit : (why : Reason) → a ≡ Refused why → a ≡ begun allowed room s
+    pub begun_unfit : (why : Reason) → a ≡ Err why → a ≡ begun allowed room s
     begun_unfit why e = e ∙ ap (λ (f : Answer). tested f (not allowed) (ltb room (needed (length s.samples)))) (sym e ∙ sized) ∙ begun_first
 
-    module _ (m : ℕ) (fits : a ≡ Done m) where
-      pub begun_setting : allowed ≡ false → Refused Setting ≡ begun allowed room s
+    module _ (m : ℕ) (fits : a ≡ Ok m) where
+      pub begun_setting : allowed ≡ false → Err Setting ≡ begun allowed room s
       begun_setting h =
-          ap (λ (b : Bool). tested (Done m) (not b) (ltb room (needed (length s.samples)))) (sym h)
+          ap (λ (b : Bool). tested (Ok m) (not b) (ltb room (needed (length s.samples)))) (sym h)
           ∙ ap (λ (f : Answer). tested f (not allowed) (ltb room (needed (length s.samples)))) (sym fits ∙ sized)
           ∙ begun_first
 
       module _ (right : allowed ≡ true) where
-        passed : (c : Bool) → ltb room (needed (length s.samples)) ≡ c → tested (Done m) false c ≡ begun allowed room s
+        passed : (c : Bool) → ltb room (needed (length s.samples)) ≡ c → tested (Ok m) false c ≡ begun allowed room s
         passed c h =
-            ap (λ (b : Bool). tested (Done m) (not b) c) (sym right)
-            ∙ ap (λ (k : Bool). tested (Done m) (not allowed) k) (sym h)
+            ap (λ (b : Bool). tested (Ok m) (not b) c) (sym right)
+            ∙ ap (λ (k : Bool). tested (Ok m) (not allowed) k) (sym h)
             ∙ ap (λ (f : Answer). tested f (not allowed) (ltb room (needed (length s.samples)))) (sym fits ∙ sized)
             ∙ begun_first
 
-        pub begun_short : room < needed (length s.samples) → Refused Workspace ≡ begun allowed room s
+        pub begun_short : room < needed (length s.samples) → Err Workspace ≡ begun allowed room s
         begun_short h = passed true (lt-ltb _ _ h)
 
         pub begun_read : (b : Answer) → needed (length s.samples) ≤ room → b ≡ readable 0 s.samples → b ≡ begun allowed room s
         begun_read b h e = e ∙ passed false (le-ltb _ _ h)
 
 -- what they leave in the workspace
-pub begun_kept : (a : Answer) (why : Reason) (samples w : List ℕ) → a ≡ Refused why → Begun a samples w w
+pub begun_kept : (a : Answer) (why : Reason) (samples w : List ℕ) → a ≡ Err why → Begun a samples w w
 begun_kept a why samples w e = rw e refl
 
-pub begun_laid : (a : Answer) (m : ℕ) (samples w v : List ℕ) → a ≡ Done m → Holds (length samples) (untouched samples) w v → Begun a samples w v
+pub begun_laid : (a : Answer) (m : ℕ) (samples w v : List ℕ) → a ≡ Ok m → Holds (length samples) (untouched samples) w v → Begun a samples w v
 begun_laid a m samples w v e h = rw e h
 
 -- an accepted start: the workspace holds the samples
-module _ (samples w v : List ℕ) (a : Answer) (m : ℕ) (accepts : a ≡ Done m) (start : Begun a samples w v) where
+module _ (samples w v : List ℕ) (a : Answer) (m : ℕ) (accepts : a ≡ Ok m) (start : Begun a samples w v) where
   pub start_holds : Holds (length samples) (untouched samples) w v
   start_holds = subst (λ (x : Answer). Begun x samples w v) accepts start
 
@@ -104,32 +104,32 @@ module _ (samples w v : List ℕ) (a : Answer) (m : ℕ) (accepts : a ≡ Done m
 abbrev tests : State → Answer → Bool → Bool → Answer → Plan → Ended
 tests s f b c r p = unless_refused f s (carried s (if b then refuse Setting else if c then refuse Workspace else unless_read r p))
 
-pub done_not_refused : (m : ℕ) (why : Reason) → Done m ≡ Refused why → ⊥
+pub done_not_refused : (m : ℕ) (why : Reason) → Ok m ≡ Err why → ⊥
 done_not_refused m why both = let none : ◌≡◌ {A = ℕ} 0 1 = cc in omega arith
 
-refused_not_done : (m : ℕ) (why : Reason) → Refused why ≡ Done m → ⊥
+refused_not_done : (m : ℕ) (why : Reason) → Err why ≡ Ok m → ⊥
 refused_not_done m why both = done_not_refused m why (sym both)
 
 -- a refusal of the start is the repair's
-first_refuses : (s : State) (f : Answer) (b c : Bool) (r : Answer) (p : Plan) (why : Reason) → first f b c r ≡ Refused why
+first_refuses : (s : State) (f : Answer) (b c : Bool) (r : Answer) (p : Plan) (why : Reason) → first f b c r ≡ Err why
     → ended (first f b c r) s ≡ tests s f b c r p
 unfolding carried
-first_refuses s (Done m) true c r p why e = refl
-first_refuses s (Done m) false true r p why e = refl
-first_refuses s (Done m) false false (Done k) p why e = absurd (done_not_refused k why e)
-first_refuses s (Done m) false false (Refused x) p why e = refl
-first_refuses s (Refused x) b c r p why e = refl
+first_refuses s (Ok m) true c r p why e = refl
+first_refuses s (Ok m) false true r p why e = refl
+first_refuses s (Ok m) false false (Ok k) p why e = absurd (done_not_refused k why e)
+first_refuses s (Ok m) false false (Err x) p why e = refl
+first_refuses s (Err x) b c r p why e = refl
 
 -- and keeps the workspace
 first_keeps : (f : Answer) (b c : Bool) (r : Answer) (why : Reason)
-    → ((x : Reason) → f ≡ Refused x → clears f ≡ false) → ((x : Reason) → r ≡ Refused x → clears r ≡ false)
-    → first f b c r ≡ Refused why → clears (first f b c r) ≡ false
-first_keeps (Done m) true c r why keep-f keep-r e = refl
-first_keeps (Done m) false true r why keep-f keep-r e = refl
-first_keeps (Done m) false false r why keep-f keep-r e = keep-r why e
-first_keeps (Refused x) b c r why keep-f keep-r e = keep-f x refl
+    → ((x : Reason) → f ≡ Err x → clears f ≡ false) → ((x : Reason) → r ≡ Err x → clears r ≡ false)
+    → first f b c r ≡ Err why → clears (first f b c r) ≡ false
+first_keeps (Ok m) true c r why keep-f keep-r e = refl
+first_keeps (Ok m) false true r why keep-f keep-r e = refl
+first_keeps (Ok m) false false r why keep-f keep-r e = keep-r why e
+first_keeps (Err x) b c r why keep-f keep-r e = keep-f x refl
 
-read_keeps : (samples : List ℕ) (why : Reason) → readable 0 samples ≡ Refused why → clears (readable 0 samples) ≡ false
+read_keeps : (samples : List ℕ) (why : Reason) → readable 0 samples ≡ Err why → clears (readable 0 samples) ≡ false
 read_keeps samples why e =
     elim (readable_ends 0 samples) [
       | inl done ↦ absurd (done_not_refused 0 why (sym done ∙ e))
@@ -138,16 +138,16 @@ read_keeps samples why e =
 
 -- where the start accepts, the plan decides
 record Accepts (s : State) (f : Answer) (b c : Bool) (r : Answer) : Type 0 where
-  fits : (m : ℕ) × (f ≡ Done m)
+  fits : (m : ℕ) × (f ≡ Ok m)
   enough : c ≡ false
   on : (p : Plan) → carried s p ≡ tests s f b c r p
 
-first_accepts : (s : State) (f : Answer) (b c : Bool) (r : Answer) (m : ℕ) → first f b c r ≡ Done m → Accepts s f b c r
-first_accepts s (Done k) true c r m e = absurd (refused_not_done m Setting e)
-first_accepts s (Done k) false true r m e = absurd (refused_not_done m Workspace e)
-first_accepts s (Done k) false false (Done l) m e = record { fits = (k, refl); enough = refl; on = λ p. refl }
-first_accepts s (Done k) false false (Refused x) m e = absurd (refused_not_done m x e)
-first_accepts s (Refused x) b c r m e = absurd (refused_not_done m x e)
+first_accepts : (s : State) (f : Answer) (b c : Bool) (r : Answer) (m : ℕ) → first f b c r ≡ Ok m → Accepts s f b c r
+first_accepts s (Ok k) true c r m e = absurd (refused_not_done m Setting e)
+first_accepts s (Ok k) false true r m e = absurd (refused_not_done m Workspace e)
+first_accepts s (Ok k) false false (Ok l) m e = record { fits = (k, refl); enough = refl; on = λ p. refl }
+first_accepts s (Ok k) false false (Err x) m e = absurd (refused_not_done m x e)
+first_accepts s (Err x) b c r m e = absurd (refused_not_done m x e)
 
 -- the plan of what a workspace holds
 held_picked : (mark n : ℕ) (u : List ℕ) (d : Drawn) → drawn_in n u ≡ d → change mark (picked_by u n) ≡ change mark (picked 0 d.named d.words)
@@ -164,17 +164,17 @@ module _ (allowed : Bool) (w : List ℕ) (s : State) (a : Answer) (start : a ≡
   begins_so : a ≡ first (fitting s) (not allowed) short (readable 0 s.samples)
   begins_so = start ∙ sym (begun_first allowed (length w) s)
 
-  accepts : (m : ℕ) → a ≡ Done m → Accepts s (fitting s) (not allowed) short (readable 0 s.samples)
+  accepts : (m : ℕ) → a ≡ Ok m → Accepts s (fitting s) (not allowed) short (readable 0 s.samples)
   accepts m e = first_accepts s (fitting s) (not allowed) short (readable 0 s.samples) m (sym begins_so ∙ e)
 
   -- what an accepted start tells, of the workspace and for the end
-  pub start_room : (m : ℕ) (v : List ℕ) → a ≡ Done m → length v ≡ length w → Room (length s.samples) v
+  pub start_room : (m : ℕ) (v : List ℕ) → a ≡ Ok m → length v ≡ length w → Room (length s.samples) v
   start_room m v e count =
       let fits = (accepts m e).fits in
       room_stays (length s.samples) v w
       (record { few = (accepted_fits s fits.0 fits.1).few; enough = ltb-false _ _ (accepts m e).enough }) count
 
-  pub start_finishes : (m k l : ℕ) → a ≡ Done m → k ≡ length w → l ≡ k → Fits s × (needed (length s.samples) ≤ l)
+  pub start_finishes : (m k l : ℕ) → a ≡ Ok m → k ≡ length w → l ≡ k → Fits s × (needed (length s.samples) ≤ l)
   start_finishes m k l e count count' =
       let fits = (accepts m e).fits in
       (accepted_fits s fits.0 fits.1, omega (arith, (start_room m w e refl).enough, count, count'))
@@ -192,7 +192,7 @@ module _ (allowed : Bool) (w : List ℕ) (s : State) (a : Answer) (start : a ≡
     repair_is = refl
 
     -- a refusal of the start ends it
-    pub whole_refused : (why : Reason) (v : List ℕ) → a ≡ Refused why → Begun a s.samples w v → Ends a s v
+    pub whole_refused : (why : Reason) (v : List ℕ) → a ≡ Err why → Begun a s.samples w v → Ends a s v
     whole_refused why v e kept =
         let decided = sym begins_so ∙ e in (
           ap (λ (x : Answer). ended x s) begins_so
@@ -211,7 +211,7 @@ module _ (allowed : Bool) (w : List ℕ) (s : State) (a : Answer) (start : a ≡
             rw kept k
 
     -- what the workspace holds is committed
-    pub whole_done : (m : ℕ) (v u next : List ℕ) (r : Answer) (after : State) → a ≡ Done m
+    pub whole_done : (m : ℕ) (v u next : List ℕ) (r : Answer) (after : State) → a ≡ Ok m
         → Begun a s.samples w v → length v ≡ length w
         → Holds (length s.samples) (draw s.samples) v u → length u ≡ length v
         → ended r after ≡ carried s (change mark (picked_by u (length s.samples)))
@@ -227,7 +227,7 @@ module _ (allowed : Bool) (w : List ℕ) (s : State) (a : Answer) (start : a ≡
         )
 
     -- the same, where it is drawn from the words of the workspace
-    pub whole_drawn : (m : ℕ) (v u next : List ℕ) (r : Answer) (after : State) → a ≡ Done m
+    pub whole_drawn : (m : ℕ) (v u next : List ℕ) (r : Answer) (after : State) → a ≡ Ok m
         → Begun a s.samples w v → length v ≡ length w
         → Holds (length s.samples) (draw (words_in (length s.samples) v)) v u → length u ≡ length v
         → ended r after ≡ carried s (change mark (picked_by u (length s.samples)))

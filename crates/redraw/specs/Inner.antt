@@ -4,8 +4,8 @@ use Rattle.recording.specs.Recording.{State, most_samples, fitting, or_else, rea
 use Rattle.std.specs.Prelude.{if◌then◌else◌}
 use Rattle.recording.specs.Inner.{flags}
 use Rattle.recording.specs.declared.Reason.TheVariants.{Setting, Workspace}
-use Rattle.recording.specs.declared.Answer.{Answer}
-use Rattle.recording.specs.declared.Answer.TheVariants.{Done, Refused}
+use Rattle.recording.specs.Answer.{Answer}
+use Rattle.std.specs.Prelude.{Ok, Err}
 use Rattle.redraw.specs.Whole.{Drawn, drawn, untouched, needed}
 
 -- refusals 1, 14 and 2 to 4, 6 and 7, in this order; or else an acceptance
@@ -13,8 +13,8 @@ unfoldable pub begun : Bool → ℕ → State → Answer
 unfolding fitting readable
 begun allowed room s =
     or_else (fitting s)
-    (if not allowed then Refused Setting else
-    if ltb room (needed (length s.samples)) then Refused Workspace else
+    (if not allowed then Err Setting else
+    if ltb room (needed (length s.samples)) then Err Workspace else
     readable 0 s.samples)
 
 -- The workspace of a repair of n samples: n words, then n words of which each that is not 0 names the sample of its place.
@@ -50,8 +50,8 @@ flag_word b = if b then 1 else 0
 
 -- how a repair's start leaves its workspace: where it was accepted the samples stand there, and none is named
 abbrev pub Begun : Answer → List ℕ → List ℕ → List ℕ → Type 0
-Begun (Done m) samples before after = Holds (length samples) (untouched samples) before after
-Begun (Refused why) samples before after = after ≡ before
+Begun (Ok m) samples before after = Holds (length samples) (untouched samples) before after
+Begun (Err why) samples before after = after ≡ before
 
 -- a workspace that suffices for n samples, which refusal 2 does not turn away
 pub record Room (n : ℕ) (work : List ℕ) : Type 0 where

@@ -42,20 +42,14 @@ pub fn begin(
     ensures { (result ≡ begun allowed (length work.old) (seen samples marks counts journal used))
         × Begun result samples.now work.old work.new }
 {
-    let sized = check_sizes(samples, marks, counts, journal, used);
-    let Answer::Done(_) = sized else {
-        return sized;
-    };
+    check_sizes(samples, marks, counts, journal, used)?;
     if !allowed {
-        return Answer::Refused(Reason::Setting);
+        return Err(Reason::Setting);
     }
     if work.len() < 2 * samples.len() {
-        return Answer::Refused(Reason::Workspace);
+        return Err(Reason::Workspace);
     }
-    let read = check_words(samples, 0);
-    let Answer::Done(_) = read else {
-        return read;
-    };
+    check_words(samples, 0)?;
     lay_out(samples, work);
     read
 }

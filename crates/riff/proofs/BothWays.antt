@@ -8,7 +8,7 @@ use Rattle.wire.specs.Wire.{word_at, halves, encoded, encoded_halves, Below, byt
 use Rattle.wire.proofs.Laws.{length_encoded, halves_behind, halves_back, halves_below, word_of_encoded, half_of_word, encoded_bytes, encoded_halves_bytes}
 use Rattle.recording.specs.Recording.{most_samples}
 use Rattle.recording.specs.Marks.{measured}
-use Rattle.recording.specs.declared.Answer.TheVariants.{Done}
+use Rattle.std.specs.Prelude.{Ok}
 use Rattle.riff.specs.Values.{sample_word, value_of}
 use Rattle.riff.specs.Chunks.{riff_name, wave_name, fmt_name, data_name, head_bytes, size_at, next_at, named, chunks_from, end_from, first_of}
 use Rattle.riff.specs.Wav.{first_chunk, whole, first_named, fmt_bytes, format_at, data_at, is_wave, pcm, mono_pcm, rate_at, values_at, Heard, heard, wav_read}
@@ -183,7 +183,7 @@ module _ (file : List ℕ) (rate n : ℕ) (f : Headed file rate n) where
   reads : (values samples marks : List ℕ) → values_at file 36 ≡ values → length values ≤ most_samples → length values ≤ length samples
       → length values ≤ length marks
       → wav_read file samples marks
-      ≡ heard (Done (length values)) rate (sets samples 0 (map sample_word values)) (sets marks 0 (replicate (length values) measured))
+      ≡ heard (Ok (length values)) rate (sets samples 0 (map sample_word values)) (sets marks 0 (replicate (length values) measured))
   unfolding wav_read
   reads values samples marks are few room room' =
       rw (
@@ -229,7 +229,7 @@ written_is_read rate m words out samples marks small h room room' =
     ap (λ (l : List ℕ). wav_read l samples marks) file
     ∙ file_is_read rate values samples marks small (values_below words d.ranged) (omega (arith, count, d.few)) (omega (arith, count))
     (omega (arith, count))
-    ∙ ap (λ (n : ℕ). heard (Done n) rate (sets samples 0 (map sample_word values)) (sets marks 0 (replicate n measured))) count
+    ∙ ap (λ (n : ℕ). heard (Ok n) rate (sets samples 0 (map sample_word values)) (sets marks 0 (replicate n measured))) count
 
 -- ---- What was read is written
 
@@ -247,14 +247,14 @@ values_back (v ∷ vs) below = rw (every_value_back v (below 0), values_back vs 
 -- values that were read are written
 written_again : (rate n : ℕ) (values samples out : List ℕ) → Below halves_to values → length values ≡ n → n ≤ most_samples → n ≤ length samples
     → wav_bytes n ≤ length out
-    → wav_written (take n (sets samples 0 (map sample_word values))) rate out ≡ written (Done (wav_bytes n)) (sets out 0 (wav_of rate values))
+    → wav_written (take n (sets samples 0 (map sample_word values))) rate out ≡ written (Ok (wav_bytes n)) (sets out 0 (wav_of rate values))
 written_again rate n values samples out below count few room place =
     let words = map sample_word values in
     let long : length words ≡ n = length-map values sample_word ∙ count in
     ap (λ (l : List ℕ). wav_written l rate out) (front_again samples words n long room)
     ∙ wav_done words rate out (omega (arith, long)) (samples_ranged values below) (omega (arith, long))
-    ∙ ap (λ (k : ℕ). written (Done (wav_bytes k)) (sets out 0 (wav_of rate (map value_of words)))) long
-    ∙ ap (λ (l : List ℕ). written (Done (wav_bytes n)) (sets out 0 (wav_of rate l))) (values_back values below)
+    ∙ ap (λ (k : ℕ). written (Ok (wav_bytes k)) (sets out 0 (wav_of rate (map value_of words)))) long
+    ∙ ap (λ (l : List ℕ). written (Ok (wav_bytes n)) (sets out 0 (wav_of rate l))) (values_back values below)
 
 pub read_is_written : ReadIsWritten
 read_is_written file samples marks out n bytes h place =

@@ -10,8 +10,8 @@ use Rattle.recording.specs.Recording.{most_samples}
 use Rattle.recording.specs.Marks.{measured}
 use Rattle.recording.specs.declared.Reason.{Reason}
 use Rattle.recording.specs.declared.Reason.TheVariants.{TooMany, Wave, Coding, Output}
-use Rattle.recording.specs.declared.Answer.{Answer}
-use Rattle.recording.specs.declared.Answer.TheVariants.{Done, Refused}
+use Rattle.recording.specs.Answer.{Answer}
+use Rattle.std.specs.Prelude.{Ok, Err}
 use Rattle.recording.proofs.Answers.{never_both}
 use Rattle.riff.specs.declared.Sound.TheVariants.{Stands, NoWave}
 use Rattle.riff.specs.Values.{sample_word}
@@ -214,7 +214,7 @@ samples_all file samples rest from count i end all =
 -- ---- The lines of the rule
 
 -- a refusal, as the code has it
-pub away_so : (why : Reason) (a : Answer) (rate : ℕ) (samples marks : List ℕ) (call : Heard) → (a ≡ Refused why) × (rate ≡ 0)
+pub away_so : (why : Reason) (a : Answer) (rate : ℕ) (samples marks : List ℕ) (call : Heard) → (a ≡ Err why) × (rate ≡ 0)
     → unheard why samples marks ≡ call → heard a rate samples marks ≡ call
 away_so why a rate samples marks call e rest = rw (e.0, e.1) rest
 
@@ -255,7 +255,7 @@ module _ (file samples marks : List ℕ) where
 
         -- or the file is read
         pub done_reading : ltb (length samples) n || ltb (length marks) n ≡ false
-            → heard (Done n) (rate_at file (format_at file)) (sets samples 0 (map sample_word (values_at file (data_at file))))
+            → heard (Ok n) (rate_at file (format_at file)) (sets samples 0 (map sample_word (values_at file (data_at file))))
             (sets marks 0 (replicate n measured))
             ≡ wav_read file samples marks
         unfolding wav_read
@@ -310,7 +310,7 @@ module _ (file samples marks : List ℕ) (format data' : ℕ) (found : sound_in 
         pub read_all : (rate : ℕ) (samples' marks' : List ℕ) → size / 2 ≤ length marks → rate ≡ rate_at file format
             → samples' ≡ sets samples 0 (map sample_word (halves file (data' + head_bytes) (size / 2)))
             → marks' ≡ sets marks 0 (replicate (size / 2) measured)
-            → heard (Done (size / 2)) rate samples' marks' ≡ wav_read file samples marks
+            → heard (Ok (size / 2)) rate samples' marks' ≡ wav_read file samples marks
         read_all rate samples' marks' fits of-rate of-samples of-marks =
             let rooms : ltb (length samples) (size / 2) || ltb (length marks) (size / 2) ≡ false =
             rw (le-ltb (length samples) (size / 2) room, le-ltb (length marks) (size / 2) fits) refl in
@@ -330,7 +330,7 @@ pub record ReadDone (file samples marks : List ℕ) (n : ℕ) : Type 0 where
   pub samples_room : n ≤ length samples
   pub marks_room : n ≤ length marks
   pub all : wav_read file samples marks
-      ≡ heard (Done n) (rate_at file (format_at file)) (sets samples 0 (map sample_word (values_at file (data_at file)))) (sets marks 0 (replicate n measured))
+      ≡ heard (Ok n) (rate_at file (format_at file)) (sets samples 0 (map sample_word (values_at file (data_at file)))) (sets marks 0 (replicate n measured))
 
 pub data ReadEnding (file samples marks : List ℕ) : Type 0 where
   -- turned away by 19, 20, 2 or 21
@@ -377,8 +377,8 @@ pub read_only_these : (file samples marks : List ℕ)
 read_only_these file samples marks = go (read_ending file samples marks)
   where
     told : (why : Reason) → wav_read file samples marks ≡ unheard why samples marks
-        → (other : Reason) → why ≡ other → number (wav_read file samples marks).answer ≡ number (Refused other)
-    told why is other e = ap (λ (h : Heard). number h.answer) is ∙ ap (λ (r : Reason). number (Refused r)) e
+        → (other : Reason) → why ≡ other → number (wav_read file samples marks).answer ≡ number (Err other)
+    told why is other e = ap (λ (h : Heard). number h.answer) is ∙ ap (λ (r : Reason). number (Err r)) e
 
     go : ReadEnding file samples marks
         → let k = number (wav_read file samples marks).answer in (k ≡ 0) ⊎ (k ≡ 19) ⊎ (k ≡ 20) ⊎ (k ≡ 2) ⊎ (k ≡ 21)
@@ -389,23 +389,23 @@ read_only_these file samples marks = go (read_ending file samples marks)
     go (away why (inr (inr (inr e))) is) = inr (inr (inr (inr (told why is Output e))))
 
 -- and then both rooms are as they were, and no rate is told
-pub read_away : (file samples marks : List ℕ) (why : Reason) → (wav_read file samples marks).answer ≡ Refused why
+pub read_away : (file samples marks : List ℕ) (why : Reason) → (wav_read file samples marks).answer ≡ Err why
     → wav_read file samples marks ≡ unheard why samples marks
 read_away file samples marks why h = go (read_ending file samples marks)
   where
     go : ReadEnding file samples marks → wav_read file samples marks ≡ unheard why samples marks
     go (into n d) = never_both (sym (ap (λ (x : Heard). x.answer) d.all) ∙ h)
     go (away other e is) =
-        let same : Refused other ≡ Refused why = sym (ap (λ (x : Heard). x.answer) is) ∙ h in
+        let same : Err other ≡ Err why = sym (ap (λ (x : Heard). x.answer) is) ∙ h in
         is ∙ ap (λ (a : Answer). heard a 0 samples marks) same
 
 -- where it accepts, the file is read
-pub read_done : (file samples marks : List ℕ) (n : ℕ) → (wav_read file samples marks).answer ≡ Done n → ReadDone file samples marks n
+pub read_done : (file samples marks : List ℕ) (n : ℕ) → (wav_read file samples marks).answer ≡ Ok n → ReadDone file samples marks n
 read_done file samples marks n h = go (read_ending file samples marks)
   where
     go : ReadEnding file samples marks → ReadDone file samples marks n
     go (away why e is) = never_both (sym h ∙ ap (λ (x : Heard). x.answer) is)
     go (into k d) =
-        let same : Done k ≡ Done n = sym (ap (λ (x : Heard). x.answer) d.all) ∙ h in
+        let same : Ok k ≡ Ok n = sym (ap (λ (x : Heard). x.answer) d.all) ∙ h in
         let so_many : k ≡ n = cc in
         rw (← so_many) d

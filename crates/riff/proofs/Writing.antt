@@ -12,8 +12,8 @@ use Rattle.recording.specs.Answers.{number}
 use Rattle.recording.specs.Recording.{most_samples, readable}
 use Rattle.recording.specs.declared.Reason.{Reason}
 use Rattle.recording.specs.declared.Reason.TheVariants.{TooMany, Read, Output}
-use Rattle.recording.specs.declared.Answer.{Answer}
-use Rattle.recording.specs.declared.Answer.TheVariants.{Done, Refused}
+use Rattle.recording.specs.Answer.{Answer}
+use Rattle.std.specs.Prelude.{Ok, Err}
 use Rattle.recording.proofs.read.Laws.{ReadEnds, readable_ends}
 use Rattle.recording.proofs.Answers.{never_both}
 use Rattle.riff.specs.Values.{value_of}
@@ -50,18 +50,18 @@ abbrev pub AllInRange : List ℕ → Type 0
 AllInRange ws = (i : ℕ) → i < length ws → in_range (get_or ws i 0) ≡ true
 
 -- where the test of words accepts, they are
-pub accepted_in_range : (first m : ℕ) (ws : List ℕ) → readable first ws ≡ Done m → AllInRange ws
+pub accepted_in_range : (first m : ℕ) (ws : List ℕ) → readable first ws ≡ Ok m → AllInRange ws
 unfolding readable
 accepted_in_range first m [] h = λ i inside. absurd (omega arith)
 accepted_in_range first m (w ∷ ws) h = go (truth (in_range w)) (accepted_in_range (first + 1) m ws)
   where
-    go : EitherWay (in_range w) → (readable (first + 1) ws ≡ Done m → AllInRange ws) → AllInRange (w ∷ ws)
-    go (inr off) later i inside = (let refused : Refused (Read _) ≡ Done m = rw off at h in never_both (sym refused))
+    go : EitherWay (in_range w) → (readable (first + 1) ws ≡ Ok m → AllInRange ws) → AllInRange (w ∷ ws)
+    go (inr off) later i inside = (let refused : Err (Read _) ≡ Ok m = rw off at h in never_both (sym refused))
     go (inl on) later zero inside = on
     go (inl on) later (suc i) inside = later (rw on at h) i (omega arith)
 
 -- and where they are, it accepts
-pub in_range_accepted : (first : ℕ) (ws : List ℕ) → AllInRange ws → readable first ws ≡ Done 0
+pub in_range_accepted : (first : ℕ) (ws : List ℕ) → AllInRange ws → readable first ws ≡ Ok 0
 unfolding readable
 in_range_accepted first [] h = refl
 in_range_accepted first (w ∷ ws) h =
@@ -71,23 +71,23 @@ in_range_accepted first (w ∷ ws) h =
 
 module _ (samples : List ℕ) (rate : ℕ) (out : List ℕ) where
   -- refusal 2
-  pub writes_many : most_samples < length samples → written (Refused TooMany) out ≡ wav_written samples rate out
+  pub writes_many : most_samples < length samples → written (Err TooMany) out ≡ wav_written samples rate out
   unfolding wav_written
   writes_many many = rw (lt-ltb most_samples (length samples) many) refl
 
   module _ (few : length samples ≤ most_samples) (read : Answer) (told : read ≡ readable 0 samples) where
     -- refusal 7
-    pub writes_unread : (why : Reason) → read ≡ Refused why → written read out ≡ wav_written samples rate out
+    pub writes_unread : (why : Reason) → read ≡ Err why → written read out ≡ wav_written samples rate out
     unfolding wav_written
     writes_unread why is = rw (le-ltb most_samples (length samples) few, sym told ∙ is) (ap (λ (a : Answer). written a out) is)
 
-    module _ (m : ℕ) (is : read ≡ Done m) where
+    module _ (m : ℕ) (is : read ≡ Ok m) where
       room_left : laid_down samples rate out ≡ wav_written samples rate out
       unfolding wav_written
       room_left = rw (le-ltb most_samples (length samples) few, sym told ∙ is) refl
 
       -- refusal 21
-      pub writes_short : length out < wav_bytes (length samples) → written (Refused Output) out ≡ wav_written samples rate out
+      pub writes_short : length out < wav_bytes (length samples) → written (Err Output) out ≡ wav_written samples rate out
       writes_short short = rw (lt-ltb (length out) (wav_bytes (length samples)) short) refl ∙ room_left
 
       -- or there is room behind the head, and all words are in range
@@ -100,9 +100,9 @@ module _ (samples : List ℕ) (rate : ℕ) (out : List ℕ) where
       -- and an acceptance
       pub writes_done : wav_bytes (length samples) ≤ length out → (begun after : List ℕ) → begun ≡ sets out 0 (encoded (head rate (length samples)))
           → after ≡ sets begun 44 (encoded_halves (map value_of samples))
-          → written (Done (wav_bytes (length samples))) after ≡ wav_written samples rate out
+          → written (Ok (wav_bytes (length samples))) after ≡ wav_written samples rate out
       writes_done enough begun after first second =
-          ap (written (Done (wav_bytes (length samples))))
+          ap (written (Ok (wav_bytes (length samples))))
           (second ∙ ap (λ (l : List ℕ). sets l 44 (encoded_halves (map value_of samples))) first ∙ wav_stored out rate samples)
           ∙ rw (le-ltb (length out) (wav_bytes (length samples)) enough) refl
           ∙ room_left
@@ -115,12 +115,12 @@ pub record WavDone (samples : List ℕ) (rate : ℕ) (out : List ℕ) (m : ℕ) 
   pub few : length samples ≤ most_samples
   pub ranged : AllInRange samples
   pub room : wav_bytes (length samples) ≤ length out
-  pub file : wav_written samples rate out ≡ written (Done (wav_bytes (length samples))) (sets out 0 (wav_of rate (map value_of samples)))
+  pub file : wav_written samples rate out ≡ written (Ok (wav_bytes (length samples))) (sets out 0 (wav_of rate (map value_of samples)))
 
 pub data WavEnding (samples : List ℕ) (rate : ℕ) (out : List ℕ) : Type 0 where
   -- turned away by 2, 7 or 21
   away : (why : Reason) → (why ≡ TooMany) ⊎ ((i : ℕ) × (why ≡ Read i)) ⊎ (why ≡ Output)
-      → wav_written samples rate out ≡ written (Refused why) out
+      → wav_written samples rate out ≡ written (Err why) out
       → WavEnding samples rate out
   -- written
   laid : WavDone samples rate out (wav_bytes (length samples)) → WavEnding samples rate out
@@ -128,7 +128,7 @@ pub data WavEnding (samples : List ℕ) (rate : ℕ) (out : List ℕ) : Type 0 w
 -- it ends so where there is room and all words are in range
 pub wav_done : (samples : List ℕ) (rate : ℕ) (out : List ℕ) → length samples ≤ most_samples → AllInRange samples
     → wav_bytes (length samples) ≤ length out
-    → wav_written samples rate out ≡ written (Done (wav_bytes (length samples))) (sets out 0 (wav_of rate (map value_of samples)))
+    → wav_written samples rate out ≡ written (Ok (wav_bytes (length samples))) (sets out 0 (wav_of rate (map value_of samples)))
 unfolding wav_written
 wav_done samples rate out few ranged room =
     rw (
@@ -147,11 +147,11 @@ wav_ending samples rate out = go (truth (ltb most_samples (length samples))) (re
     go (inl many) b c = away TooMany (inl refl) (sym (writes_many samples rate out (ltb-true most_samples (length samples) many)))
     go (inr few) (inr (i, e)) c =
         let fit = ltb-false most_samples (length samples) few in
-        away (Read i) (inr (inl (i, refl))) (sym (writes_unread samples rate out fit (Refused (Read i)) (sym e) (Read i) refl))
+        away (Read i) (inr (inl (i, refl))) (sym (writes_unread samples rate out fit (Err (Read i)) (sym e) (Read i) refl))
     go (inr few) (inl e) (inl short) =
         away Output (inr (inr refl))
         (sym
-        (writes_short samples rate out (ltb-false most_samples (length samples) few) (Done 0) (sym e) 0 refl
+        (writes_short samples rate out (ltb-false most_samples (length samples) few) (Ok 0) (sym e) 0 refl
         (ltb-true (length out) (wav_bytes (length samples)) short)))
     go (inr few) (inl e) (inr long) =
         let fit = ltb-false most_samples (length samples) few in
@@ -167,30 +167,30 @@ written_only_these samples rate out = go (wav_ending samples rate out)
     go : WavEnding samples rate out
         → let k = number (wav_written samples rate out).answer in (k ≡ 0) ⊎ (k ≡ 2) ⊎ (k ≡ 7) ⊎ (k ≡ 21)
     go (laid d) = inl (ap (λ (w : Written). number w.answer) d.file)
-    go (away why (inl e) is) = inr (inl (ap (λ (w : Written). number w.answer) is ∙ ap (λ (r : Reason). number (Refused r)) e))
+    go (away why (inl e) is) = inr (inl (ap (λ (w : Written). number w.answer) is ∙ ap (λ (r : Reason). number (Err r)) e))
     go (away why (inr (inl (i, e))) is) =
-        inr (inr (inl (ap (λ (w : Written). number w.answer) is ∙ ap (λ (r : Reason). number (Refused r)) e)))
+        inr (inr (inl (ap (λ (w : Written). number w.answer) is ∙ ap (λ (r : Reason). number (Err r)) e)))
     go (away why (inr (inr e)) is) =
-        inr (inr (inr (ap (λ (w : Written). number w.answer) is ∙ ap (λ (r : Reason). number (Refused r)) e)))
+        inr (inr (inr (ap (λ (w : Written). number w.answer) is ∙ ap (λ (r : Reason). number (Err r)) e)))
 
 -- and then the room is as it was
-pub written_away : (samples : List ℕ) (rate : ℕ) (out : List ℕ) (why : Reason) → (wav_written samples rate out).answer ≡ Refused why
-    → wav_written samples rate out ≡ written (Refused why) out
+pub written_away : (samples : List ℕ) (rate : ℕ) (out : List ℕ) (why : Reason) → (wav_written samples rate out).answer ≡ Err why
+    → wav_written samples rate out ≡ written (Err why) out
 written_away samples rate out why h = go (wav_ending samples rate out)
   where
-    go : WavEnding samples rate out → wav_written samples rate out ≡ written (Refused why) out
+    go : WavEnding samples rate out → wav_written samples rate out ≡ written (Err why) out
     go (laid d) = never_both (sym (ap (λ (w : Written). w.answer) d.file) ∙ h)
     go (away other e is) =
-        let same : Refused other ≡ Refused why = sym (ap (λ (w : Written). w.answer) is) ∙ h in
+        let same : Err other ≡ Err why = sym (ap (λ (w : Written). w.answer) is) ∙ h in
         is ∙ ap (λ (a : Answer). written a out) same
 
 -- where it accepts, the file is written
-pub written_done : (samples : List ℕ) (rate : ℕ) (out : List ℕ) (m : ℕ) → (wav_written samples rate out).answer ≡ Done m
+pub written_done : (samples : List ℕ) (rate : ℕ) (out : List ℕ) (m : ℕ) → (wav_written samples rate out).answer ≡ Ok m
     → WavDone samples rate out m
 written_done samples rate out m h = go (wav_ending samples rate out)
   where
     go : WavEnding samples rate out → WavDone samples rate out m
     go (away why e is) = never_both (sym h ∙ ap (λ (w : Written). w.answer) is)
     go (laid d) =
-        let same : Done m ≡ Done (wav_bytes (length samples)) = sym h ∙ ap (λ (w : Written). w.answer) d.file in
+        let same : Ok m ≡ Ok (wav_bytes (length samples)) = sym h ∙ ap (λ (w : Written). w.answer) d.file in
         record { count = (cc); few = d.few; ranged = d.ranged; room = d.room; file = d.file }

@@ -10,7 +10,7 @@ use Rattle.recording.specs.Answers.{number}
 use Rattle.recording.specs.Recording.{most_samples}
 use Rattle.recording.specs.Marks.{measured}
 use Rattle.recording.specs.declared.Reason.{Reason}
-use Rattle.recording.specs.declared.Answer.TheVariants.{Done, Refused}
+use Rattle.std.specs.Prelude.{Ok, Err}
 use Rattle.riff.specs.Values.{all_values, below_zero, size_of, sample_word, scale, value_of}
 use Rattle.riff.specs.Chunks.{beginnings, ending, chunks_from, end_from}
 use Rattle.riff.specs.Wav.{format_at, data_at, rate_at, values_at, heard, unheard, wav_read, wav_of, wav_bytes, written, wav_written}
@@ -59,10 +59,10 @@ OnlyTheseRefusals =
 -- "The output is then unwritten.", and no rate is told
 abbrev pub RefusalWritesNothing : Type 0
 RefusalWritesNothing =
-    ((file samples marks : List ℕ) (why : Reason) → (wav_read file samples marks).answer ≡ Refused why
+    ((file samples marks : List ℕ) (why : Reason) → (wav_read file samples marks).answer ≡ Err why
     → wav_read file samples marks ≡ unheard why samples marks)
-    × ((samples : List ℕ) (rate : ℕ) (out : List ℕ) (why : Reason) → (wav_written samples rate out).answer ≡ Refused why
-    → wav_written samples rate out ≡ written (Refused why) out)
+    × ((samples : List ℕ) (rate : ℕ) (out : List ℕ) (why : Reason) → (wav_written samples rate out).answer ≡ Err why
+    → wav_written samples rate out ≡ written (Err why) out)
 
 -- ---- Both ways
 
@@ -72,22 +72,22 @@ FileIsRead =
     (rate : ℕ) (values samples marks : List ℕ) → rate < words_to → Below halves_to values → length values ≤ most_samples
     → length values ≤ length samples → length values ≤ length marks
     → wav_read (wav_of rate values) samples marks
-    ≡ heard (Done (length values)) rate (sets samples 0 (map sample_word values)) (sets marks 0 (replicate (length values) measured))
+    ≡ heard (Ok (length values)) rate (sets samples 0 (map sample_word values)) (sets marks 0 (replicate (length values) measured))
 
 -- reading what was written gives the samples that the written values stand for, and the rate
 abbrev pub WrittenIsRead : Type 0
 WrittenIsRead =
-    (rate m : ℕ) (words out samples marks : List ℕ) → rate < words_to → (wav_written words rate out).answer ≡ Done m
+    (rate m : ℕ) (words out samples marks : List ℕ) → rate < words_to → (wav_written words rate out).answer ≡ Ok m
     → length words ≤ length samples → length words ≤ length marks
     → wav_read (take m (wav_written words rate out).out) samples marks
-    ≡ heard (Done (length words)) rate (sets samples 0 (map sample_word (map value_of words)))
+    ≡ heard (Ok (length words)) rate (sets samples 0 (map sample_word (map value_of words)))
     (sets marks 0 (replicate (length words) measured))
 
 -- "Reading then writing gives the same sample values": what was read of a file, written at the rate that was read, is the file of the same
 -- values and rate, where there is room for it
 abbrev pub ReadIsWritten : Type 0
 ReadIsWritten =
-    (file samples marks out : List ℕ) (n : ℕ) → Below bytes_to file → (wav_read file samples marks).answer ≡ Done n → wav_bytes n ≤ length out
+    (file samples marks out : List ℕ) (n : ℕ) → Below bytes_to file → (wav_read file samples marks).answer ≡ Ok n → wav_bytes n ≤ length out
     → let read = wav_read file samples marks in
     wav_written (take n read.samples) read.rate out
-    ≡ written (Done (wav_bytes n)) (sets out 0 (wav_of (rate_at file (format_at file)) (values_at file (data_at file))))
+    ≡ written (Ok (wav_bytes n)) (sets out 0 (wav_of (rate_at file (format_at file)) (values_at file (data_at file))))

@@ -3,7 +3,7 @@
 use Rattle.std.specs.Prelude.{◌≡◌, ℕ, ◌+◌, List, [], ◌∷◌, ◌++◌, map, take, refl}
 use Rattle.std.specs.Float.Ieee.{lt}
 use Rattle.recording.specs.Answers.{number}
-use Rattle.recording.specs.declared.Answer.TheVariants.{Done}
+use Rattle.std.specs.Prelude.{Ok}
 use Rattle.riff.specs.Values.{sample_word, value_of}
 use Rattle.riff.specs.Wav.{heard, wav_read, wav_of}
 
@@ -111,7 +111,7 @@ rows_hold = refl
 
 -- the two samples of the first, 1/32768 and -2/32768, in rooms that are longer, with the rate; what lies behind them stays
 pub read_by_hand : wav_read (file 36 (mono_fmt ++ two_data)) (9 ∷ 9 ∷ 9 ∷ []) (9 ∷ 9 ∷ 9 ∷ [])
-    ≡ heard (Done 2) 48000 (0x38000000 ∷ 0xb8800000 ∷ 9 ∷ []) (0 ∷ 0 ∷ 9 ∷ [])
+    ≡ heard (Ok 2) 48000 (0x38000000 ∷ 0xb8800000 ∷ 9 ∷ []) (0 ∷ 0 ∷ 9 ∷ [])
 unfolding wav_read sample_word
 read_by_hand = refl
 

@@ -7,8 +7,8 @@ use Rattle.recording.specs.Recording.{most_samples, readable}
 use Rattle.recording.specs.Marks.{measured}
 use Rattle.recording.specs.declared.Reason.{Reason}
 use Rattle.recording.specs.declared.Reason.TheVariants.{TooMany, Wave, Coding, Output}
-use Rattle.recording.specs.declared.Answer.{Answer}
-use Rattle.recording.specs.declared.Answer.TheVariants.{Done, Refused}
+use Rattle.recording.specs.Answer.{Answer}
+use Rattle.std.specs.Prelude.{Ok, Err}
 use Rattle.riff.specs.Values.{sample_word, value_of}
 use Rattle.riff.specs.Chunks.{riff_name, wave_name, fmt_name, data_name, head_bytes, size_at, named, beginnings, ending, chunks_from, end_from, first_of}
 
@@ -92,7 +92,7 @@ heard a rate samples marks = record { answer = a; rate = rate; samples = samples
 
 -- "The output is then unwritten."
 abbrev pub unheard : Reason → List ℕ → List ℕ → Heard
-unheard why samples marks = heard (Refused why) 0 samples marks
+unheard why samples marks = heard (Err why) 0 samples marks
 
 -- "19, ..; 20, not mono 16-bit PCM; 21, output room short; in that order. Reading more than 1,048,576 samples gives 2, after 20"; or else
 -- the samples stand in the first places of their room, and "The fresh recording has marks 0"
@@ -105,7 +105,7 @@ wav_read file samples marks =
     let n = length values in
     if nat_lt most_samples n then unheard TooMany samples marks else
     if nat_lt (length samples) n || nat_lt (length marks) n then unheard Output samples marks else
-    heard (Done n) (rate_at file (format_at file)) (sets samples 0 (map sample_word values)) (sets marks 0 (replicate n measured))
+    heard (Ok n) (rate_at file (format_at file)) (sets samples 0 (map sample_word values)) (sets marks 0 (replicate n measured))
 
 -- ---- Writing: "Write the same kind back at the rate that was read, a 16-byte fmt chunk and then data"
 
@@ -150,12 +150,12 @@ written a out = record { answer = a; out = out }
 -- the file, where there is room for it: "21, output room short"
 abbrev pub laid_down : List ℕ → ℕ → List ℕ → Written
 laid_down samples rate out =
-    if nat_lt (length out) (wav_bytes (length samples)) then written (Refused Output) out else
-    written (Done (wav_bytes (length samples))) (sets out 0 (wav_of rate (map value_of samples)))
+    if nat_lt (length out) (wav_bytes (length samples)) then written (Err Output) out else
+    written (Ok (wav_bytes (length samples))) (sets out 0 (wav_of rate (map value_of samples)))
 
 -- 2 for too many samples; "writing a sample out of range gives 7 with the lowest place, before 21"
 unfoldable pub wav_written : List ℕ → ℕ → List ℕ → Written
 unfolding readable wav_of value_of
 wav_written samples rate out =
-    if nat_lt most_samples (length samples) then written (Refused TooMany) out else
-    elim (readable 0 samples) [ Done m ↦ laid_down samples rate out | Refused why ↦ written (Refused why) out ]
+    if nat_lt most_samples (length samples) then written (Err TooMany) out else
+    elim (readable 0 samples) [ Ok m ↦ laid_down samples rate out | Err why ↦ written (Err why) out ]

@@ -86,10 +86,10 @@ fn store_samples(file: &[u8], from: usize, samples: &mut [u32], count: usize)
 
 // A file that is turned away: of its rate nothing is told.
 fn refused(why: Reason) -> WavRead
-    ensures { (result.answer ≡ Answer.Refused why) × (result.rate ≡ 0) }
+    ensures { (result.answer ≡ Err why) × (result.rate ≡ 0) }
 {
     WavRead {
-        answer: Answer::Refused(why),
+        answer: Err(why),
         rate: 0,
     }
 }
@@ -119,7 +119,7 @@ pub fn read_wav(file: &[u8], samples: &mut [u32], marks: &mut [u8]) -> WavRead
     store_samples(file, data + HEAD_BYTES, samples, n);
     set_marks(marks, 0, n, MEASURED);
     WavRead {
-        answer: Answer::Done(n),
+        answer: Ok(n),
         rate: word_at(file, format + HEAD_BYTES + 4),
     }
 }

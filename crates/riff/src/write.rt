@@ -67,18 +67,15 @@ pub fn write_wav(samples: &[u32], rate: u32, out: &mut [u8]) -> Answer
     ensures { written result out.new ≡ wav_written samples.now rate out.old }
 {
     if MOST_SAMPLES < samples.len() {
-        return Answer::Refused(Reason::TooMany);
+        return Err(Reason::TooMany);
     }
-    let read = check_words(samples, 0);
-    let Answer::Done(_) = read else {
-        return read;
-    };
+    check_words(samples, 0)?;
     let n = samples.len();
     let bytes = HEADER_BYTES + 2 * n;
     if out.len() < bytes {
-        return Answer::Refused(Reason::Output);
+        return Err(Reason::Output);
     }
     write_head(out, rate, n);
     write_values(samples, out);
-    Answer::Done(bytes)
+    Ok(bytes)
 }

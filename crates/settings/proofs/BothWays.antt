@@ -12,7 +12,7 @@ use borrow.Author.Tests.{le-ltb}
 use Rattle.leaves.specs.Arithmetic.{float}
 use Rattle.leaves.proofs.Stores.{stored_over}
 use Rattle.wire.specs.Wire.{word_at, Below, bytes_to, words_to}
-use Rattle.recording.specs.declared.Answer.TheVariants.{Done}
+use Rattle.std.specs.Prelude.{Ok}
 use Rattle.settings.specs.declared.SettingsV1.{SettingsV1}
 use Rattle.settings.specs.declared.Settings.{Settings}
 use Rattle.settings.specs.declared.KeptV1.{KeptV1}
@@ -67,22 +67,22 @@ unfolding write_from write
 writes ws room count = rw (le-ltb (length ws) parts (omega (arith, count))) refl
 
 reads_v1 : (block area : List ℕ) (s : SettingsV1) → parts_v1 ≤ length area → read_v1 block ≡ KnownV1 s
-    → read_to_v1 block area ≡ left (Done parts_v1) (sets area 0 (words_v1 s))
+    → read_to_v1 block area ≡ left (Ok parts_v1) (sets area 0 (words_v1 s))
 unfolding read_to_v1
 reads_v1 block area s room h = rw (le-ltb (length area) parts_v1 room, h) refl
 
 reads : (block area : List ℕ) (s : Settings) → parts ≤ length area → read block ≡ Known s
-    → read_to block area ≡ left (Done parts) (sets area 0 (words s))
+    → read_to block area ≡ left (Ok parts) (sets area 0 (words s))
 unfolding read_to
 reads block area s room h = rw (le-ltb (length area) parts room, h) refl
 
 read_back_v1 : (ws room area : List ℕ) (m : ℕ) → length ws ≡ parts_v1 → Below words_to ws → parts_v1 ≤ length area
-    → (write_from_v1 ws room).answer ≡ Done m
-    → read_to_v1 (take m (write_from_v1 ws room).lent) area ≡ left (Done parts_v1) (sets area 0 ws)
+    → (write_from_v1 ws room).answer ≡ Ok m
+    → read_to_v1 (take m (write_from_v1 ws room).lent) area ≡ left (Ok parts_v1) (sets area 0 ws)
 read_back_v1 ws room area m count below place h =
     ap (λ (block : List ℕ). read_to_v1 block area) block_is
     ∙ reads_v1 (block_of 1 (words_v1 s)) area s place (written_is_read_v1 s (holds_v1 ws below) a.good)
-    ∙ ap (λ (l : List ℕ). left (Done parts_v1) (sets area 0 l)) (words_are_kept.0 ws count below a.good)
+    ∙ ap (λ (l : List ℕ). left (Ok parts_v1) (sets area 0 l)) (words_are_kept.0 ws count below a.good)
   where
     s : SettingsV1
     s = settings_v1 ws
@@ -101,12 +101,12 @@ read_back_v1 ws room area m count below place h =
         ∙ front_again room (block_of 1 (words_v1 s)) m (omega (arith, a.count, long)) (omega (arith, a.enough, long))
 
 read_back : (ws room area : List ℕ) (m : ℕ) → length ws ≡ parts → Below words_to ws → parts ≤ length area
-    → (write_from ws room).answer ≡ Done m
-    → read_to (take m (write_from ws room).lent) area ≡ left (Done parts) (sets area 0 ws)
+    → (write_from ws room).answer ≡ Ok m
+    → read_to (take m (write_from ws room).lent) area ≡ left (Ok parts) (sets area 0 ws)
 read_back ws room area m count below place h =
     ap (λ (block : List ℕ). read_to block area) block_is
     ∙ reads (block_of 2 (words s)) area s place (written_is_read s (holds ws below) a.good)
-    ∙ ap (λ (l : List ℕ). left (Done parts) (sets area 0 l)) (words_are_kept.1 ws count below a.good)
+    ∙ ap (λ (l : List ℕ). left (Ok parts) (sets area 0 l)) (words_are_kept.1 ws count below a.good)
   where
     s : Settings
     s = settings ws
@@ -130,7 +130,7 @@ calls_read_back = (read_back_v1, read_back)
 -- ---- Read, and then written
 
 -- what a reader told
-told_v1 : (block area : List ℕ) (m : ℕ) → parts_v1 ≤ length area → (read_to_v1 block area).answer ≡ Done m
+told_v1 : (block area : List ℕ) (m : ℕ) → parts_v1 ≤ length area → (read_to_v1 block area).answer ≡ Ok m
     → (s : SettingsV1) × (read_v1 block ≡ KnownV1 s)
 unfolding read_to_v1
 told_v1 block area m room h = go (read_v1 block) refl
@@ -139,7 +139,7 @@ told_v1 block area m room h = go (read_v1 block) refl
     go (KnownV1 s) e = (s, e)
     go (TurnedAwayV1 why) e = no_refusal (rw (le-ltb (length area) parts_v1 room, e) at h)
 
-told : (block area : List ℕ) (m : ℕ) → parts ≤ length area → (read_to block area).answer ≡ Done m → (s : Settings) × (read block ≡ Known s)
+told : (block area : List ℕ) (m : ℕ) → parts ≤ length area → (read_to block area).answer ≡ Ok m → (s : Settings) × (read block ≡ Known s)
 unfolding read_to
 told block area m room h = go (read block) refl
   where
@@ -148,8 +148,8 @@ told block area m room h = go (read block) refl
     go (TurnedAway why) e = no_refusal (rw (le-ltb (length area) parts room, e) at h)
 
 write_back_v1 : (block area room : List ℕ) (m : ℕ) → Below bytes_to block → length area ≡ parts_v1 → block_bytes parts_v1 ≤ length room
-    → (read_to_v1 block area).answer ≡ Done m
-    → write_from_v1 (read_to_v1 block area).lent room ≡ left (Done (block_bytes parts_v1)) (sets room 0 block)
+    → (read_to_v1 block area).answer ≡ Ok m
+    → write_from_v1 (read_to_v1 block area).lent room ≡ left (Ok (block_bytes parts_v1)) (sets room 0 block)
 write_back_v1 block area room m below count enough h =
     let place : parts_v1 ≤ length area = omega (arith, count) in
     let found = told_v1 block area m place h in
@@ -162,11 +162,11 @@ write_back_v1 block area room m below count enough h =
     ∙ writes_v1 ws room (length_v1 s)
     ∙ ap (λ (t : SettingsV1). stored 1 (words_v1 t) (allowed_v1 t) room) kept.back
     ∙ sym (good_block 1 parts_v1 ws room (allowed_v1 s) (length_v1 s) enough kept.good)
-    ∙ ap (λ (l : List ℕ). left (Done (block_bytes parts_v1)) (sets room 0 l)) kept.same
+    ∙ ap (λ (l : List ℕ). left (Ok (block_bytes parts_v1)) (sets room 0 l)) kept.same
 
 write_back : (block area room : List ℕ) (m : ℕ) → Below bytes_to block → length area ≡ parts → block_bytes parts ≤ length room
-    → word_at block 0 ≡ 2 → (read_to block area).answer ≡ Done m
-    → write_from (read_to block area).lent room ≡ left (Done (block_bytes parts)) (sets room 0 block)
+    → word_at block 0 ≡ 2 → (read_to block area).answer ≡ Ok m
+    → write_from (read_to block area).lent room ≡ left (Ok (block_bytes parts)) (sets room 0 block)
 write_back block area room m below count enough version h =
     let place : parts ≤ length area = omega (arith, count) in
     let found = told block area m place h in
@@ -179,7 +179,7 @@ write_back block area room m below count enough version h =
     ∙ writes ws room (length_words s)
     ∙ ap (λ (t : Settings). stored 2 (words t) (allowed t) room) kept.back
     ∙ sym (good_block 2 parts ws room (allowed s) (length_words s) enough kept.good)
-    ∙ ap (λ (l : List ℕ). left (Done (block_bytes parts)) (sets room 0 l)) kept.same
+    ∙ ap (λ (l : List ℕ). left (Ok (block_bytes parts)) (sets room 0 l)) kept.same
 
 pub calls_write_back : CallsWriteBack
 calls_write_back = (write_back_v1, write_back)

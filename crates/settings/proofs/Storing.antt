@@ -15,20 +15,20 @@ use Rattle.leaves.proofs.Stores.{stored_over}
 use Rattle.recording.specs.Answers.{value}
 use Rattle.recording.specs.declared.Reason.{Reason}
 use Rattle.recording.specs.declared.Reason.TheVariants.{Workspace, Stored}
-use Rattle.recording.specs.declared.Answer.TheVariants.{Done, Refused}
+use Rattle.std.specs.Prelude.{Ok, Err}
 use Rattle.settings.specs.Settings.{parts, block_of, block_bytes, Left, left, stored}
 
 module _ (version n : ℕ) (ws room : List ℕ) (rule : Bool) (count : length ws ≡ n) where
-  pub short_room : length room < block_bytes n → left (Refused Workspace) room ≡ stored version ws rule room
+  pub short_room : length room < block_bytes n → left (Err Workspace) room ≡ stored version ws rule room
   short_room short = rw (count, lt-ltb (length room) (block_bytes n) short) refl
 
   -- a writer that has room, of settings that are allowed
   pub good_block : block_bytes n ≤ length room → rule ≡ true
-      → left (Done (block_bytes n)) (sets room 0 (block_of version ws)) ≡ stored version ws rule room
+      → left (Ok (block_bytes n)) (sets room 0 (block_of version ws)) ≡ stored version ws rule room
   good_block enough on = rw (count, le-ltb (length room) (block_bytes n) enough, on) refl
 
   module _ (enough : block_bytes n ≤ length room) (good : Bool) (judged : good ≡ rule) where
-    pub not_allowed : good ≡ false → left (Refused Stored) room ≡ stored version ws rule room
+    pub not_allowed : good ≡ false → left (Err Stored) room ≡ stored version ws rule room
     not_allowed off = rw (count, le-ltb (length room) (block_bytes n) enough, sym judged ∙ off) refl
 
     -- the words in the code's own list
@@ -43,15 +43,15 @@ module _ (version n : ℕ) (ws room : List ℕ) (rule : Bool) (count : length ws
           (omega (arith, all), omega (arith, all, enough), e ∙ ap (λ (k : ℕ). replicate k 4) (sym all))
 
       pub written : good ≡ true → (after : List ℕ) → after ≡ sets room 0 (block_of version list)
-          → left (Done (block_bytes n)) after ≡ stored version ws rule room
+          → left (Ok (block_bytes n)) after ≡ stored version ws rule room
       written so after e =
-          ap (left (Done (block_bytes n))) (e ∙ ap (λ (l : List ℕ). sets room 0 (block_of version l)) list_is)
+          ap (left (Ok (block_bytes n))) (e ∙ ap (λ (l : List ℕ). sets room 0 (block_of version l)) list_is)
           ∙ good_block enough (sym judged ∙ so)
 
 -- ---- What was stored
 
 -- an acceptance is no refusal
-pub no_refusal : {A : Type 0} {m : ℕ} {why : Reason} → Refused why ≡ Done m → A
+pub no_refusal : {A : Type 0} {m : ℕ} {why : Reason} → Err why ≡ Ok m → A
 no_refusal both =
     let none : ◌≡◌ {A = ℕ} 0 1 = cc in
     absurd (omega arith)
@@ -63,7 +63,7 @@ pub record Accepted (version n : ℕ) (ws room : List ℕ) (rule : Bool) (m : �
   pub count : m ≡ block_bytes n
   pub there : (stored version ws rule room).lent ≡ sets room 0 (block_of version ws)
 
-pub accepted : (version n : ℕ) (ws room : List ℕ) (rule : Bool) (m : ℕ) → length ws ≡ n → (stored version ws rule room).answer ≡ Done m
+pub accepted : (version n : ℕ) (ws room : List ℕ) (rule : Bool) (m : ℕ) → length ws ≡ n → (stored version ws rule room).answer ≡ Ok m
     → Accepted version n ws room rule m
 accepted version n ws room rule m count h = go (truth (ltb (length room) (block_bytes n))) (truth rule)
   where

@@ -7,7 +7,7 @@ use Rattle.std.specs.Float.{binary32}
 use Rattle.std.specs.Float.Ieee.{fits}
 use Rattle.wire.specs.Wire.{word_at, Below, bytes_to, words_to}
 use Rattle.recording.specs.declared.Reason.TheVariants.{Version}
-use Rattle.recording.specs.declared.Answer.TheVariants.{Done}
+use Rattle.std.specs.Prelude.{Ok}
 use Rattle.settings.specs.declared.SettingsV1.{SettingsV1}
 use Rattle.settings.specs.declared.Settings.{Settings}
 use Rattle.settings.specs.declared.KeptV1.TheVariants.{KnownV1, TurnedAwayV1}
@@ -88,18 +88,18 @@ FirstAlone =
 abbrev pub CallsReadBack : Type 0
 CallsReadBack =
     ((ws room area : List ℕ) (m : ℕ) → length ws ≡ parts_v1 → Below words_to ws → parts_v1 ≤ length area
-    → (write_from_v1 ws room).answer ≡ Done m
-    → read_to_v1 (take m (write_from_v1 ws room).lent) area ≡ left (Done parts_v1) (sets area 0 ws))
+    → (write_from_v1 ws room).answer ≡ Ok m
+    → read_to_v1 (take m (write_from_v1 ws room).lent) area ≡ left (Ok parts_v1) (sets area 0 ws))
     × ((ws room area : List ℕ) (m : ℕ) → length ws ≡ parts → Below words_to ws → parts ≤ length area
-    → (write_from ws room).answer ≡ Done m
-    → read_to (take m (write_from ws room).lent) area ≡ left (Done parts) (sets area 0 ws))
+    → (write_from ws room).answer ≡ Ok m
+    → read_to (take m (write_from ws room).lent) area ≡ left (Ok parts) (sets area 0 ws))
 
 -- what a reader left in its area of a block of its version, written into any room that is large enough, gives the block
 abbrev pub CallsWriteBack : Type 0
 CallsWriteBack =
     ((block area room : List ℕ) (m : ℕ) → Below bytes_to block → length area ≡ parts_v1 → block_bytes parts_v1 ≤ length room
-    → (read_to_v1 block area).answer ≡ Done m
-    → write_from_v1 (read_to_v1 block area).lent room ≡ left (Done (block_bytes parts_v1)) (sets room 0 block))
+    → (read_to_v1 block area).answer ≡ Ok m
+    → write_from_v1 (read_to_v1 block area).lent room ≡ left (Ok (block_bytes parts_v1)) (sets room 0 block))
     × ((block area room : List ℕ) (m : ℕ) → Below bytes_to block → length area ≡ parts → block_bytes parts ≤ length room
-    → word_at block 0 ≡ 2 → (read_to block area).answer ≡ Done m
-    → write_from (read_to block area).lent room ≡ left (Done (block_bytes parts)) (sets room 0 block))
+    → word_at block 0 ≡ 2 → (read_to block area).answer ≡ Ok m
+    → write_from (read_to block area).lent room ≡ left (Ok (block_bytes parts)) (sets room 0 block))

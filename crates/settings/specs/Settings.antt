@@ -9,8 +9,8 @@ use Rattle.std.specs.Prelude.{if◌then◌else◌}
 use Rattle.wire.specs.Wire.{word_at, decoded, bytes_of}
 use Rattle.contents.specs.Contents.{table_bytes, filed, lengths_in, lengths_from, laid_out}
 use Rattle.recording.specs.declared.Reason.TheVariants.{Workspace, Version, Stored}
-use Rattle.recording.specs.declared.Answer.{Answer}
-use Rattle.recording.specs.declared.Answer.TheVariants.{Done, Refused}
+use Rattle.recording.specs.Answer.{Answer}
+use Rattle.std.specs.Prelude.{Ok, Err}
 use Rattle.inpaint.specs.Auto as scan
 use Rattle.declip.specs.Declip as declip
 use Rattle.decrackle.specs.Decrackle as decrackle
@@ -161,9 +161,9 @@ left a l = record { answer = a; lent = l }
 -- a block of this version with these words in the room, where the settings are allowed
 abbrev pub stored : ℕ → List ℕ → Bool → List ℕ → Left
 stored version ws good room =
-    if ltb (length room) (block_bytes (length ws)) then left (Refused Workspace) room else
-    if not good then left (Refused Stored) room else
-    left (Done (block_bytes (length ws))) (sets room 0 (block_of version ws))
+    if ltb (length room) (block_bytes (length ws)) then left (Err Workspace) room else
+    if not good then left (Err Stored) room else
+    left (Ok (block_bytes (length ws))) (sets room 0 (block_of version ws))
 
 unfoldable pub write_v1 : SettingsV1 → List ℕ → Left
 unfolding words_v1 allowed_v1 block_of
@@ -177,26 +177,26 @@ write s room = stored 2 (words s) (allowed s) room
 unfoldable pub read_to_v1 : List ℕ → List ℕ → Left
 unfolding read_v1 words_v1
 read_to_v1 block area =
-    if ltb (length area) parts_v1 then left (Refused Workspace) area else
+    if ltb (length area) parts_v1 then left (Err Workspace) area else
     elim (read_v1 block) [
-      | KnownV1 s ↦ left (Done parts_v1) (sets area 0 (words_v1 s))
-      | TurnedAwayV1 why ↦ left (Refused why) area
+      | KnownV1 s ↦ left (Ok parts_v1) (sets area 0 (words_v1 s))
+      | TurnedAwayV1 why ↦ left (Err why) area
     ]
 
 unfoldable pub read_to : List ℕ → List ℕ → Left
 unfolding read words
 read_to block area =
-    if ltb (length area) parts then left (Refused Workspace) area else
+    if ltb (length area) parts then left (Err Workspace) area else
     elim (read block) [
-      | Known s ↦ left (Done parts) (sets area 0 (words s))
-      | TurnedAway why ↦ left (Refused why) area
+      | Known s ↦ left (Ok parts) (sets area 0 (words s))
+      | TurnedAway why ↦ left (Err why) area
     ]
 
 -- a writer's settings
 unfoldable pub write_from_v1 : List ℕ → List ℕ → Left
 unfolding settings_v1 write_v1
-write_from_v1 ws room = if ltb (length ws) parts_v1 then left (Refused Workspace) room else write_v1 (settings_v1 ws) room
+write_from_v1 ws room = if ltb (length ws) parts_v1 then left (Err Workspace) room else write_v1 (settings_v1 ws) room
 
 unfoldable pub write_from : List ℕ → List ℕ → Left
 unfolding settings write
-write_from ws room = if ltb (length ws) parts then left (Refused Workspace) room else write (settings ws) room
+write_from ws room = if ltb (length ws) parts then left (Err Workspace) room else write (settings ws) room

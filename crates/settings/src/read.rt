@@ -125,14 +125,14 @@ pub fn read_to_v1(block: &[u8], area: &mut [u32]) -> Answer
     ensures { left result area.new ≡ read_to_v1 block.now area.old }
 {
     if area.len() < SETTINGS_V1 {
-        return Answer::Refused(Reason::Workspace);
+        return Err(Reason::Workspace);
     }
     match read_v1(block) {
         KeptV1::KnownV1(settings) => {
             store_v1(area, settings);
-            Answer::Done(SETTINGS_V1)
+            Ok(SETTINGS_V1)
         }
-        KeptV1::TurnedAwayV1(why) => Answer::Refused(why),
+        KeptV1::TurnedAwayV1(why) => Err(why),
     }
 }
 
@@ -141,13 +141,13 @@ pub fn read_to(block: &[u8], area: &mut [u32]) -> Answer
     ensures { left result area.new ≡ read_to block.now area.old }
 {
     if area.len() < SETTINGS {
-        return Answer::Refused(Reason::Workspace);
+        return Err(Reason::Workspace);
     }
     match read(block) {
         Kept::Known(settings) => {
             store(area, settings);
-            Answer::Done(SETTINGS)
+            Ok(SETTINGS)
         }
-        Kept::TurnedAway(why) => Answer::Refused(why),
+        Kept::TurnedAway(why) => Err(why),
     }
 }

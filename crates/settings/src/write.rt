@@ -36,15 +36,15 @@ pub fn write_v1(settings: SettingsV1, room: &mut [u8]) -> Answer
     ensures { left result room.new ≡ write_v1 settings room.old }
 {
     if room.len() < SETTINGS_V1_BYTES {
-        return Answer::Refused(Reason::Workspace);
+        return Err(Reason::Workspace);
     }
     if !allowed_v1(settings) {
-        return Answer::Refused(Reason::Stored);
+        return Err(Reason::Stored);
     }
     let mut words = [0u32; SETTINGS_V1];
     store_v1(&mut words, settings);
     write_block(room, FIRST_VERSION, &words, &[4u32; SETTINGS_V1]);
-    Answer::Done(SETTINGS_V1_BYTES)
+    Ok(SETTINGS_V1_BYTES)
 }
 
 // Writes the block of version 2, likewise.
@@ -52,15 +52,15 @@ pub fn write(settings: Settings, room: &mut [u8]) -> Answer
     ensures { left result room.new ≡ write settings room.old }
 {
     if room.len() < SETTINGS_BYTES {
-        return Answer::Refused(Reason::Workspace);
+        return Err(Reason::Workspace);
     }
     if !allowed(settings) {
-        return Answer::Refused(Reason::Stored);
+        return Err(Reason::Stored);
     }
     let mut words = [0u32; SETTINGS];
     store(&mut words, settings);
     write_block(room, SECOND_VERSION, &words, &[4u32; SETTINGS]);
-    Answer::Done(SETTINGS_BYTES)
+    Ok(SETTINGS_BYTES)
 }
 
 // The writer of version 1 from settings as words, of which the first six count: 6 where they are fewer.
@@ -68,7 +68,7 @@ pub fn write_from_v1(words: &[u32], room: &mut [u8]) -> Answer
     ensures { left result room.new ≡ write_from_v1 words.now room.old }
 {
     if words.len() < SETTINGS_V1 {
-        return Answer::Refused(Reason::Workspace);
+        return Err(Reason::Workspace);
     }
     write_v1(settings_v1(words), room)
 }
@@ -78,7 +78,7 @@ pub fn write_from(words: &[u32], room: &mut [u8]) -> Answer
     ensures { left result room.new ≡ write_from words.now room.old }
 {
     if words.len() < SETTINGS {
-        return Answer::Refused(Reason::Workspace);
+        return Err(Reason::Workspace);
     }
     write(settings(words), room)
 }

@@ -10,7 +10,7 @@ use Rattle.leaves.specs.Arithmetic.{nought}
 use Rattle.leaves.proofs.Parts.{store_before}
 use Rattle.recording.specs.Answers.{number, value}
 use Rattle.recording.specs.Recording.{State, Ended, ended, Plan, cleared, work_after}
-use Rattle.recording.specs.declared.Answer.TheVariants.{Done}
+use Rattle.std.specs.Prelude.{Ok}
 use Rattle.recording.proofs.TwoCommits as two
 use Rattle.recording.proofs.TwoCommits.{Like, like_enters, like_committed, like_itself, like_then}
 use Rattle.inpaint.specs.Gap.{needed, gap_repair}
@@ -47,7 +47,7 @@ module _ (p r : ℕ) (g : Stretch) (work : List Float) (s : State) (long : lengt
   unfolding kept
   kept_long = work_count (needed (length s.samples) g.start g.len) call.answer work ∙ long
 
-  call_ends : (x : Entered g (given p r) s) → call ≡ ended (Done (length x.cs)) (left x)
+  call_ends : (x : Entered g (given p r) s) → call ≡ ended (Ok (length x.cs)) (left x)
   unfolding call
   call_ends x = ap (λ (k : ℕ). gap_repair g.start g.len p k s) long ∙ entered_ends x
 

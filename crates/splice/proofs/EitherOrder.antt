@@ -15,7 +15,7 @@ use Rattle.recording.specs.Recording.{State, Ended, ended, Placed, places, Plan,
 use Rattle.recording.specs.Consequences.{Among}
 use Rattle.recording.specs.declared.Reason.{Reason}
 use Rattle.recording.specs.declared.Reason.TheVariants.{Gap, Workspace}
-use Rattle.recording.specs.declared.Answer.TheVariants.{Done}
+use Rattle.std.specs.Prelude.{Ok}
 use Rattle.recording.proofs.Put.{among_below, length_put, put_elsewhere}
 use Rattle.recording.proofs.Entering.{Enters, Ending, unnamed, turned_away, enters, ending, enters_ends}
 use Rattle.recording.proofs.Single.{above_zero}
@@ -60,7 +60,7 @@ accepted_enters g a s accepted = go (ending s plan (gap_lawful g.start g.len a.p
     go (turned_away why e) = absurd (omega (arith, above_zero why, (rw e at accepted)))
     go (enters mark cs p e) = record { mark = mark; cs = cs; plan = p; enters = e }
 
-pub entered_ends : {g : Stretch} {a : Given} {s : State} (x : Entered g a s) → repair_of g a s ≡ ended (Done (length x.cs)) (left x)
+pub entered_ends : {g : Stretch} {a : Given} {s : State} (x : Entered g a s) → repair_of g a s ≡ ended (Ok (length x.cs)) (left x)
 unfolding gap_repair called
 entered_ends {g} {a} {s} x = ap (performed s) x.plan ∙ enters_ends x.enters
 
@@ -175,7 +175,7 @@ alike_of l = record { samples = l.samples; marks = l.marks; counts = l.counts; u
 
 -- the recording after both calls
 after_first_lem : {g : Stretch} {a : Given} {s : State} {h : Stretch} {b : Given} (x : Entered g a s) (y : Entered h b (left x))
-    → after_first g a h b s ≡ ended (Done (length y.cs)) (left y)
+    → after_first g a h b s ≡ ended (Ok (length y.cs)) (left y)
 after_first_lem {h = h} {b = b} x y = ap (λ (e : Ended). repair_of h b e.after) (entered_ends x) ∙ entered_ends y
 
 module _ {g : Stretch} {a : Given} {h : Stretch} {b : Given} {s : State} (x : Entered g a s) (y : Entered h b (left x))
@@ -226,10 +226,10 @@ module _ {g : Stretch} {a : Given} {h : Stretch} {b : Given} {s : State} (x : En
     unfolding h_first
     entry_of_h = ap (λ (p : Plan). entry_of p s) (h_first b fits_before).plan
 
-    one : after_first g a h b s ≡ ended (Done (length y.cs)) (committed (committed s x.mark x.cs) y.mark y.cs)
+    one : after_first g a h b s ≡ ended (Ok (length y.cs)) (committed (committed s x.mark x.cs) y.mark y.cs)
     one = after_first_lem x y
 
-    other : after_first h b' g a' s ≡ ended (Done (length x.cs)) (committed (committed s y.mark y.cs) x.mark x.cs)
+    other : after_first h b' g a' s ≡ ended (Ok (length x.cs)) (committed (committed s y.mark y.cs) x.mark x.cs)
     unfolding h_first g_second
     other = after_first_lem (h_first b' fits-h) g_second
 

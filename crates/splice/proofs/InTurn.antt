@@ -9,8 +9,8 @@ use lib.Ieee.{Float}
 use Rattle.leaves.specs.Arithmetic.{nought}
 use Rattle.recording.specs.Recording.{State, work_after}
 use Rattle.recording.specs.History.{run}
-use Rattle.recording.specs.declared.Answer.{Answer}
-use Rattle.recording.specs.declared.Answer.TheVariants.{Done}
+use Rattle.recording.specs.Answer.{Answer}
+use Rattle.std.specs.Prelude.{Ok}
 use Rattle.inpaint.specs.Gap.{needed, gap_repair}
 use Rattle.inpaint.specs.Runs.{Stretch, single_calls}
 use Rattle.inpaint.specs.Order.{gap_order}
@@ -24,7 +24,7 @@ use Rattle.inpaint.proofs.Scans.{work_count, run_first}
 pub refused_list : RefusedList
 refused_list starts lens passes work lists s h = sym (list_refused starts lens passes work lists s h)
 
-accepts : (passes : ℕ) (gs : List Stretch) (work : List Float) (s : State) → (in_turn passes gs work s).answer ≡ Done 0
+accepts : (passes : ℕ) (gs : List Stretch) (work : List Float) (s : State) → (in_turn passes gs work s).answer ≡ Ok 0
 unfolding in_turn
 accepts passes [] work s = refl
 accepts passes (g ∷ gs) work s = accepts passes gs _ _

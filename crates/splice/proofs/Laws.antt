@@ -16,8 +16,8 @@ use Rattle.leaves.proofs.Stores.{stored_over}
 use Rattle.recording.specs.Answers.{number, value}
 use Rattle.recording.specs.Recording.{State, Ended, ended, work_after}
 use Rattle.recording.specs.declared.Reason.TheVariants.{Setting}
-use Rattle.recording.specs.declared.Answer.{Answer}
-use Rattle.recording.specs.declared.Answer.TheVariants.{Done, Refused}
+use Rattle.recording.specs.Answer.{Answer}
+use Rattle.std.specs.Prelude.{Ok, Err}
 use Rattle.inpaint.specs.Gap.{needed, gap_repair}
 use Rattle.inpaint.specs.Runs.{Stretch, stretch}
 use Rattle.inpaint.specs.Order.{gap_order}
@@ -146,7 +146,7 @@ module _ (passes start len : ℕ) (later : List Stretch) (w v : List Float) (s t
 
 -- where no span is left, the whole is there
 pub spans_done : (passes k : ℕ) (gs : List Stretch) (lists : AnswerLists) (w : List Float) (s : State) (whole : Several)
-    → length gs ≤ k → placed k lists (in_turn passes (drop k gs) w s) ≡ whole → several (Done 0) lists s w ≡ whole
+    → length gs ≤ k → placed k lists (in_turn passes (drop k gs) w s) ≡ whole → several (Ok 0) lists s w ≡ whole
 unfolding in_turn
 spans_done passes k gs lists w s whole h rest =
     sym (ap (λ (hs : List Stretch). placed k lists (in_turn passes hs w s)) (drop_of_length-le gs h)) ∙ rest
@@ -154,7 +154,7 @@ spans_done passes k gs lists w s whole h rest =
 -- ---- The call
 
 module _ (starts lens : List ℕ) (passes : ℕ) (work : List Float) (lists : AnswerLists) (s : State) where
-  pub list_refused : lists_wrong starts lens lists ≡ true → several (Refused Setting) lists s work ≡ gaps_repair starts lens passes work lists s
+  pub list_refused : lists_wrong starts lens lists ≡ true → several (Err Setting) lists s work ≡ gaps_repair starts lens passes work lists s
   unfolding gaps_repair
   list_refused h = rw h refl
 

@@ -5,7 +5,7 @@ use Rattle.recording.specs.Answers.{number, value}
 use Rattle.recording.specs.Recording.{State}
 use Rattle.recording.specs.History.{run}
 use Rattle.recording.specs.declared.Reason.TheVariants.{Setting}
-use Rattle.recording.specs.declared.Answer.TheVariants.{Done, Refused}
+use Rattle.std.specs.Prelude.{Ok, Err}
 use Rattle.inpaint.specs.Gap.{gap_repair}
 use Rattle.inpaint.specs.Runs.{Stretch, single_calls}
 use Rattle.inpaint.specs.Order.{gap_order}
@@ -15,20 +15,20 @@ use Rattle.splice.specs.Several.{spans, AnswerLists, answer_lists, lists_wrong, 
 abbrev pub RefusedList : Type 0
 RefusedList =
     (starts lens : List ℕ) (passes : ℕ) (work : List Float) (lists : AnswerLists) (s : State) → lists_wrong starts lens lists ≡ true
-    → gaps_repair starts lens passes work lists s ≡ several (Refused Setting) lists s work
+    → gaps_repair starts lens passes work lists s ≡ several (Err Setting) lists s work
 
 -- one that it does not: "all others are each span's own", and the call itself accepts
 abbrev pub TakenList : Type 0
 TakenList =
     (starts lens : List ℕ) (passes : ℕ) (work : List Float) (lists : AnswerLists) (s : State) → lists_wrong starts lens lists ≡ false
     → (gaps_repair starts lens passes work lists s ≡ in_turn passes (spans starts lens) work s)
-    × ((in_turn passes (spans starts lens) work s).answer ≡ Done 0)
+    × ((in_turn passes (spans starts lens) work s).answer ≡ Ok 0)
 
 -- an empty list is accepted and does nothing
 abbrev pub EmptyList : Type 0
 EmptyList =
     (passes : ℕ) (work : List Float) (s : State)
-    → let none = answer_lists [] [] [] in gaps_repair [] [] passes work none s ≡ several (Done 0) none s work
+    → let none = answer_lists [] [] [] in gaps_repair [] [] passes work none s ≡ several (Ok 0) none s work
 
 -- the answers of spans, and behind them those of others
 abbrev pub followed : AnswerLists → AnswerLists → AnswerLists
@@ -41,7 +41,7 @@ CutAnywhere =
     (passes : ℕ) (gs hs : List Stretch) (work : List Float) (s : State)
     → let one = in_turn passes gs work s in
     let two = in_turn passes hs one.work one.after in
-    in_turn passes (gs ++ hs) work s ≡ several (Done 0) (followed one.lists two.lists) two.after two.work
+    in_turn passes (gs ++ hs) work s ≡ several (Ok 0) (followed one.lists two.lists) two.after two.work
 
 -- "each with its own answer in its own place": the single call's, on what the spans before it left
 abbrev pub OwnPlace : Type 0

@@ -8,8 +8,8 @@ use Rattle.std.specs.Prelude.{if◌then◌else◌}
 use Rattle.recording.specs.Answers.{number, value}
 use Rattle.recording.specs.Recording.{State, work_after}
 use Rattle.recording.specs.declared.Reason.TheVariants.{Setting}
-use Rattle.recording.specs.declared.Answer.{Answer}
-use Rattle.recording.specs.declared.Answer.TheVariants.{Done, Refused}
+use Rattle.recording.specs.Answer.{Answer}
+use Rattle.std.specs.Prelude.{Ok, Err}
 use Rattle.inpaint.specs.Gap.{needed, gap_repair}
 use Rattle.inpaint.specs.Runs.{Stretch, stretch}
 use Rattle.inpaint.specs.Order.{gap_order}
@@ -66,7 +66,7 @@ with_answer a order c =
 -- in the workspace that it left, "a refused span in the middle included"
 unfoldable pub in_turn : ℕ → List Stretch → List Float → State → Several
 unfolding gap_repair gap_order needed
-in_turn passes [] work s = several (Done 0) (answer_lists [] [] []) s work
+in_turn passes [] work s = several (Ok 0) (answer_lists [] [] []) s work
 in_turn passes (g ∷ gs) work s =
     let e = gap_repair g.start g.len passes (length work) s in
     let order = gap_order g.start g.len passes (length work) s in
@@ -77,7 +77,7 @@ in_turn passes (g ∷ gs) work s =
 unfoldable pub gaps_repair : List ℕ → List ℕ → ℕ → List Float → AnswerLists → State → Several
 unfolding in_turn
 gaps_repair starts lens passes work lists s =
-    if lists_wrong starts lens lists then several (Refused Setting) lists s work else in_turn passes (spans starts lens) work s
+    if lists_wrong starts lens lists then several (Err Setting) lists s work else in_turn passes (spans starts lens) work s
 
 -- ---- The lists as they are lent, in the words of contracts (`Lent` of the crate `recording`): as the call began, and as it ended
 

@@ -3,7 +3,7 @@
 
 ghost use Rattle.std.specs.Prelude.{◌≡◌, length};
 ghost use Rattle.recording.specs.Lent.{left, lent};
-ghost use Rattle.recording.specs.declared.Answer.TheVariants.{Done};
+ghost use Rattle.std.specs.Prelude.{Ok};
 ghost use Rattle.splice.specs.Several.{spans, lengths_wrong, several, in_turn, gaps_repair, answers_lent, answers_left};
 
 use inpaint::gap::inpaint_gap;
@@ -51,7 +51,7 @@ fn repair_in_turn(
 )
     requires { (length lens.now ≡ length starts.now) × (length numbers.old ≡ length starts.now)
         × (length values.old ≡ length starts.now) × (length orders.old ≡ length starts.now) }
-    ensures { several (Done 0) (answers_left numbers values orders) (left samples marks counts journal used) work.new
+    ensures { several (Ok 0) (answers_left numbers values orders) (left samples marks counts journal used) work.new
         ≡ in_turn passes (spans starts.now lens.now) work.old (lent samples marks counts journal used) }
 {
     let mut k: usize = 0;
@@ -96,10 +96,10 @@ pub fn inpaint_gaps(
         values.len(),
         orders.len(),
     ) {
-        return Answer::Refused(Reason::Setting);
+        return Err(Reason::Setting);
     }
     repair_in_turn(
         samples, marks, counts, journal, used, starts, lens, passes, work, numbers, values, orders,
     );
-    Answer::Done(0)
+    Ok(0)
 }

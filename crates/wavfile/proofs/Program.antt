@@ -12,8 +12,8 @@ use Rattle.leaves.proofs.Choice.{picks_by}
 use Rattle.leaves.proofs.Literals.{one_word}
 use Rattle.recording.specs.declared.Reason.{Reason}
 use Rattle.recording.specs.declared.Reason.TheVariants.{Setting}
-use Rattle.recording.specs.declared.Answer.{Answer}
-use Rattle.recording.specs.declared.Answer.TheVariants.{Done, Refused}
+use Rattle.recording.specs.Answer.{Answer}
+use Rattle.std.specs.Prelude.{Ok, Err}
 use Rattle.inpaint.specs.Auto.{allowed}
 use Rattle.inpaint.specs.declared.Scanned.{Scanned}
 use Rattle.monitor.specs.Scanning.{Report, report}
@@ -52,7 +52,7 @@ module _ (file samples marks : List ℕ) where
   -- where n samples are taken, both rooms have as many places, and as many as before
   abbrev Fitting : ℕ → Heard → Type 0
   Fitting n h =
-      h.answer ≡ Done n
+      h.answer ≡ Ok n
       → (n ≤ length samples) × (n ≤ length marks) × (length h.samples ≡ length samples) × (length h.marks ≡ length marks)
 
   read_fits : (n : ℕ) → Fitting n (wav_read file samples marks)
@@ -98,7 +98,7 @@ module _ (n : ℕ) (space samples marks orders : List ℕ) (a : Answer) (rate : 
   told_so = ap (λ (h : Heard). of_taken h.answer h orders space) read
 
   -- of a file that is turned away
-  pub tells_away : (why : Reason) (r : Repaired) → a ≡ Refused why
+  pub tells_away : (why : Reason) (r : Repaired) → a ≡ Err why
       → r ≡ record { answer = a; samples = 0; rate = 0; scanned = record { qualified = 0; repaired = 0; refused = 0 } }
       → tells_first r samples' marks' orders space ≡ told n space samples marks orders
   tells_away why r e is =
@@ -107,7 +107,7 @@ module _ (n : ℕ) (space samples marks orders : List ℕ) (a : Answer) (rate : 
       ∙ ap (λ (x : Answer). of_taken x (heard a rate samples' marks') orders space) (sym e)
       ∙ told_so
 
-  module _ (m : ℕ) (e : a ≡ Done m) where
+  module _ (m : ℕ) (e : a ≡ Ok m) where
     -- the rooms have as many places as samples are taken
     pub rooms : (m ≤ length samples) × (m ≤ length marks) × (m ≤ length samples') × (m ≤ length marks')
     rooms =
@@ -135,12 +135,12 @@ module _ (n : ℕ) (space samples marks orders : List ℕ) (a : Answer) (rate : 
 -- ---- What is told fits
 
 -- what is written lies within the space
-written_fits : (samples : List ℕ) (rate : ℕ) (out : List ℕ) (size : ℕ) → (wav_written samples rate out).answer ≡ Done size → size ≤ length out
+written_fits : (samples : List ℕ) (rate : ℕ) (out : List ℕ) (size : ℕ) → (wav_written samples rate out).answer ≡ Ok size → size ≤ length out
 written_fits samples rate out size is =
     let d = written_done samples rate out size is in
     omega (arith, d.count, d.room)
 
-rewritten_fits : (rate : ℕ) (samples marks orders space : List ℕ) (size : ℕ) → (rewritten rate samples marks orders space).answer ≡ Done size
+rewritten_fits : (rate : ℕ) (samples marks orders space : List ℕ) (size : ℕ) → (rewritten rate samples marks orders space).answer ≡ Ok size
     → size ≤ length space
 unfolding rewritten
 rewritten_fits rate samples marks orders space size e = written_fits (reported rate samples marks orders).samples rate space size e
@@ -148,7 +148,7 @@ rewritten_fits rate samples marks orders space size e = written_fits (reported r
 -- and there are no more samples than the rooms have places
 module _ (n : ℕ) (space samples marks orders : List ℕ) (size : ℕ) where
   pub told_fits : (r : Repaired) (samples' marks' orders' space' : List ℕ)
-      → tells_first r samples' marks' orders' space' ≡ told n space samples marks orders → r.answer ≡ Done size
+      → tells_first r samples' marks' orders' space' ≡ told n space samples marks orders → r.answer ≡ Ok size
       → (size ≤ length space) × (r.samples ≤ length samples) × (r.samples ≤ length marks)
   unfolding told
   told_fits r samples' marks' orders' space' so is = go h.answer refl so
@@ -158,8 +158,8 @@ module _ (n : ℕ) (space samples marks orders : List ℕ) (size : ℕ) where
 
       go : (a : Answer) → h.answer ≡ a → tells_first r samples' marks' orders' space' ≡ of_taken a h orders space
           → (size ≤ length space) × (r.samples ≤ length samples) × (r.samples ≤ length marks)
-      go (Refused why) e so = never_both (sym is ∙ ap (λ (t : Told). t.answer) so)
-      go (Done m) e so =
+      go (Err why) e so = never_both (sym is ∙ ap (λ (t : Told). t.answer) so)
+      go (Ok m) e so =
           let fit = taken_fits (take n space) samples marks m e in
           let within : m ≤ length h.samples = omega (arith, fit.0, fit.2) in
           let count : r.samples ≡ m =

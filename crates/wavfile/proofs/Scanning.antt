@@ -10,7 +10,7 @@ use Rattle.leaves.specs.Arithmetic.{one}
 use Rattle.leaves.proofs.Literals.{one_word, nought_double}
 use Rattle.recording.specs.Recording.{State, state, Ended, ended, opened}
 use Rattle.recording.specs.Counts.{blocks}
-use Rattle.recording.specs.declared.Answer.{Answer}
+use Rattle.recording.specs.Answer.{Answer}
 use Rattle.inpaint.specs.Auto.{Scan, automatic}
 use Rattle.inpaint.specs.Order.{scan_orders}
 use Rattle.monitor.specs.Scanning.{Report, report_of}

@@ -9,8 +9,8 @@ use Rattle.recording.specs.Recording.{State, state, opened}
 use Rattle.recording.specs.Counts.{blocks}
 use Rattle.recording.specs.History.{fresh}
 use Rattle.recording.specs.declared.Reason.TheVariants.{Setting}
-use Rattle.recording.specs.declared.Answer.{Answer}
-use Rattle.recording.specs.declared.Answer.TheVariants.{Done, Refused}
+use Rattle.recording.specs.Answer.{Answer}
+use Rattle.std.specs.Prelude.{Ok, Err}
 use Rattle.inpaint.specs.Auto.{Scan, allowed, limit, held_run, automatic}
 use Rattle.inpaint.specs.Order.{scan_orders}
 use Rattle.inpaint.specs.Runs.{run_answers}
@@ -107,8 +107,8 @@ turned_away a space = telling a 0 0 (report 0 0 0 [] [] []) space
 
 -- of a file that was read, by the answer to it, with a lent list for the orders
 abbrev pub of_taken : Answer → Heard → List ℕ → List ℕ → Told
-of_taken (Done m) h orders space = rewritten h.rate (take m h.samples) (take m h.marks) (take m orders) space
-of_taken (Refused why) h orders space = turned_away (Refused why) space
+of_taken (Ok m) h orders space = rewritten h.rate (take m h.samples) (take m h.marks) (take m orders) space
+of_taken (Err why) h orders space = turned_away (Err why) space
 
 -- of the file in the first n bytes of the space, with lent rooms for samples and marks
 unfoldable pub told : ℕ → List ℕ → List ℕ → List ℕ → List ℕ → Told

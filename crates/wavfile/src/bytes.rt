@@ -22,7 +22,7 @@ fn take_wav(file: &[u8], samples: &mut [u32], marks: &mut [u8]) -> WavRead
         return read;
     }
     WavRead {
-        answer: Answer::Refused(Reason::Setting),
+        answer: Err(Reason::Setting),
         rate: 0,
     }
 }
@@ -82,7 +82,7 @@ pub fn repair_bytes(
 {
     let read = take_wav(&space[..n], samples, marks);
     let answer = read.answer;
-    let Answer::Done(count) = answer else {
+    let Ok(count) = answer else {
         return away(answer);
     };
     repair_samples(

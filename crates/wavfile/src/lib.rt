@@ -65,7 +65,7 @@ fn repair_to<R: Files + Print, W: Write>(
 {
     let repaired = repair_bytes(space, n, samples, marks, orders);
     let answer = repaired.answer;
-    let Answer::Done(size) = answer else {
+    let Ok(size) = answer else {
         say_refused(said, number_of(answer));
         return Ok(());
     };

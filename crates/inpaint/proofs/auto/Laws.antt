@@ -15,8 +15,8 @@ use Rattle.recording.specs.Recording.{State, Ended, ended, fitting, or_else, wor
 use Rattle.std.specs.Prelude.{if◌then◌else◌}
 use Rattle.recording.specs.declared.Reason.{Reason}
 use Rattle.recording.specs.declared.Reason.TheVariants.{Setting}
-use Rattle.recording.specs.declared.Answer.{Answer}
-use Rattle.recording.specs.declared.Answer.TheVariants.{Done, Refused}
+use Rattle.recording.specs.Answer.{Answer}
+use Rattle.std.specs.Prelude.{Ok, Err}
 use Rattle.leaves.proofs.Choice.{truth, EitherWay, both_hold}
 use Rattle.recording.proofs.Answers.{never_both}
 use Rattle.inpaint.specs.Gap.{needed, gap_repair}
@@ -149,25 +149,25 @@ limit_is ms rate k l r a b c = c ∙ ap (to_unsigned 64) (b ∙ rw (a, thousand,
 
 abbrev settled : ℕ → Float → ℕ → Answer → Answer
 settled rate ms held sized =
-    or_else sized (if allowed rate ms && held_allowed held then Done 0 else Refused Setting)
+    or_else sized (if allowed rate ms && held_allowed held then Ok 0 else Err Setting)
 
 module _ (rate : ℕ) (ms : Float) (held : ℕ) (s : State) (sized : Answer) (answered : sized ≡ fitting s) where
   opened : settled rate ms held sized ≡ scannable rate ms held s
   unfolding scannable
   opened = ap (settled rate ms held) answered
 
-  pub scannable_unfit : (why : Reason) → sized ≡ Refused why → sized ≡ scannable rate ms held s
+  pub scannable_unfit : (why : Reason) → sized ≡ Err why → sized ≡ scannable rate ms held s
   scannable_unfit why h = h ∙ sym (ap (settled rate ms held) h) ∙ opened
 
-  module _ (m : ℕ) (accepted : sized ≡ Done m) (r : Bool) (tested : r ≡ allowed rate ms && held_allowed held) where
-    pub scannable_all : r ≡ true → Done 0 ≡ scannable rate ms held s
+  module _ (m : ℕ) (accepted : sized ≡ Ok m) (r : Bool) (tested : r ≡ allowed rate ms && held_allowed held) where
+    pub scannable_all : r ≡ true → Ok 0 ≡ scannable rate ms held s
     scannable_all h =
-        let told : Done 0 ≡ settled rate ms held (Done m) = rw (← tested, h) refl in
+        let told : Ok 0 ≡ settled rate ms held (Ok m) = rw (← tested, h) refl in
         told ∙ sym (ap (settled rate ms held) accepted) ∙ opened
 
-    pub scannable_setting : r ≡ false → Refused Setting ≡ scannable rate ms held s
+    pub scannable_setting : r ≡ false → Err Setting ≡ scannable rate ms held s
     scannable_setting h =
-        let told : Refused Setting ≡ settled rate ms held (Done m) = rw (← tested, h) refl in
+        let told : Err Setting ≡ settled rate ms held (Ok m) = rw (← tested, h) refl in
         told ∙ sym (ap (settled rate ms held) accepted) ∙ opened
 
 -- ---- the scan, run by run
@@ -216,7 +216,7 @@ scan_turn most held i start len n q r k s t w v a number' done first whole h fou
 
 -- ---- the order of a run's model
 
-module _ (start len m order : ℕ) (orders : List ℕ) (a : Answer) (accepted : a ≡ Done m) where
+module _ (start len m order : ℕ) (orders : List ℕ) (a : Answer) (accepted : a ≡ Ok m) where
   -- it is noted at the places of a gap by the model,
   pub noted_model : (left : List ℕ) → len ≤ 2048 → left ≡ sets orders start (replicate len order)
       → left ≡ noted (stretch start len) a order orders
@@ -230,7 +230,7 @@ module _ (start len m order : ℕ) (orders : List ℕ) (a : Answer) (accepted : 
 
 abbrev scanned_so : ℕ → ℕ → ℕ → List Float → State → Answer → Scan
 scanned_so most held n w s first =
-    elim first [ Done m ↦ scan_from most held 0 n (scan 0 0 0 s w) | Refused why ↦ scan 0 0 (reason_number why) s w ]
+    elim first [ Ok m ↦ scan_from most held 0 n (scan 0 0 0 s w) | Err why ↦ scan 0 0 (reason_number why) s w ]
 
 module _ (rate : ℕ) (ms : Float) (held : ℕ) (w : List Float) (s : State)
     (checked : Answer) (tested : checked ≡ scannable rate ms held s) where
@@ -238,14 +238,14 @@ module _ (rate : ℕ) (ms : Float) (held : ℕ) (w : List Float) (s : State)
   unfolding automatic
   whole_call = ap (scanned_so (limit ms rate) held (length s.samples) w s) tested
 
-  pub automatic_refused : (why : Reason) (k : ℕ) → checked ≡ Refused why → k ≡ number checked
+  pub automatic_refused : (why : Reason) (k : ℕ) → checked ≡ Err why → k ≡ number checked
       → scan 0 0 k s w ≡ automatic rate ms held w s
   automatic_refused why k h e =
       ap (λ (j : ℕ). scan 0 0 j s w) (e ∙ ap number h)
       ∙ sym (ap (scanned_so (limit ms rate) held (length s.samples) w s) h)
       ∙ whole_call
 
-  module _ (m : ℕ) (accepted : checked ≡ Done m) where
+  module _ (m : ℕ) (accepted : checked ≡ Ok m) where
     pub automatic_scanned : (most : ℕ) (c : Scan) → most ≡ limit ms rate
         → c ≡ scan_from most held 0 (length s.samples) (scan 0 0 0 s w) → c ≡ automatic rate ms held w s
     automatic_scanned most c e h =
@@ -259,12 +259,12 @@ module _ (rate : ℕ) (ms : Float) (held : ℕ) (w : List Float) (s : State)
     settings_hold = go (fitting s) refl (truth (allowed rate ms && held_allowed held))
       where
         go : (sized : Answer) → sized ≡ fitting s → EitherWay (allowed rate ms && held_allowed held) → allowed rate ms && held_allowed held ≡ true
-        go (Done j) f (inl y) = y
-        go (Done j) f (inr y) =
-            let refused = scannable_setting rate ms held s (Done j) f j refl (allowed rate ms && held_allowed held) refl y in
+        go (Ok j) f (inl y) = y
+        go (Ok j) f (inr y) =
+            let refused = scannable_setting rate ms held s (Ok j) f j refl (allowed rate ms && held_allowed held) refl y in
             never_both (sym accepted ∙ tested ∙ sym refused)
-        go (Refused why) f y =
-            never_both (sym accepted ∙ tested ∙ sym (scannable_unfit rate ms held s (Refused why) f why refl))
+        go (Err why) f y =
+            never_both (sym accepted ∙ tested ∙ sym (scannable_unfit rate ms held s (Err why) f why refl))
 
     each_holds : (allowed rate ms ≡ true) × (held_allowed held ≡ true)
     each_holds = both_hold (allowed rate ms) (held_allowed held) settings_hold

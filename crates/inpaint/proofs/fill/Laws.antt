@@ -14,8 +14,8 @@ use Rattle.model.specs.Areas.{area, Only, Laid, results_at}
 use Rattle.recording.specs.Recording.{State, Ended, ended, span, ranged}
 use Rattle.recording.specs.declared.Reason.{Reason}
 use Rattle.recording.specs.declared.Reason.TheVariants.{Result}
-use Rattle.recording.specs.declared.Answer.{Answer}
-use Rattle.recording.specs.declared.Answer.TheVariants.{Done, Refused}
+use Rattle.recording.specs.Answer.{Answer}
+use Rattle.std.specs.Prelude.{Ok, Err}
 use Rattle.inpaint.specs.Gap.{context, from, to, window_size, window, needed, narrow_word, model}
 use Rattle.inpaint.specs.Order.{fill_order, order_beside}
 use Rattle.inpaint.proofs.window.Laws.{context_most, size_most, needed_model}
@@ -45,12 +45,12 @@ module _ (xs : List Float) (start i w : ℕ) (d : Float) (h : i < length xs) (ew
       rw (drop-cons xs i d h, ← ew, e, next, add-one i) refl
 
   pub result_out : in_range w ≡ false
-      → ranged (span (start + i) (map narrow_word (drop i xs))) ≡ Refused (Result (start + i))
+      → ranged (span (start + i) (map narrow_word (drop i xs))) ≡ Err (Result (start + i))
   unfolding ranged span
   result_out e = rw (drop-cons xs i d h, ← ew, e) refl
 
 pub results_in : (xs : List Float) (start i : ℕ) → length xs ≤ i
-    → ranged (span (start + i) (map narrow_word (drop i xs))) ≡ Done 0
+    → ranged (span (start + i) (map narrow_word (drop i xs))) ≡ Ok 0
 unfolding ranged span
 results_in xs start i h = rw (drop_of_length-le xs h) refl
 
@@ -217,15 +217,15 @@ pub handed_on : (a b : Answer) (s : State) (e : Ended) → a ≡ b → ended b s
 handed_on a b s e same h = ap (λ (r : Answer). ended r s) same ∙ h
 
 -- a refusal has none
-pub refused_order : (start len passes : ℕ) (samples : List ℕ) (a : Answer) (why : Reason) → a ≡ Refused why
+pub refused_order : (start len passes : ℕ) (samples : List ℕ) (a : Answer) (why : Reason) → a ≡ Err why
     → 0 ≡ order_beside start len passes samples a
 refused_order start len passes samples a why e = sym (ap (order_beside start len passes samples) e)
 
 -- an acceptance has the model's
-pub accepted_order : (start len passes : ℕ) (samples : List ℕ) (a : Answer) (m order : ℕ) → a ≡ Done m → len ≤ 2048
+pub accepted_order : (start len passes : ℕ) (samples : List ℕ) (a : Answer) (m order : ℕ) → a ≡ Ok m → len ≤ 2048
     → order ≡ fill_order passes samples start len → order ≡ order_beside start len passes samples a
 accepted_order start len passes samples a m order e short h =
-    let model : order_beside start len passes samples (Done m) ≡ fill_order passes samples start len = rw (le-ltb 2048 len short) refl in
+    let model : order_beside start len passes samples (Ok m) ≡ fill_order passes samples start len = rw (le-ltb 2048 len short) refl in
     h ∙ sym (ap (order_beside start len passes samples) e ∙ model)
 
 -- ---- In its place

@@ -9,8 +9,8 @@ use Rattle.recording.specs.Marks.{gap_by_model, gap_by_line}
 use Rattle.std.specs.Prelude.{if◌then◌else◌}
 use Rattle.recording.specs.declared.Reason.{Reason}
 use Rattle.recording.specs.declared.Reason.TheVariants.{Gap, Workspace}
-use Rattle.recording.specs.declared.Answer.{Answer}
-use Rattle.recording.specs.declared.Answer.TheVariants.{Done, Refused}
+use Rattle.recording.specs.Answer.{Answer}
+use Rattle.std.specs.Prelude.{Ok, Err}
 use Rattle.recording.proofs.read.Laws.{ReadEnds, readable_ends}
 use Rattle.recording.proofs.Performing.{unfit, fit}
 use Rattle.inpaint.specs.Gap.{gap_wrong, needed, all_readable, from, known_before, known_behind}
@@ -40,12 +40,12 @@ module _ (samples : List ℕ) (start len passes room : ℕ) where
     plan_short k e h = rw (right, ← e, lt-ltb _ _ h) refl
 
     module _ (enough : needed (length samples) start len ≤ room) where
-      pub plan_read : (a : Answer) (why : Reason) → a ≡ all_readable samples start len → a ≡ Refused why
+      pub plan_read : (a : Answer) (why : Reason) → a ≡ all_readable samples start len → a ≡ Err why
           → gap_plan start len passes room samples ≡ refuse why
       unfolding gap_plan
       plan_read a why e h = rw (right, le-ltb _ _ enough, sym e ∙ h) refl
 
-      module _ (a : Answer) (m : ℕ) (e : a ≡ all_readable samples start len) (known : a ≡ Done m) where
+      module _ (a : Answer) (m : ℕ) (e : a ≡ all_readable samples start len) (known : a ≡ Ok m) where
         plan_on : gap_plan start len passes room samples ≡ repaired passes samples start len
         unfolding gap_plan
         plan_on = rw (right, le-ltb _ _ enough, sym e ∙ known) refl
@@ -68,12 +68,12 @@ module _ (samples : List ℕ) (start len passes room : ℕ) where
 -- ---- The call
 
 module _ (s : State) (start len passes room : ℕ) (a : Answer) (sized : a ≡ fitting s) where
-  pub sizes_refused : (why : Reason) → a ≡ Refused why → ended a s ≡ gap_repair start len passes room s
+  pub sizes_refused : (why : Reason) → a ≡ Err why → ended a s ≡ gap_repair start len passes room s
   unfolding gap_repair
   sizes_refused why e = unfit s (gap_plan start len passes room s.samples) a sized why e
 
   -- the sizes are accepted: the call ends as its plan does
-  pub ends_as : (m : ℕ) → a ≡ Done m → (p : Plan) → gap_plan start len passes room s.samples ≡ p
+  pub ends_as : (m : ℕ) → a ≡ Ok m → (p : Plan) → gap_plan start len passes room s.samples ≡ p
       → (e : Ended) → e ≡ carried s p → e ≡ gap_repair start len passes room s
   unfolding gap_repair
   ends_as m fits p plan e ends =
@@ -87,15 +87,15 @@ refused_as s why = refl
 
 -- a straight line has none, however it ends
 pub line_order : (start len passes : ℕ) (samples : List ℕ) (a : Answer) → 2048 < len → 0 ≡ order_beside start len passes samples a
-line_order start len passes samples (Done m) h = rw (lt-ltb 2048 len h) refl
-line_order start len passes samples (Refused why) h = refl
+line_order start len passes samples (Ok m) h = rw (lt-ltb 2048 len h) refl
+line_order start len passes samples (Err why) h = refl
 
 -- that of the model, and one pass does for all
 pub model_order : (start len passes : ℕ) (samples : List ℕ) (a : Answer) → start + len ≤ length samples
     → order_beside start len 1 samples a ≡ order_beside start len passes samples a
-model_order start len passes samples (Done m) inside =
+model_order start len passes samples (Ok m) inside =
     ap (λ (k : ℕ). if ltb 2048 len then 0 else k) (order_passes samples start len inside passes)
-model_order start len passes samples (Refused why) inside = refl
+model_order start len passes samples (Err why) inside = refl
 
 -- the whole call: the answer that it hands on, the workspace and the order
 pub whole_call : (s t : State) (start len passes room n : ℕ) (r a : Answer) (order : ℕ) (work next : List Float)
@@ -121,7 +121,7 @@ all_ends samples start len =
 
 -- which keeps the workspace's contents
 pub read_keeps : {A : Type 0} (nought : A) (samples : List ℕ) (start len : ℕ) (a : Answer)
-    → a ≡ all_readable samples start len → (why : Reason) → a ≡ Refused why
+    → a ≡ all_readable samples start len → (why : Reason) → a ≡ Err why
     → (n : ℕ) (work : List A) → work ≡ work_after nought n a work
 read_keeps nought samples start len a e why h n work = rw kept refl
   where
@@ -132,5 +132,5 @@ read_keeps nought samples start len a e why h n work = rw kept refl
           | inr g ↦ rw (e ∙ g.1) refl
         ]
       where
-        never : Refused why ≡ Done 0 → ⊥
+        never : Err why ≡ Ok 0 → ⊥
         never both = let none : ◌≡◌ {A = ℕ} 0 1 = cc in omega arith

@@ -12,8 +12,8 @@ use Rattle.leaves.proofs.Literals.{nought_word, one_word}
 use Rattle.leaves.proofs.Lists.{lent_count, lent_back}
 use Rattle.recording.specs.Recording.{span, ranged}
 use Rattle.recording.specs.declared.Reason.TheVariants.{Result}
-use Rattle.recording.specs.declared.Answer.{Answer}
-use Rattle.recording.specs.declared.Answer.TheVariants.{Done, Refused}
+use Rattle.recording.specs.Answer.{Answer}
+use Rattle.std.specs.Prelude.{Ok, Err}
 use Rattle.inpaint.specs.Gap.{left_of, right_of, line_at, line_from, line}
 use Rattle.leaves.proofs.Stores.{stored_over}
 
@@ -67,7 +67,7 @@ module _ (left right : Float) (len : ℕ) where
         ap (λ (ws : List ℕ). ranged (span (start + i) ws)) from_more ∙ rw (e, next) refl
 
     pub word_out : (start : ℕ) → in_range w ≡ false
-        → ranged (span (start + i) (line_from left right len i (len - i))) ≡ Refused (Result (start + i))
+        → ranged (span (start + i) (line_from left right len i (len - i))) ≡ Err (Result (start + i))
     unfolding ranged span
     word_out start e = ap (λ (ws : List ℕ). ranged (span (start + i) ws)) from_more ∙ rw e refl
 
@@ -85,7 +85,7 @@ module _ (left right : Float) (len : ℕ) where
     unfolding line_from
     none_left = let none : len - i ≡ 0 = omega arith in rw none refl
 
-    pub words_in : (start : ℕ) → ranged (span (start + i) (line_from left right len i (len - i))) ≡ Done 0
+    pub words_in : (start : ℕ) → ranged (span (start + i) (line_from left right len i (len - i))) ≡ Ok 0
     unfolding ranged span
     words_in start = ap (λ (ws : List ℕ). ranged (span (start + i) ws)) none_left
 

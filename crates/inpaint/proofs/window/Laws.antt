@@ -4,8 +4,8 @@ use Rattle.std.proofs.Common.{◌≡◌, ℕ, ◌+◌, ◌-◌, ◌*◌, ◌<◌
 use borrow.Author.Tests.{lt-leb, eqb-false}
 use Rattle.model.specs.Model.{order_for, doubles_for, most_window}
 use Rattle.recording.specs.declared.Reason.{Reason}
-use Rattle.recording.specs.declared.Answer.{Answer}
-use Rattle.recording.specs.declared.Answer.TheVariants.{Done, Refused}
+use Rattle.recording.specs.Answer.{Answer}
+use Rattle.std.specs.Prelude.{Ok, Err}
 use Rattle.recording.specs.Recording.{readable}
 use Rattle.leaves.proofs.Choice.{truth, EitherWay}
 use Rattle.inpaint.specs.Gap.{gap_wrong, context, from, to, window, needed}
@@ -99,13 +99,13 @@ module _ (samples : List ℕ) (start len f t : ℕ) (ef : f ≡ from start len) 
   window_is = rw (ef, et) refl
 
   -- a word before the gap is refused
-  pub before_out : (a : Answer) (why : Reason) → a ≡ readable f (take (start - f) (drop f samples)) → a ≡ Refused why
+  pub before_out : (a : Answer) (why : Reason) → a ≡ readable f (take (start - f) (drop f samples)) → a ≡ Err why
       → a ≡ all_readable samples start len
   unfolding all_readable known_before
   before_out a why e h = rw (sym (rw ef at e) ∙ h) h
 
   -- none is, and those behind it decide
-  pub before_in : (a b : Answer) (m : ℕ) → a ≡ readable f (take (start - f) (drop f samples)) → a ≡ Done m
+  pub before_in : (a b : Answer) (m : ℕ) → a ≡ readable f (take (start - f) (drop f samples)) → a ≡ Ok m
       → b ≡ readable (start + len) (take (t - (start + len)) (drop (start + len) samples))
       → b ≡ all_readable samples start len
   unfolding all_readable known_before known_behind

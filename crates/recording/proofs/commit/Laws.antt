@@ -24,8 +24,8 @@ use Rattle.leaves.proofs.Lists.{read_within}
 use Rattle.leaves.proofs.Stores.{stored_behind}
 use Rattle.recording.specs.declared.Reason.{Reason}
 use Rattle.recording.specs.declared.Reason.TheVariants.{Result, Room}
-use Rattle.recording.specs.declared.Answer.{Answer}
-use Rattle.recording.specs.declared.Answer.TheVariants.{Done, Refused}
+use Rattle.recording.specs.Answer.{Answer}
+use Rattle.std.specs.Prelude.{Ok, Err}
 
 -- ---- The words of an entry
 
@@ -138,7 +138,7 @@ module _ (work : List ℕ) (n i : ℕ) (h : i < n) where
   unfolding ranged
   pick_in e r = ap ranged (pick_one e) ∙ rw r refl
 
-  pub pick_out : (get_or work (n + i) 0 ≡ 0 → ⊥) → in_range (get_or work i 0) ≡ false → ranged (rest_picked work n i) ≡ Refused (Result i)
+  pub pick_out : (get_or work (n + i) 0 ≡ 0 → ⊥) → in_range (get_or work i 0) ≡ false → ranged (rest_picked work n i) ≡ Err (Result i)
   unfolding ranged
   pick_out e r = ap ranged (pick_one e) ∙ rw r refl
 
@@ -283,16 +283,16 @@ entry_words s mark cs =
     ∙ ap (λ (k : ℕ). sets s.journal s.used (three ++ (k ∷ mark ∷ []))) (sym (length_places cs))
 
 module _ (s : State) (mark : ℕ) (cs : List Placed) where
-  pub entered_none : length cs ≡ 0 → ended (Done 0) s ≡ entered s mark cs
+  pub entered_none : length cs ≡ 0 → ended (Ok 0) s ≡ entered s mark cs
   unfolding entered
   entered_none h = rw (eq-eqb _ _ h) refl
 
   -- with the answer of the range test: a refusal ends the call, and else the rest decides
-  pub carried_out : (a : Answer) (why : Reason) → a ≡ ranged cs → a ≡ Refused why → ended a s ≡ carried s (change mark cs)
+  pub carried_out : (a : Answer) (why : Reason) → a ≡ ranged cs → a ≡ Err why → ended a s ≡ carried s (change mark cs)
   unfolding carried
   carried_out a why e h = rw (← e, h) refl
 
-  pub carried_on : (a : Answer) (m : ℕ) → a ≡ ranged cs → a ≡ Done m → entered s mark cs ≡ carried s (change mark cs)
+  pub carried_on : (a : Answer) (m : ℕ) → a ≡ ranged cs → a ≡ Ok m → entered s mark cs ≡ carried s (change mark cs)
   unfolding carried
   carried_on a m e h = rw (← e, h) refl
 
@@ -311,7 +311,7 @@ module _ (s : State) (mark : ℕ) (cs : List Placed) where
         → counts ≡ recounted marks (places (old_marks (saved_at middle s.used m))) s.counts
         → journal ≡ sets middle (s.used + 3 * m) (m ∷ mark ∷ [])
         → used ≡ s.used + entry_size m
-        → ended (Done m) (state samples marks counts journal used) ≡ entered s mark cs
+        → ended (Ok m) (state samples marks counts journal used) ≡ entered s mark cs
     unfolding entered committed recounted_by
     entered_done m samples marks counts middle journal used count h es em ei ec ej eu =
         let room : entry_size (length cs) ≤ length s.journal - s.used = rw count at h in
@@ -329,9 +329,9 @@ none_stored l start (w ∷ words) h = absurd (omega arith)
 -- The same for a span, whose words come after the entry: nothing is named, there is no room, the entry stands.
 module _ (s : State) (mark start len : ℕ) (words : List ℕ) (count : length words ≡ len) where
   pub span_none : len ≡ 0
-      → ended (Done 0) (state (sets s.samples start words) s.marks s.counts s.journal s.used) ≡ entered s mark (span start words)
+      → ended (Ok 0) (state (sets s.samples start words) s.marks s.counts s.journal s.used) ≡ entered s mark (span start words)
   span_none h =
-      ap (λ (l : List ℕ). ended (Done 0) (state l s.marks s.counts s.journal s.used)) (none_stored s.samples start words (count ∙ h))
+      ap (λ (l : List ℕ). ended (Ok 0) (state l s.marks s.counts s.journal s.used)) (none_stored s.samples start words (count ∙ h))
       ∙ entered_none s mark (span start words) (length_span start words ∙ count ∙ h)
 
   module _ (some : len ≡ 0 → ⊥) where
@@ -348,7 +348,7 @@ module _ (s : State) (mark start len : ℕ) (words : List ℕ) (count : length w
         → counts ≡ recounted marks (places (old_marks (saved_at middle s.used len))) s.counts
         → journal ≡ sets middle (s.used + 3 * len) (len ∷ mark ∷ [])
         → used ≡ s.used + entry_size len
-        → ended (Done len) (state (sets s.samples start words) marks counts journal used) ≡ entered s mark (span start words)
+        → ended (Ok len) (state (sets s.samples start words) marks counts journal used) ≡ entered s mark (span start words)
     span_entered marks counts middle journal used h em ei ec ej eu =
         let named : consecutive start len ≡ places (span start words) = sym (places_span start words ∙ ap (consecutive start) count) in
         entered_done s mark (span start words) span_some len _ marks counts middle journal used (sym (length_span start words ∙ count)) h
@@ -360,13 +360,13 @@ module _ (s : State) (mark start len : ℕ) (words : List ℕ) (count : length w
         eu
 
   -- the words are in range: the call ends as the entry does, and the caller writes the words where it stands
-  module _ (a : Answer) (m : ℕ) (r : Answer) (marks counts journal : List ℕ) (used : ℕ) (e : a ≡ ranged (span start words)) (d : a ≡ Done m) where
-    pub span_refused : (why : Reason) → r ≡ Refused why
+  module _ (a : Answer) (m : ℕ) (r : Answer) (marks counts journal : List ℕ) (used : ℕ) (e : a ≡ ranged (span start words)) (d : a ≡ Ok m) where
+    pub span_refused : (why : Reason) → r ≡ Err why
         → ended r (filled r start words (state s.samples marks counts journal used)) ≡ entered s mark (span start words)
         → ended r (state s.samples marks counts journal used) ≡ carried s (change mark (span start words))
     span_refused why er end = rw er ((rw er at end) ∙ carried_on s mark (span start words) a m e d)
 
-    pub span_written : (k : ℕ) (samples : List ℕ) → r ≡ Done k → samples ≡ sets s.samples start words
+    pub span_written : (k : ℕ) (samples : List ℕ) → r ≡ Ok k → samples ≡ sets s.samples start words
         → ended r (filled r start words (state s.samples marks counts journal used)) ≡ entered s mark (span start words)
         → ended r (state samples marks counts journal used) ≡ carried s (change mark (span start words))
     span_written k samples er es end = rw (er, es) ((rw er at end) ∙ carried_on s mark (span start words) a m e d)

@@ -13,7 +13,7 @@ use borrow.Author.Tests.{eq-eqb, ne_eqb, lt-ltb, le-ltb}
 use Rattle.recording.specs.Counts.{block_of, block_begin, blocks}
 use Rattle.recording.specs.Question.{all_are, marks_say, counts_say, span_measured, span_past, span_verdict}
 use Rattle.recording.specs.declared.Reason.TheVariants.{Gap, Blocks}
-use Rattle.recording.specs.declared.Verdict.TheVariants.{Yes, No, TurnedAway}
+use Rattle.std.specs.Prelude.{Ok, Err}
 
 -- ---- One turn over a stretch of elements
 
@@ -125,20 +125,20 @@ module _ (n start len : ℕ) where
       ]
 
 module _ (marks counts : List ℕ) (start len : ℕ) where
-  pub verdict_blocks : (length counts ≡ blocks (length marks) → ⊥) → TurnedAway Blocks ≡ span_verdict marks counts start len
+  pub verdict_blocks : (length counts ≡ blocks (length marks) → ⊥) → Err Blocks ≡ span_verdict marks counts start len
   unfolding span_verdict
   verdict_blocks h = rw (ne_eqb _ _ h) refl
 
   module _ (one : length counts ≡ blocks (length marks)) (past : Bool) (tested : past ≡ span_past (length marks) start len) where
-    pub verdict_gap : past ≡ true → TurnedAway Gap ≡ span_verdict marks counts start len
+    pub verdict_gap : past ≡ true → Err Gap ≡ span_verdict marks counts start len
     unfolding span_verdict
     verdict_gap h = rw (eq-eqb _ _ one, ← tested, h) refl
 
     module _ (inside : past ≡ false) (says : Bool) (looked : says ≡ span_measured marks counts start len) where
-      pub verdict_yes : says ≡ true → Yes ≡ span_verdict marks counts start len
+      pub verdict_yes : says ≡ true → Ok true ≡ span_verdict marks counts start len
       unfolding span_verdict
       verdict_yes h = rw (eq-eqb _ _ one, ← tested, inside, ← looked, h) refl
 
-      pub verdict_no : says ≡ false → No ≡ span_verdict marks counts start len
+      pub verdict_no : says ≡ false → Ok false ≡ span_verdict marks counts start len
       unfolding span_verdict
       verdict_no h = rw (eq-eqb _ _ one, ← tested, inside, ← looked, h) refl

@@ -11,8 +11,8 @@ use lib.Seq.{drop-cons}
 use Rattle.leaves.specs.Floats.{in_range}
 use Rattle.recording.specs.Recording.{readable}
 use Rattle.recording.specs.declared.Reason.TheVariants.{Read}
-use Rattle.recording.specs.declared.Answer.{Answer}
-use Rattle.recording.specs.declared.Answer.TheVariants.{Done, Refused}
+use Rattle.recording.specs.Answer.{Answer}
+use Rattle.std.specs.Prelude.{Ok, Err}
 use Rattle.leaves.proofs.Choice.{truth, EitherWay}
 
 -- one turn of the test of words, and the word that is out of range
@@ -24,17 +24,17 @@ read_more ws first i h e =
     rw (drop-cons ws i 0, e, next, add-one i) refl
 
 pub read_out : (ws : List ℕ) (first i : ℕ) → i < length ws → in_range (get_or ws i 0) ≡ false
-    → readable (first + i) (drop i ws) ≡ Refused (Read (first + i))
+    → readable (first + i) (drop i ws) ≡ Err (Read (first + i))
 unfolding readable
 read_out ws first i h e = rw (drop-cons ws i 0, e) refl
 
-pub read_done : (ws : List ℕ) (first i : ℕ) → length ws ≤ i → readable (first + i) (drop i ws) ≡ Done 0
+pub read_done : (ws : List ℕ) (first i : ℕ) → length ws ≤ i → readable (first + i) (drop i ws) ≡ Ok 0
 unfolding readable
 read_done ws first i h = rw (drop_of_length-le ws h) refl
 
 -- the test of what is read gives no other refusal than 7
 abbrev pub ReadEnds : Answer → Type 0
-ReadEnds a = (a ≡ Done 0) ⊎ ((i : ℕ) × (a ≡ Refused (Read i)))
+ReadEnds a = (a ≡ Ok 0) ⊎ ((i : ℕ) × (a ≡ Err (Read i)))
 
 pub readable_ends : (i : ℕ) (ws : List ℕ) → ReadEnds (readable i ws)
 unfolding readable

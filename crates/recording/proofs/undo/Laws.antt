@@ -22,8 +22,8 @@ use Rattle.recording.specs.Counts.{recounted}
 use Rattle.recording.specs.Inner.{any_wrong, Fits, Restorable, Recountable}
 use Rattle.recording.specs.declared.Reason.{Reason}
 use Rattle.recording.specs.declared.Reason.TheVariants.{Nothing, Malformed}
-use Rattle.recording.specs.declared.Answer.{Answer}
-use Rattle.recording.specs.declared.Answer.TheVariants.{Done, Refused}
+use Rattle.recording.specs.Answer.{Answer}
+use Rattle.std.specs.Prelude.{Ok, Err}
 
 -- ---- the tests of saved samples, in one pass
 
@@ -342,11 +342,11 @@ recountable s m fits entry marks long =
 -- One law for each way out: what the tests of the sizes answered, the tests that failed, the test that holds, and how
 -- the call ends
 module _ (s : State) (sized : Answer) (answered : sized ≡ fitting s) where
-  pub undone_unfit : (why : Reason) → sized ≡ Refused why → ended sized s ≡ undone s
+  pub undone_unfit : (why : Reason) → sized ≡ Err why → ended sized s ≡ undone s
   unfolding undone
   undone_unfit why h = rw (← answered, h) refl
 
-  module _ (none : ℕ) (accepted : sized ≡ Done none) where
+  module _ (none : ℕ) (accepted : sized ≡ Ok none) where
     pub undone_nothing : s.used ≡ 0 → refused s Nothing ≡ undone s
     unfolding undone
     undone_nothing h = rw (← answered, accepted, eq-eqb s.used 0 h) refl
@@ -363,7 +363,7 @@ module _ (s : State) (sized : Answer) (answered : sized ≡ fitting s) where
           → marks ≡ put (old_marks (saved_at s.journal (s.used - entry_size m) m)) s.marks
           → counts ≡ recounted marks (places (old_marks (saved_at s.journal (s.used - entry_size m) m))) s.counts
           → journal ≡ sets s.journal (s.used - entry_size m) (replicate (entry_size m) 0)
-          → ended (Done m) (state samples marks counts journal (s.used - entry_size m)) ≡ undone s
+          → ended (Ok m) (state samples marks counts journal (s.used - entry_size m)) ≡ undone s
       unfolding undone taken_back last_saved recounted_by
       undone_done good m read samples marks counts journal words bytes blocks zeros =
           rw (← answered, accepted, ne_eqb s.used 0 some, ← found, good, blocks, words, bytes, zeros, ← read) refl

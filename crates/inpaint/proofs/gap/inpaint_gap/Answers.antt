@@ -4,7 +4,7 @@ use Rattle.std.proofs.Common.{◌≡◌, ◌≤◌, false, length, sym, refl, ap
 use Rattle.leaves.specs.Arithmetic.{nought}
 use Rattle.recording.specs.Recording.{state, work_after}
 use Rattle.recording.specs.Inner.{Fits}
-use Rattle.recording.specs.declared.Answer.{Answer}
+use Rattle.recording.specs.Answer.{Answer}
 use Rattle.recording.proofs.open.Laws.{accepted_fits}
 use Rattle.recording.proofs.Performing.{unfit_keeps, commit_clears}
 use Rattle.inpaint.specs.Gap.{gap_wrong, needed}

@@ -7,24 +7,24 @@ use lib.Seq.{sets}
 use borrow.Author.Tests.{lt-ltb, le-ltb}
 use Rattle.recording.specs.declared.Reason.{Reason}
 use Rattle.recording.specs.declared.Reason.TheVariants.{Workspace}
-use Rattle.recording.specs.declared.Answer.TheVariants.{Done, Refused}
+use Rattle.std.specs.Prelude.{Ok, Err}
 use Rattle.settings.specs.declared.Settings.{Settings}
 use Rattle.settings.specs.declared.Kept.{Kept}
 use Rattle.settings.specs.declared.Kept.TheVariants.{Known, TurnedAway}
 use Rattle.settings.specs.Settings.{parts, words, read, left, read_to}
 use Rattle.settings.proofs.read.read_to.Goals as goal
 
-short_area : (block area : List ℕ) → length area < parts → left (Refused Workspace) area ≡ read_to block area
+short_area : (block area : List ℕ) → length area < parts → left (Err Workspace) area ≡ read_to block area
 unfolding read_to
 short_area block area short = rw (lt-ltb (length area) parts short) refl
 
 module _ (block area : List ℕ) (room : parts ≤ length area) (k : Kept) (told : k ≡ read block) where
   known : (s : Settings) (after : List ℕ) → k ≡ Known s → after ≡ sets area 0 (words s)
-      → left (Done parts) after ≡ read_to block area
+      → left (Ok parts) after ≡ read_to block area
   unfolding read_to
   known s after is e = rw (e, le-ltb (length area) parts room, sym told ∙ is) refl
 
-  turned_away : (why : Reason) → k ≡ TurnedAway why → left (Refused why) area ≡ read_to block area
+  turned_away : (why : Reason) → k ≡ TurnedAway why → left (Err why) area ≡ read_to block area
   unfolding read_to
   turned_away why is = rw (le-ltb (length area) parts room, sym told ∙ is) refl
 

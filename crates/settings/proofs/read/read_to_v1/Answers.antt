@@ -7,24 +7,24 @@ use lib.Seq.{sets}
 use borrow.Author.Tests.{lt-ltb, le-ltb}
 use Rattle.recording.specs.declared.Reason.{Reason}
 use Rattle.recording.specs.declared.Reason.TheVariants.{Workspace}
-use Rattle.recording.specs.declared.Answer.TheVariants.{Done, Refused}
+use Rattle.std.specs.Prelude.{Ok, Err}
 use Rattle.settings.specs.declared.SettingsV1.{SettingsV1}
 use Rattle.settings.specs.declared.KeptV1.{KeptV1}
 use Rattle.settings.specs.declared.KeptV1.TheVariants.{KnownV1, TurnedAwayV1}
 use Rattle.settings.specs.Settings.{parts_v1, words_v1, read_v1, left, read_to_v1}
 use Rattle.settings.proofs.read.read_to_v1.Goals as goal
 
-short_area : (block area : List ℕ) → length area < parts_v1 → left (Refused Workspace) area ≡ read_to_v1 block area
+short_area : (block area : List ℕ) → length area < parts_v1 → left (Err Workspace) area ≡ read_to_v1 block area
 unfolding read_to_v1
 short_area block area short = rw (lt-ltb (length area) parts_v1 short) refl
 
 module _ (block area : List ℕ) (room : parts_v1 ≤ length area) (k : KeptV1) (told : k ≡ read_v1 block) where
   known : (s : SettingsV1) (after : List ℕ) → k ≡ KnownV1 s → after ≡ sets area 0 (words_v1 s)
-      → left (Done parts_v1) after ≡ read_to_v1 block area
+      → left (Ok parts_v1) after ≡ read_to_v1 block area
   unfolding read_to_v1
   known s after is e = rw (e, le-ltb (length area) parts_v1 room, sym told ∙ is) refl
 
-  turned_away : (why : Reason) → k ≡ TurnedAwayV1 why → left (Refused why) area ≡ read_to_v1 block area
+  turned_away : (why : Reason) → k ≡ TurnedAwayV1 why → left (Err why) area ≡ read_to_v1 block area
   unfolding read_to_v1
   turned_away why is = rw (le-ltb (length area) parts_v1 room, sym told ∙ is) refl
 

@@ -5,12 +5,12 @@ use mathlib.Core.List.{List}
 use lib.ListN.{length}
 use borrow.Author.Tests.{lt-ltb, le-ltb}
 use Rattle.recording.specs.declared.Reason.TheVariants.{Workspace}
-use Rattle.recording.specs.declared.Answer.TheVariants.{Refused}
+use Rattle.std.specs.Prelude.{Err}
 use Rattle.settings.specs.declared.Settings.{Settings}
 use Rattle.settings.specs.Settings.{parts, settings, Left, left, write, write_from}
 use Rattle.settings.proofs.write.write_from.Goals as goal
 
-too_few : (ws room : List ℕ) → length ws < parts → left (Refused Workspace) room ≡ write_from ws room
+too_few : (ws room : List ℕ) → length ws < parts → left (Err Workspace) room ≡ write_from ws room
 unfolding write_from
 too_few ws room few = rw (lt-ltb (length ws) parts few) refl
 

@@ -5,12 +5,12 @@ use mathlib.Core.List.{List}
 use lib.ListN.{length}
 use borrow.Author.Tests.{lt-ltb, le-ltb}
 use Rattle.recording.specs.declared.Reason.TheVariants.{Workspace}
-use Rattle.recording.specs.declared.Answer.TheVariants.{Refused}
+use Rattle.std.specs.Prelude.{Err}
 use Rattle.settings.specs.declared.SettingsV1.{SettingsV1}
 use Rattle.settings.specs.Settings.{parts_v1, settings_v1, Left, left, write_v1, write_from_v1}
 use Rattle.settings.proofs.write.write_from_v1.Goals as goal
 
-too_few : (ws room : List ℕ) → length ws < parts_v1 → left (Refused Workspace) room ≡ write_from_v1 ws room
+too_few : (ws room : List ℕ) → length ws < parts_v1 → left (Err Workspace) room ≡ write_from_v1 ws room
 unfolding write_from_v1
 too_few ws room few = rw (lt-ltb (length ws) parts_v1 few) refl
 

@@ -9,7 +9,7 @@ use Rattle.recording.proofs.open.Laws.{accepted_fits}
 use Rattle.recording.proofs.undo.Laws.{Sound, sound, restorable, recountable}
 use Rattle.recording.proofs.Put.{length_put}
 use Rattle.recording.proofs.undo.Laws.{undone_unfit, undone_nothing, undone_malformed, undone_done}
-use Rattle.recording.proofs.undo.undo.Goals as goal
+use Rattle.recording.proofs.Recording.undo.Goals as goal
 
 pub returns-in_default : goal.returns-in_default
 returns-in_default c = undone_unfit _ _ c.check_sizes-sized.ensures _ c.in_default.is

@@ -9,7 +9,7 @@ use Prim.Native.Nat.{◌≤◌}
 use native.Mathlib.Omega.{arith}
 use native.Mathlib.Nat.{le_trans}
 use Rattle.recording.specs.Recording.{state, most_samples}
-use Rattle.recording.proofs.commit.commit_picked.Goals as goal
+use Rattle.recording.proofs.Recording.commit_picked.Goals as goal
 
 pub returns-in_default : goal.returns-in_default
 returns-in_default c = carried_out _ _ _ _ _ c.check_picked-checked.ensures c.in_default.is

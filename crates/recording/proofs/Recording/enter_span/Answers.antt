@@ -1,7 +1,7 @@
 -- `recording::commit::enter_span` meets its contract: each way out is a line of the rule, whatever words come to stand in
 -- the span. Assumes nothing.
 use Rattle.recording.proofs.commit.Laws.{span_none, span_room, span_recountable, span_entered}
-use Rattle.recording.proofs.commit.enter_span.Goals as goal
+use Rattle.recording.proofs.Recording.enter_span.Goals as goal
 
 pub returns-then-len-eq0 : goal.returns-then-len-eq0
 returns-then-len-eq0 c = λ words count. span_none _ _ _ _ words count c.if-len-eq0.true

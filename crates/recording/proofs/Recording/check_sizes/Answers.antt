@@ -1,6 +1,6 @@
 -- `recording::open::check_sizes` meets its contract: each way out is a line of the table. Assumes nothing.
 use Rattle.recording.proofs.open.Laws.{fitting_refused, fitting_used, fitting_all}
-use Rattle.recording.proofs.open.check_sizes.Goals as goal
+use Rattle.recording.proofs.Recording.check_sizes.Goals as goal
 
 pub returns-in_default : goal.returns-in_default
 returns-in_default c = fitting_refused _ _ c.check_counts-counted.ensures _ c.in_default.is
