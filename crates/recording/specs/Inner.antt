@@ -3,7 +3,8 @@
 use Rattle.std.specs.Prelude.{ℕ, zero, suc, ◌+◌, ◌*◌, ◌≤◌, ◌≡◌, Bool, false, not, ◌||◌, List, [], ◌∷◌, map, length, get_or, take, drop, leb, ltb, eqb}
 use Rattle.std.proofs.lemmas.List.Edits.{sets}
 use Rattle.std.specs.Prelude.{if◌then◌else◌}
-use Rattle.recording.specs.Recording.{State, state, Placed, Saved, most_samples, picked, saved_at, place_past, mark_past}
+use Rattle.recording.specs.Recording.{State, state, Placed, Saved, most_samples, picked, saved_at, place_past, mark_past, malformed, last_count}
+use Rattle.recording.specs.declared.Reason.TheVariants.{Nothing, Malformed}
 use Rattle.recording.specs.Counts.{blocks}
 use Rattle.recording.specs.Answer.{Answer}
 use Rattle.std.specs.Prelude.{Ok, Err}
@@ -46,6 +47,14 @@ picked_from work n i (suc left) =
 unfoldable pub any_wrong : ℕ → ℕ → List Saved → Bool
 any_wrong n least [] = false
 any_wrong n least (t ∷ ts) = ltb t.place least || leb n t.place || ltb 255 t.mark || any_wrong n (t.place + 1) ts
+
+-- the refusal among 10 and 11, or else an acceptance with the number of samples that the last entry saved
+unfoldable pub last_entry : State → Answer
+unfolding malformed
+last_entry s =
+    if eqb s.used 0 then Err Nothing else
+    if malformed (length s.samples) s.journal s.used then Err Malformed else
+    Ok (last_count s.journal s.used)
 
 -- m saved samples from journal word `begin` on can be given back: they are there, and their places and marks are such
 pub record Restorable (samples marks journal : List ℕ) (begin m : ℕ) : Type 0 where

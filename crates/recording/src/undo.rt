@@ -2,7 +2,7 @@
 ghost use Rattle.std.specs.Prelude.{◌≡◌, ◌+◌, ◌*◌, ◌≤◌, ◌<◌, length};
 ghost use Rattle.recording.specs.Recording.{ended, saved_at, put, old_words, old_marks, malformed, undone};
 ghost use Rattle.recording.specs.Lent.{held, SameMemory};
-ghost use Rattle.recording.specs.Inner.{any_wrong, Restorable};
+ghost use Rattle.recording.specs.Inner.{any_wrong, Restorable, last_entry};
 
 use super::clear::set_all;
 use super::counts::recount;
@@ -87,13 +87,12 @@ fn give_back(samples: &mut [u32], marks: &mut [u8], journal: &[u32], begin: usiz
 }
 
 impl Recording<'_> {
-    // Takes back the last entry: its samples get their old words and marks, their blocks are recounted, and its
-    // journal words become 0 and free. Any journal whatever is answered, also one that no repair wrote.
-    pub fn undo(&mut self) -> Answer
-        ensures memory { SameMemory self.old self.new }
-        ensures rule { ended result (held self.new) ≡ undone (held self.old) }
+    // Refusals 10 and 11, in this order; accepted, with the number of samples that the last entry saved, where
+    // neither applies. Any journal whatever is answered, also one that no repair wrote.
+    fn last_entry(&self) -> Answer
+        requires { self.now.used.now ≤ length self.now.journal.now }
+        ensures { result ≡ last_entry (held self.now) }
     {
-        self.check_sizes()?;
         let end = *self.used;
         if end == 0 {
             return Err(Reason::Nothing);
@@ -101,7 +100,18 @@ impl Recording<'_> {
         if last_malformed(self.samples.len(), self.journal, end) {
             return Err(Reason::Malformed);
         }
-        let m = index(self.journal[end - 2]);
+        Ok(index(self.journal[end - 2]))
+    }
+
+    // Takes back the last entry: its samples get their old words and marks, their blocks are recounted, and its
+    // journal words become 0 and free.
+    pub fn undo(&mut self) -> Answer
+        ensures memory { SameMemory self.old self.new }
+        ensures rule { ended result (held self.new) ≡ undone (held self.old) }
+    {
+        self.check_sizes()?;
+        let m = self.last_entry()?;
+        let end = *self.used;
         let begin = end - (3 * m + 2);
         let samples = &mut *self.samples;
         let marks = &mut *self.marks;

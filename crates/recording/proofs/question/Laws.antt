@@ -135,10 +135,6 @@ module _ (marks counts : List ℕ) (start len : ℕ) where
     verdict_gap h = rw (eq-eqb _ _ one, ← tested, h) refl
 
     module _ (inside : past ≡ false) (says : Bool) (looked : says ≡ span_measured marks counts start len) where
-      pub verdict_yes : says ≡ true → Ok true ≡ span_verdict marks counts start len
+      pub verdict_said : Ok says ≡ span_verdict marks counts start len
       unfolding span_verdict
-      verdict_yes h = rw (eq-eqb _ _ one, ← tested, inside, ← looked, h) refl
-
-      pub verdict_no : says ≡ false → Ok false ≡ span_verdict marks counts start len
-      unfolding span_verdict
-      verdict_no h = rw (eq-eqb _ _ one, ← tested, inside, ← looked, h) refl
+      verdict_said = rw (eq-eqb _ _ one, ← tested, inside, ← looked) refl

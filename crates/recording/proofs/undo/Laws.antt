@@ -11,15 +11,17 @@ use lib.ListN.{length, get_or, set, length-set, replicate}
 use lib.Seq.{sets}
 use lib.Dec.{leb, ltb, eqb, leb-suc-zero, leb-suc-suc}
 use borrow.Author.Tests.{lt-ltb, le-ltb, le-leb, lt-leb, eq-eqb, ne_eqb, ltb-false, leb-false}
-use Rattle.leaves.proofs.Choice.{neither}
-use Rattle.recording.specs.Recording.{State, state, ended, refused}
+use Rattle.leaves.proofs.Choice.{neither, picks_by}
+use Rattle.recording.specs.Answers.{number, value}
+use Rattle.std.specs.Prelude.{if◌then◌else◌}
+use Rattle.recording.specs.Recording.{State, state, Ended, ended, refused}
 use Rattle.recording.specs.Recording.{fitting}
 use Rattle.recording.specs.Recording.{Saved, saved_at, place_past, not_rising, mark_past, put, old_words, old_marks}
 use Rattle.recording.specs.Recording.{entry_size, last_count, last_mark, last_saved, malformed}
 use Rattle.recording.specs.Marks.{made}
 use Rattle.recording.specs.Recording.{places, recounted_by, taken_back, undone}
 use Rattle.recording.specs.Counts.{recounted}
-use Rattle.recording.specs.Inner.{any_wrong, Fits, Restorable, Recountable}
+use Rattle.recording.specs.Inner.{any_wrong, Fits, Restorable, Recountable, last_entry}
 use Rattle.recording.specs.declared.Reason.{Reason}
 use Rattle.recording.specs.declared.Reason.TheVariants.{Nothing, Malformed}
 use Rattle.recording.specs.Answer.{Answer}
@@ -304,6 +306,7 @@ few_if_rising n journal used below rises =
 
 -- The last entry of a recording, of m samples, is there, and its samples can be given back.
 pub record Sound (s : State) (m : ℕ) : Type 0 where
+  pub few : m ≤ length s.samples
   pub there : entry_size m ≤ s.used
   pub places : place_past (length s.samples) (saved_at s.journal (s.used - entry_size m) m) ≡ false
   pub bytes : mark_past (saved_at s.journal (s.used - entry_size m) m) ≡ false
@@ -320,8 +323,10 @@ sound s m read h =
     (sym (clauses n s.journal s.used m read) ∙ h) in
     let parts = neither (few || past) (any_wrong n 0 olds) all.0 in
     let tests = neither (place_past n olds || not_rising olds) (mark_past olds) (sym (three_tests n olds) ∙ parts.1) in
+    let sizes = neither few past parts.0 in
     record {
-      there = ltb-false _ _ (neither few past parts.0).1;
+      few = ltb-false _ _ (neither (eqb s.used 1 || eqb m 0) (ltb n m) sizes.0).1;
+      there = ltb-false _ _ sizes.1;
       places = (neither (place_past n olds) (not_rising olds) tests.0).0;
       bytes = tests.1;
     }
@@ -339,31 +344,78 @@ recountable s m fits entry marks long =
     let same : length marks ≡ length s.samples = long ∙ fits.marked in
     record { counted = rw same fits.counted; there = omega (arith, entry.there, fits.within); places = rw same entry.places }
 
--- One law for each way out: what the tests of the sizes answered, the tests that failed, the test that holds, and how
--- the call ends
+-- ---- the last entry: what it is refused for, and what is known where it is not
+
+pub entry_none : (s : State) → s.used ≡ 0 → Err Nothing ≡ last_entry s
+unfolding last_entry
+entry_none s h = rw (eq-eqb s.used 0 h) refl
+
+module _ (s : State) (some : s.used ≡ 0 → ⊥) (bad : Bool) (found : bad ≡ malformed (length s.samples) s.journal s.used) where
+  pub entry_bad : bad ≡ true → Err Malformed ≡ last_entry s
+  unfolding last_entry
+  entry_bad h = rw (ne_eqb s.used 0 some, ← found, h) refl
+
+  pub entry_good : bad ≡ false → (m : ℕ) → m ≡ last_count s.journal s.used → Ok m ≡ last_entry s
+  unfolding last_entry
+  entry_good h m read = rw (ne_eqb s.used 0 some, ← found, h, ← read) refl
+
+-- one that is not refused: there is one, it is not malformed, and it saved so many
+pub record Taken (s : State) (m : ℕ) : Type 0 where
+  pub some : eqb s.used 0 ≡ false
+  pub good : malformed (length s.samples) s.journal s.used ≡ false
+  pub read : m ≡ last_count s.journal s.used
+
+abbrev TakenWith : State → Answer → Type 0
+TakenWith s a = (m : ℕ) → a ≡ Ok m → Taken s m
+
+pub entry_taken : (s : State) (a : Answer) → a ≡ last_entry s → (m : ℕ) → a ≡ Ok m → Taken s m
+unfolding last_entry
+entry_taken s a e m h =
+    picks_by (TakenWith s) (eqb s.used 0) _ _
+    (λ none k f. absurd (omega (arith, ap number f)))
+    (λ some. picks_by (TakenWith s) (malformed (length s.samples) s.journal s.used) _ _
+    (λ bad k f. absurd (omega (arith, ap number f)))
+    (λ good k f. record { some = some; good = good; read = sym (ap value f) })) m (sym e ∙ h)
+
+-- what it saved can be read
+pub entry_sound : (s : State) (a : Answer) → a ≡ last_entry s → (m : ℕ) → a ≡ Ok m → Sound s m
+entry_sound s a e m h = let taken = entry_taken s a e m h in sound s m taken.read taken.good
+
+-- ---- the call ends
+
+-- how it ends once the last entry was looked at
+abbrev concluded : State → Answer → Ended
+concluded s (Ok m) = ended (Ok m) (taken_back s)
+concluded s (Err why) = refused s why
+
+either_way : (s : State) (a b : Bool) (m : ℕ)
+    → (if a then refused s Nothing else if b then refused s Malformed else ended (Ok m) (taken_back s))
+    ≡ concluded s (if a then Err Nothing else if b then Err Malformed else Ok m)
+either_way s true b m = refl
+either_way s false true m = refl
+either_way s false false m = refl
+
 module _ (s : State) (sized : Answer) (answered : sized ≡ fitting s) where
   pub undone_unfit : (why : Reason) → sized ≡ Err why → ended sized s ≡ undone s
   unfolding undone
   undone_unfit why h = rw (← answered, h) refl
 
-  module _ (none : ℕ) (accepted : sized ≡ Ok none) where
-    pub undone_nothing : s.used ≡ 0 → refused s Nothing ≡ undone s
-    unfolding undone
-    undone_nothing h = rw (← answered, accepted, eq-eqb s.used 0 h) refl
+  module _ (none : ℕ) (accepted : sized ≡ Ok none) (last : Answer) (asked : last ≡ last_entry s) where
+    concluding : undone s ≡ concluded s last
+    unfolding undone last_entry
+    concluding = rw (← answered, accepted, asked) (either_way s (eqb s.used 0) (malformed (length s.samples) s.journal s.used) _)
 
-    module _ (some : s.used ≡ 0 → ⊥) (bad : Bool)
-        (found : bad ≡ malformed (length s.samples) s.journal s.used) where
-      pub undone_malformed : bad ≡ true → refused s Malformed ≡ undone s
-      unfolding undone
-      undone_malformed h = rw (← answered, accepted, ne_eqb s.used 0 some, ← found, h) refl
+    pub undone_refused : (why : Reason) → last ≡ Err why → ended last s ≡ undone s
+    undone_refused why h = rw h (sym (concluding ∙ ap (concluded s) h))
 
-      pub undone_done : bad ≡ false → (m : ℕ) → m ≡ last_count s.journal s.used
-          → (samples marks counts journal : List ℕ)
-          → samples ≡ put (old_words (saved_at s.journal (s.used - entry_size m) m)) s.samples
-          → marks ≡ put (old_marks (saved_at s.journal (s.used - entry_size m) m)) s.marks
-          → counts ≡ recounted marks (places (old_marks (saved_at s.journal (s.used - entry_size m) m))) s.counts
-          → journal ≡ sets s.journal (s.used - entry_size m) (replicate (entry_size m) 0)
-          → ended (Ok m) (state samples marks counts journal (s.used - entry_size m)) ≡ undone s
-      unfolding undone taken_back last_saved recounted_by
-      undone_done good m read samples marks counts journal words bytes blocks zeros =
-          rw (← answered, accepted, ne_eqb s.used 0 some, ← found, good, blocks, words, bytes, zeros, ← read) refl
+    pub undone_done : (m : ℕ) → last ≡ Ok m
+        → (samples marks counts journal : List ℕ)
+        → samples ≡ put (old_words (saved_at s.journal (s.used - entry_size m) m)) s.samples
+        → marks ≡ put (old_marks (saved_at s.journal (s.used - entry_size m) m)) s.marks
+        → counts ≡ recounted marks (places (old_marks (saved_at s.journal (s.used - entry_size m) m))) s.counts
+        → journal ≡ sets s.journal (s.used - entry_size m) (replicate (entry_size m) 0)
+        → ended (Ok m) (state samples marks counts journal (s.used - entry_size m)) ≡ undone s
+    unfolding taken_back last_saved recounted_by
+    undone_done m h samples marks counts journal words bytes blocks zeros =
+        let read = (entry_taken s last asked m h).read in
+        rw (blocks, words, bytes, zeros) (sym (concluding ∙ ap (concluded s) h ∙ rw (← read) refl))

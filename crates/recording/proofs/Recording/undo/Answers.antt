@@ -1,93 +1,79 @@
--- `recording::undo::undo` meets its contract: each way out is a line of the rule, and an entry that is not malformed
--- can be given back and its words cleared. Assumes nothing.
-use mathlib.Core.Path.{refl, sym, ap, ◌∙◌}
+-- `Recording::undo` meets its contract: each way out is a line of the rule, and an entry that is not malformed can be
+-- given back and its words cleared. Assumes nothing.
+use mathlib.Core.Path.{sym, ap, ◌∙◌}
 use lib.ListN.{length}
+use Prim.Native.Nat.{◌≤◌}
 use native.Mathlib.Omega.{arith}
-use Rattle.recording.specs.Recording.{state}
+use native.Mathlib.Nat.{le_trans}
+use Rattle.recording.specs.Recording.{entry_size, most_samples}
+use Rattle.std.proofs.lemmas.Result.{err_from_is_err_and}
 use Rattle.recording.specs.Inner.{Fits}
+use Rattle.recording.specs.Lent.{held}
 use Rattle.recording.proofs.open.Laws.{accepted_fits}
-use Rattle.recording.proofs.undo.Laws.{Sound, sound, restorable, recountable}
+use Rattle.recording.proofs.undo.Laws.{Sound, entry_sound, restorable, recountable, undone_unfit, undone_refused, undone_done}
 use Rattle.recording.proofs.Put.{length_put}
-use Rattle.recording.proofs.undo.Laws.{undone_unfit, undone_nothing, undone_malformed, undone_done}
 use Rattle.recording.proofs.Recording.undo.Goals as goal
 
-pub returns-in_default : goal.returns-in_default
-returns-in_default c = undone_unfit _ _ c.check_sizes-sized.ensures _ c.in_default.is
+pub returns-in_err-check_sizes-clause-rule : goal.returns-in_err-check_sizes-clause-rule
+returns-in_err-check_sizes-clause-rule c =
+    let p = err_from_is_err_and c.from_residual.result c.from_residual.ensures.1 in
+    rw (p.1, p.2, ← c.in_err-check_sizes.was) (undone_unfit _ _ c.check_sizes.ensures _ c.in_err-check_sizes.was)
 
-pub returns-then-end-eq0 : goal.returns-then-end-eq0
-returns-then-end-eq0 c =
-    undone_nothing (let a = c.args in state a.samples.now a.marks.now a.counts.now a.journal.now a.used.now) _ c.check_sizes-sized.ensures _ c.in-Done.is
-    c.if-end-eq0.true
+pub last_entry-requires : goal.last_entry-requires
+last_entry-requires c = (accepted_fits (held c.args.self.now) _ (sym c.check_sizes.ensures ∙ c.in_ok-check_sizes.was)).within
 
-pub last_malformed-requires : goal.last_malformed-requires
-last_malformed-requires c =
-    let sizes_fit : Fits (let a = c.args in state a.samples.now a.marks.now a.counts.now a.journal.now a.used.now) = accepted_fits _ _ (sym c.check_sizes-sized.ensures ∙ c.in-Done.is) in
-    omega (arith, sizes_fit.within)
-
-pub returns-then-last_malformed : goal.returns-then-last_malformed
-returns-then-last_malformed c =
-    undone_malformed (let a = c.args in state a.samples.now a.marks.now a.counts.now a.journal.now a.used.now) _ c.check_sizes-sized.ensures _ c.in-Done.is
-    c.if-end-eq0.false _ c.last_malformed.ensures c.if-last_malformed.true
-
-pub overflow_sub-end : goal.overflow_sub-end
-overflow_sub-end c = omega (arith, (sound (let a = c.args in state a.samples.now a.marks.now a.counts.now a.journal.now a.used.now) _ refl (sym c.last_malformed.ensures ∙ c.if-last_malformed.false)).there)
-
-pub offset_bounds-journal-end : goal.offset_bounds-journal-end
-offset_bounds-journal-end c =
-    let sizes_fit : Fits (let a = c.args in state a.samples.now a.marks.now a.counts.now a.journal.now a.used.now) = accepted_fits _ _ (sym c.check_sizes-sized.ensures ∙ c.in-Done.is) in
-    omega (arith, sizes_fit.within, c.well_formed.1.1.1.0.1)
-
-pub bounds-journal-end : goal.bounds-journal-end
-bounds-journal-end c =
-    let sizes_fit : Fits (let a = c.args in state a.samples.now a.marks.now a.counts.now a.journal.now a.used.now) = accepted_fits _ _ (sym c.check_sizes-sized.ensures ∙ c.in-Done.is) in
-    omega (arith, sizes_fit.within)
+pub returns-in_err-m-clause-rule : goal.returns-in_err-m-clause-rule
+returns-in_err-m-clause-rule c =
+    let p = err_from_is_err_and c.from_residual-in_err-m.result c.from_residual-in_err-m.ensures.1 in
+    rw (p.1, p.2, ← c.in_err-m.was)
+    (undone_refused (held c.args.self.now) _ c.check_sizes.ensures _ c.in_ok-check_sizes.was _ c.last_entry.ensures _ c.in_err-m.was)
 
 pub overflow_mul-begin : goal.overflow_mul-begin
 overflow_mul-begin c =
-    let read_sound : Sound (let a = c.args in state a.samples.now a.marks.now a.counts.now a.journal.now a.used.now) c.index-m.result = sound (let a = c.args in state a.samples.now a.marks.now a.counts.now a.journal.now a.used.now) _ c.index-m.ensures (sym c.last_malformed.ensures ∙ c.if-last_malformed.false) in
-    omega (arith, read_sound.there)
+    let few : c.in_ok-m.m ≤ most_samples = le_trans (entry_sound (held c.args.self.now) _ c.last_entry.ensures _ c.in_ok-m.was).few
+    (accepted_fits (held c.args.self.now) _ (sym c.check_sizes.ensures ∙ c.in_ok-check_sizes.was)).few in
+    omega arith
 
 pub overflow_add-begin : goal.overflow_add-begin
 overflow_add-begin c =
-    let read_sound : Sound (let a = c.args in state a.samples.now a.marks.now a.counts.now a.journal.now a.used.now) c.index-m.result = sound (let a = c.args in state a.samples.now a.marks.now a.counts.now a.journal.now a.used.now) _ c.index-m.ensures (sym c.last_malformed.ensures ∙ c.if-last_malformed.false) in
-    omega (arith, read_sound.there)
+    let few : c.in_ok-m.m ≤ most_samples = le_trans (entry_sound (held c.args.self.now) _ c.last_entry.ensures _ c.in_ok-m.was).few
+    (accepted_fits (held c.args.self.now) _ (sym c.check_sizes.ensures ∙ c.in_ok-check_sizes.was)).few in
+    omega arith
 
 pub overflow_sub-begin : goal.overflow_sub-begin
 overflow_sub-begin c =
-    let read_sound : Sound (let a = c.args in state a.samples.now a.marks.now a.counts.now a.journal.now a.used.now) c.index-m.result = sound (let a = c.args in state a.samples.now a.marks.now a.counts.now a.journal.now a.used.now) _ c.index-m.ensures (sym c.last_malformed.ensures ∙ c.if-last_malformed.false) in
-    omega (arith, read_sound.there)
+    let there : entry_size c.in_ok-m.m ≤ c.args.self.now.used.now = (entry_sound (held c.args.self.now) _ c.last_entry.ensures _ c.in_ok-m.was).there in
+    omega arith
 
 pub give_back-requires : goal.give_back-requires
 give_back-requires c =
-    let read_sound : Sound (let a = c.args in state a.samples.now a.marks.now a.counts.now a.journal.now a.used.now) c.index-m.result = sound (let a = c.args in state a.samples.now a.marks.now a.counts.now a.journal.now a.used.now) _ c.index-m.ensures (sym c.last_malformed.ensures ∙ c.if-last_malformed.false) in
-    let sizes_fit : Fits (let a = c.args in state a.samples.now a.marks.now a.counts.now a.journal.now a.used.now) = accepted_fits _ _ (sym c.check_sizes-sized.ensures ∙ c.in-Done.is) in
-    restorable (let a = c.args in state a.samples.now a.marks.now a.counts.now a.journal.now a.used.now) _ sizes_fit read_sound
+    restorable (held c.args.self.now) _ (accepted_fits (held c.args.self.now) _ (sym c.check_sizes.ensures ∙ c.in_ok-check_sizes.was))
+    (entry_sound (held c.args.self.now) _ c.last_entry.ensures _ c.in_ok-m.was)
 
 pub recount-requires : goal.recount-requires
 recount-requires c =
-    let read_sound : Sound (let a = c.args in state a.samples.now a.marks.now a.counts.now a.journal.now a.used.now) c.index-m.result = sound (let a = c.args in state a.samples.now a.marks.now a.counts.now a.journal.now a.used.now) _ c.index-m.ensures (sym c.last_malformed.ensures ∙ c.if-last_malformed.false) in
-    let sizes_fit : Fits (let a = c.args in state a.samples.now a.marks.now a.counts.now a.journal.now a.used.now) = accepted_fits _ _ (sym c.check_sizes-sized.ensures ∙ c.in-Done.is) in
-    recountable (let a = c.args in state a.samples.now a.marks.now a.counts.now a.journal.now a.used.now) _ sizes_fit read_sound _ (ap length c.give_back.ensures.1 ∙ length_put _ _)
+    recountable (held c.args.self.now) _ (accepted_fits (held c.args.self.now) _ (sym c.check_sizes.ensures ∙ c.in_ok-check_sizes.was))
+    (entry_sound (held c.args.self.now) _ c.last_entry.ensures _ c.in_ok-m.was) _
+    (ap length c.give_back.ensures.1 ∙ length_put _ _)
 
 pub overflow_mul-m : goal.overflow_mul-m
 overflow_mul-m c =
-    let read_sound : Sound (let a = c.args in state a.samples.now a.marks.now a.counts.now a.journal.now a.used.now) c.index-m.result = sound (let a = c.args in state a.samples.now a.marks.now a.counts.now a.journal.now a.used.now) _ c.index-m.ensures (sym c.last_malformed.ensures ∙ c.if-last_malformed.false) in
-    omega (arith, read_sound.there)
+    let few : c.in_ok-m.m ≤ most_samples = le_trans (entry_sound (held c.args.self.now) _ c.last_entry.ensures _ c.in_ok-m.was).few
+    (accepted_fits (held c.args.self.now) _ (sym c.check_sizes.ensures ∙ c.in_ok-check_sizes.was)).few in
+    omega arith
 
 pub overflow_add-m : goal.overflow_add-m
 overflow_add-m c =
-    let read_sound : Sound (let a = c.args in state a.samples.now a.marks.now a.counts.now a.journal.now a.used.now) c.index-m.result = sound (let a = c.args in state a.samples.now a.marks.now a.counts.now a.journal.now a.used.now) _ c.index-m.ensures (sym c.last_malformed.ensures ∙ c.if-last_malformed.false) in
-    omega (arith, read_sound.there)
+    let few : c.in_ok-m.m ≤ most_samples = le_trans (entry_sound (held c.args.self.now) _ c.last_entry.ensures _ c.in_ok-m.was).few
+    (accepted_fits (held c.args.self.now) _ (sym c.check_sizes.ensures ∙ c.in_ok-check_sizes.was)).few in
+    omega arith
 
-pub clear_words-requires : goal.clear_words-requires
-clear_words-requires c =
-    let read_sound : Sound (let a = c.args in state a.samples.now a.marks.now a.counts.now a.journal.now a.used.now) c.index-m.result = sound (let a = c.args in state a.samples.now a.marks.now a.counts.now a.journal.now a.used.now) _ c.index-m.ensures (sym c.last_malformed.ensures ∙ c.if-last_malformed.false) in
-    let sizes_fit : Fits (let a = c.args in state a.samples.now a.marks.now a.counts.now a.journal.now a.used.now) = accepted_fits _ _ (sym c.check_sizes-sized.ensures ∙ c.in-Done.is) in
-    omega (arith, sizes_fit.within, read_sound.there)
+pub set_all-requires : goal.set_all-requires
+set_all-requires c =
+    let fits = (accepted_fits (held c.args.self.now) _ (sym c.check_sizes.ensures ∙ c.in_ok-check_sizes.was)) in
+    omega (arith, fits.within, (entry_sound (held c.args.self.now) _ c.last_entry.ensures _ c.in_ok-m.was).there)
 
-pub returns : goal.returns
-returns c =
-    undone_done (let a = c.args in state a.samples.now a.marks.now a.counts.now a.journal.now a.used.now) _ c.check_sizes-sized.ensures _ c.in-Done.is
-    c.if-end-eq0.false _ c.last_malformed.ensures c.if-last_malformed.false _
-    c.index-m.ensures _ _ _ _ c.give_back.ensures.0 c.give_back.ensures.1 c.recount.ensures
-    c.clear_words.ensures
+pub returns-clause-rule : goal.returns-clause-rule
+returns-clause-rule c =
+    undone_done (held c.args.self.now) _ c.check_sizes.ensures _ c.in_ok-check_sizes.was _ c.last_entry.ensures _ c.in_ok-m.was _ _ _ _
+    c.give_back.ensures.0 c.give_back.ensures.1 c.recount.ensures c.set_all.ensures

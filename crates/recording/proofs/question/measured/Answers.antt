@@ -1,7 +1,7 @@
 -- `recording::question::measured` meets its contract: each way out is a line of the rule. Assumes nothing.
 use mathlib.Core.Path.{sym, ◌∙◌}
 use borrow.Author.Tests.{ltb-false}
-use Rattle.recording.proofs.question.Laws.{verdict_blocks, verdict_gap, verdict_yes, verdict_no}
+use Rattle.recording.proofs.question.Laws.{verdict_blocks, verdict_gap, verdict_said}
 use Rattle.recording.proofs.question.measured.Goals as goal
 
 pub returns-then-counts-block_count : goal.returns-then-counts-block_count
@@ -15,12 +15,7 @@ pub span_measured-requires : goal.span_measured-requires
 span_measured-requires c =
     (ltb-false _ _ (sym c.span_past.ensures ∙ c.if-span_past.false), c.if-counts-block_count.false ∙ c.block_count.ensures)
 
-pub returns-then-span_measured : goal.returns-then-span_measured
-returns-then-span_measured c =
-    verdict_yes _ _ _ _ (c.if-counts-block_count.false ∙ c.block_count.ensures) _ c.span_past.ensures c.if-span_past.false _
-    c.span_measured.ensures c.if-span_measured.true
-
-pub returns-else-span_measured : goal.returns-else-span_measured
-returns-else-span_measured c =
-    verdict_no _ _ _ _ (c.if-counts-block_count.false ∙ c.block_count.ensures) _ c.span_past.ensures c.if-span_past.false _
-    c.span_measured.ensures c.if-span_measured.false
+pub returns : goal.returns
+returns c =
+    verdict_said _ _ _ _ (c.if-counts-block_count.false ∙ c.block_count.ensures) _ c.span_past.ensures c.if-span_past.false _
+    c.span_measured.ensures
