@@ -4,7 +4,7 @@ ghost use Rattle.recording.specs.Recording.{saved_at, places, old_marks};
 ghost use Rattle.recording.specs.Counts.{block_of, blocks, counted_mark, count_of, counted, recounted};
 ghost use Rattle.recording.specs.Inner.{Recountable};
 
-use super::marks::MEASURED;
+use super::marks::Mark;
 use leaves::counts::smaller_of;
 
 // The number of samples in a block; the last one may have fewer.
@@ -22,7 +22,7 @@ pub fn block_count(n: usize) -> usize
 fn counted_mark(mark: u8) -> u16
     ensures { result ≡ counted_mark mark }
 {
-    if mark == MEASURED { 0 } else { 1 }
+    if mark == Mark::Measured as u8 { 0 } else { 1 }
 }
 
 // The count of a block, from its marks, one after the other.

@@ -6,7 +6,7 @@ ghost use Rattle.recording.specs.Lent.{held, lent_reading, left_reading};
 
 use super::clear::set_all;
 use super::counts::{block_count, count_all};
-use super::marks::{MEASURED, NOT_RECEIVED};
+use super::marks::Mark;
 use super::{Answer, Reason, Recording};
 
 // The number of samples that a recording has at most.
@@ -74,7 +74,7 @@ pub fn open(
 {
     check_counts(samples, marks, counts)?;
     let count = marks.len();
-    set_all(marks, 0, count, MEASURED);
+    set_all(marks, 0, count, Mark::Measured as u8);
     begin_afresh(marks, counts, journal, used);
     Ok(0)
 }
@@ -83,10 +83,10 @@ pub fn open(
 fn kept_mark(mark: u8) -> u8
     ensures { result ≡ kept_mark mark }
 {
-    if mark == NOT_RECEIVED {
-        NOT_RECEIVED
+    if mark == Mark::NotReceived as u8 {
+        Mark::NotReceived as u8
     } else {
-        MEASURED
+        Mark::Measured as u8
     }
 }
 

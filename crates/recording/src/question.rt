@@ -4,7 +4,7 @@ ghost use Rattle.recording.specs.Counts.{blocks};
 ghost use Rattle.recording.specs.Question.{marks_say, counts_say, span_measured, span_past, span_verdict};
 
 use super::counts::{BLOCK, block_count};
-use super::marks::MEASURED;
+use super::marks::Mark;
 use super::{Reason, Verdict};
 
 // Whether the marks of the `count` samples from `start` on all say measured.
@@ -14,7 +14,7 @@ fn marks_say(marks: &[u8], start: usize, count: usize) -> bool
 {
     let mut i: usize = 0;
     while i < count {
-        if marks[start + i] != MEASURED {
+        if marks[start + i] != Mark::Measured as u8 {
             return false;
         }
         i += 1;

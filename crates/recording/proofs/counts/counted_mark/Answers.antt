@@ -4,10 +4,10 @@ use borrow.Author.Tests.{eq-eqb, ne_eqb}
 use Rattle.recording.specs.Counts.{counted_mark}
 use Rattle.recording.proofs.counts.counted_mark.Goals as goal
 
-pub returns-then-mark-eq-MEASURED : goal.returns-then-mark-eq-MEASURED
+pub returns-then-mark : goal.returns-then-mark
 unfolding counted_mark
-returns-then-mark-eq-MEASURED c = rw (eq-eqb _ _ c.if-mark-eq-MEASURED.true) refl
+returns-then-mark c = rw (eq-eqb _ _ c.if-mark.true) refl
 
-pub returns-else-mark-eq-MEASURED : goal.returns-else-mark-eq-MEASURED
+pub returns-else-mark : goal.returns-else-mark
 unfolding counted_mark
-returns-else-mark-eq-MEASURED c = rw (ne_eqb _ _ c.if-mark-eq-MEASURED.false) refl
+returns-else-mark c = rw (ne_eqb _ _ c.if-mark.false) refl

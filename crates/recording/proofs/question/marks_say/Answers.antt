@@ -14,8 +14,8 @@ overflow_add-start c = omega arith
 pub bounds-marks-start : goal.bounds-marks-start
 bounds-marks-start c = omega arith
 
-pub returns-then-marks-start-ne-MEASURED : goal.returns-then-marks-start-ne-MEASURED
-returns-then-marks-start-ne-MEASURED c = one_other _ _ _ _ _ _ c.loop-i.invariant.1 c.loop-i-test.true c.if-marks-start-ne-MEASURED.true
+pub returns-then-marks-start : goal.returns-then-marks-start
+returns-then-marks-start c = one_other _ _ _ _ _ _ c.loop-i.invariant.1 c.loop-i-test.true c.if-marks-start.true
 
 pub overflow_add-i : goal.overflow_add-i
 overflow_add-i c = omega arith
@@ -24,7 +24,7 @@ pub loop-i-smaller : goal.loop-i-smaller
 loop-i-smaller c = omega arith
 
 pub loop-i-preserved : goal.loop-i-preserved
-loop-i-preserved c = (omega arith, one_same _ _ _ _ _ _ c.loop-i.invariant.1 c.loop-i-test.true c.if-marks-start-ne-MEASURED.false)
+loop-i-preserved c = (omega arith, one_same _ _ _ _ _ _ c.loop-i.invariant.1 c.loop-i-test.true c.if-marks-start.false)
 
 pub returns : goal.returns
 returns c = all_looked _ _ _ _ _ _ c.loop-i.invariant.1 c.loop-i-test.false
