@@ -16,13 +16,26 @@ ghost use Rattle.frames.specs.Frames.{frames_read};
 ghost use Rattle.inpaint.specs.Order.{gap_order, scan_orders};
 ghost use Rattle.splice.specs.Several.{answers_lent, answers_left};
 ghost use Rattle.recording.specs.Lent.{left, lent, left_reading, lent_reading};
+ghost use Rattle.recording.specs.Answers.{number, value};
 ghost use Rattle.recording.specs.Question.{span_verdict};
 ghost use Rattle.riff.specs.Wav.{wav_read, wav_written};
 ghost use Rattle.settings.specs.Settings.{read_to, read_to_v1, write_from, write_from_v1};
 
 use decrackle::Start;
 use dequant::passes::dequantize;
+use dequant::cosparse::dequantize_cosparse;
+use inpaint::auto::inpaint_auto;
+use inpaint::gap::inpaint_gap;
 use recording::numbers::{number_of, value_of, verdict_number, verdict_yes};
+use recording::{Answer, Recording};
+
+// What an answer tells a caller that takes numbers: its number, and beside it its value.
+fn tell(answer: Answer, beside: &mut usize) -> u32
+    ensures { (result ≡ number answer) × (beside.new ≡ value answer) }
+{
+    *beside = value_of(answer);
+    number_of(answer)
+}
 
 // Opens a recording: all marks, all counts and all journal words become 0, and used too. The number of the
 // refusal, 1, 14 or 2, or 0.
@@ -36,8 +49,7 @@ pub extern "C" fn cathar_open(
 ) -> u32
     ensures { outcome result [] (left_reading samples marks counts journal used) none ≡ opening as_measured (lent_reading samples marks counts journal used) }
 {
-    let answer = recording::open::open(samples, marks, counts, journal, used);
-    number_of(answer)
+    number_of(recording::open::open(samples, marks, counts, journal, used))
 }
 
 // Opens a recording as the bus's frames left it: mark 6, not received, stays where it stands, and every
@@ -53,8 +65,7 @@ pub extern "C" fn cathar_open_received(
 ) -> u32
     ensures { outcome result [] (left_reading samples marks counts journal used) none ≡ opening as_received (lent_reading samples marks counts journal used) }
 {
-    let answer = recording::open::open_received(samples, marks, counts, journal, used);
-    number_of(answer)
+    number_of(recording::open::open_received(samples, marks, counts, journal, used))
 }
 
 // Reads the bus's frames into samples and marks. The number of the refusal, 2 or 12, or 0; n becomes the
@@ -102,13 +113,16 @@ pub extern "C" fn cathar_inpaint_gap(
         ≡ ran (gap start len passes work.old) (lent samples marks counts journal used))
         × (order.new ≡ gap_order start len passes (length work.old) (lent samples marks counts journal used)) }
 {
-    let filled = inpaint::gap::inpaint_gap(
-        samples, marks, counts, journal, used, start, len, passes, work,
-    );
-    let answer = filled.answer;
-    *value = value_of(answer);
-    *order = filled.order;
-    number_of(answer)
+    let mut recording = Recording {
+        samples,
+        marks,
+        counts,
+        journal,
+        used,
+    };
+    let filled = inpaint_gap(&mut recording, start, len, passes, work);
+    *order = order_of(filled);
+    tell(named(filled), value)
 }
 
 // Repairs up to 64 gaps in the order given, each as `cathar_inpaint_gap` does, on what the ones before it left,
@@ -136,10 +150,23 @@ pub extern "C" fn cathar_inpaint_gaps(
         ≡ answers_of starts.now lens.now passes work.old (answers_lent numbers values orders)
         (lent samples marks counts journal used)) }
 {
-    let answer = splice::inpaint_gaps(
-        samples, marks, counts, journal, used, starts, lens, passes, work, numbers, values, orders,
-    );
-    number_of(answer)
+    let mut recording = Recording {
+        samples,
+        marks,
+        counts,
+        journal,
+        used,
+    };
+    number_of(splice::inpaint_gaps(
+        &mut recording,
+        starts,
+        lens,
+        passes,
+        work,
+        numbers,
+        values,
+        orders,
+    ))
 }
 
 // Finds the dropout runs of at most `millis` milliseconds and repairs each as one gap; equal words are such a
@@ -166,12 +193,17 @@ pub extern "C" fn cathar_inpaint_auto(
         ≡ ran (scan rate millis held work.old) (lent samples marks counts journal used))
         × (orders.new ≡ scan_orders rate millis held work.old (lent samples marks counts journal used) orders.old) }
 {
-    let scanned = inpaint::auto::inpaint_auto(
-        samples, marks, counts, journal, used, rate, millis, held, work, orders,
-    );
+    let mut recording = Recording {
+        samples,
+        marks,
+        counts,
+        journal,
+        used,
+    };
+    let scanned = inpaint_auto(&mut recording, rate, millis, held, work, orders);
     *qualified = scanned.qualified;
     *repaired = scanned.repaired;
-    scanned.refused
+    scanned.refused_number()
 }
 
 // Bridges the runs of samples whose magnitude is at or above the threshold, shoulders included. The number
@@ -191,9 +223,14 @@ pub extern "C" fn cathar_declip(
     ensures { outcome result (value.new ∷ []) (left samples marks counts journal used) (words work.new)
         ≡ ran (declip threshold work.old) (lent samples marks counts journal used) }
 {
-    let answer = declip::declip(samples, marks, counts, journal, used, threshold, work);
-    *value = value_of(answer);
-    number_of(answer)
+    let mut recording = Recording {
+        samples,
+        marks,
+        counts,
+        journal,
+        used,
+    };
+    tell(declip::declip(&mut recording, threshold, work), value)
 }
 
 // Rewrites the samples that stand out from their neighbours, by a floor that starts from the mean. Answer and value
@@ -212,18 +249,17 @@ pub extern "C" fn cathar_decrackle(
     ensures { outcome result (value.new ∷ []) (left samples marks counts journal used) (words work.new)
         ≡ ran (decrackle Mean sensitivity work.old) (lent samples marks counts journal used) }
 {
-    let answer = decrackle::decrackle(
+    let mut recording = Recording {
         samples,
         marks,
         counts,
         journal,
         used,
-        sensitivity,
-        Start::Mean,
-        work,
-    );
-    *value = value_of(answer);
-    number_of(answer)
+    };
+    tell(
+        decrackle::decrackle(&mut recording, sensitivity, Start::Mean, work),
+        value,
+    )
 }
 
 // The same by a floor that starts at 1e-6, as it used to: for old cases.
@@ -241,18 +277,17 @@ pub extern "C" fn cathar_decrackle_old_start(
     ensures { outcome result (value.new ∷ []) (left samples marks counts journal used) (words work.new)
         ≡ ran (decrackle Old sensitivity work.old) (lent samples marks counts journal used) }
 {
-    let answer = decrackle::decrackle(
+    let mut recording = Recording {
         samples,
         marks,
         counts,
         journal,
         used,
-        sensitivity,
-        Start::Old,
-        work,
-    );
-    *value = value_of(answer);
-    number_of(answer)
+    };
+    tell(
+        decrackle::decrackle(&mut recording, sensitivity, Start::Old, work),
+        value,
+    )
 }
 
 // Moves samples that were recorded in coarse steps toward what their neighbours predict. Answer and value
@@ -272,9 +307,14 @@ pub extern "C" fn cathar_dequantize(
     ensures { outcome result (value.new ∷ []) (left samples marks counts journal used) (words work.new)
         ≡ ran (dequantize bits strength work.old) (lent samples marks counts journal used) }
 {
-    let answer = dequantize(samples, marks, counts, journal, used, bits, strength, work);
-    *value = value_of(answer);
-    number_of(answer)
+    let mut recording = Recording {
+        samples,
+        marks,
+        counts,
+        journal,
+        used,
+    };
+    tell(dequantize(&mut recording, bits, strength, work), value)
 }
 
 // The same in up to 16 iterations, with two samples at either end left alone. Answer and value as of
@@ -295,11 +335,17 @@ pub extern "C" fn cathar_dequantize_cosparse(
     ensures { outcome result (value.new ∷ []) (left samples marks counts journal used) (words work.new)
         ≡ ran (cosparse bits strength iterations work.old) (lent samples marks counts journal used) }
 {
-    let answer = dequant::cosparse::dequantize_cosparse(
-        samples, marks, counts, journal, used, bits, strength, iterations, work,
-    );
-    *value = value_of(answer);
-    number_of(answer)
+    let mut recording = Recording {
+        samples,
+        marks,
+        counts,
+        journal,
+        used,
+    };
+    tell(
+        dequantize_cosparse(&mut recording, bits, strength, iterations, work),
+        value,
+    )
 }
 
 // Takes another program's proposal for the samples whose magnitude is at or above the threshold, where every
@@ -319,11 +365,17 @@ pub extern "C" fn cathar_declip_proposed(
     ensures { outcome result (value.new ∷ []) (left samples marks counts journal used) none
         ≡ ran (proposed threshold proposal.now) (lent samples marks counts journal used) }
 {
-    let answer = proposed::declip_proposed(
-        samples, marks, counts, journal, used, threshold, proposal,
-    );
-    *value = value_of(answer);
-    number_of(answer)
+    let mut recording = Recording {
+        samples,
+        marks,
+        counts,
+        journal,
+        used,
+    };
+    tell(
+        proposed::declip_proposed(&mut recording, threshold, proposal),
+        value,
+    )
 }
 
 // Takes back the last entry of the journal. The number of the refusal, 1, 2, 3, 10, 11 or 14, or 0; value
@@ -340,9 +392,14 @@ pub extern "C" fn cathar_undo(
     ensures { outcome result (value.new ∷ []) (left samples marks counts journal used) none
         ≡ ran undo (lent samples marks counts journal used) }
 {
-    let answer = recording::undo::undo(samples, marks, counts, journal, used);
-    *value = value_of(answer);
-    number_of(answer)
+    let mut recording = Recording {
+        samples,
+        marks,
+        counts,
+        journal,
+        used,
+    };
+    tell(recording.undo(), value)
 }
 
 // Whether every sample of the span of `len` samples from `start` on is measured, from marks and counts. The
@@ -371,8 +428,7 @@ pub extern "C" fn cathar_measured(
 pub extern "C" fn cathar_crackle_begin(total: usize, sensitivity: f32, state: &mut [u32]) -> u32
     ensures { crackle_told result [] state.new [] ≡ begun_told (begin_kept Mean total sensitivity state.old) }
 {
-    let answer = crackle::kept::begin(Start::Mean, total, sensitivity, state);
-    number_of(answer)
+    number_of(crackle::kept::begin(Start::Mean, total, sensitivity, state))
 }
 
 // The same with a floor that starts at 1e-6, as it used to: for old cases.
@@ -384,8 +440,7 @@ pub extern "C" fn cathar_crackle_begin_old_start(
 ) -> u32
     ensures { crackle_told result [] state.new [] ≡ begun_told (begin_kept Old total sensitivity state.old) }
 {
-    let answer = crackle::kept::begin(Start::Old, total, sensitivity, state);
-    number_of(answer)
+    number_of(crackle::kept::begin(Start::Old, total, sensitivity, state))
 }
 
 // Gives the crackle detector the next samples, and writes the flags that this brings: each sample brings that of the
@@ -401,9 +456,7 @@ pub extern "C" fn cathar_crackle_piece(
     ensures { crackle_told result (value.new ∷ []) state.new flags.new
         ≡ heard_told (piece_kept state.old piece.now flags.old) }
 {
-    let answer = crackle::kept::piece(state, piece, flags);
-    *value = value_of(answer);
-    number_of(answer)
+    tell(crackle::kept::piece(state, piece, flags), value)
 }
 
 // Ends the run of the crackle detector, and writes the flags that are left, none where no sample was announced. The
@@ -413,9 +466,7 @@ pub extern "C" fn cathar_crackle_end(state: &mut [u32], flags: &mut [u8], value:
     ensures { crackle_told result (value.new ∷ []) state.new flags.new
         ≡ heard_told (end_kept state.old flags.old) }
 {
-    let answer = crackle::kept::finish(state, flags);
-    *value = value_of(answer);
-    number_of(answer)
+    tell(crackle::kept::finish(state, flags), value)
 }
 
 // Reads a stored block of settings of version 1 or 2: seven words, floats as their patterns, in the first places of
@@ -425,8 +476,7 @@ pub extern "C" fn cathar_crackle_end(state: &mut [u32], flags: &mut [u8], value:
 pub extern "C" fn cathar_read_settings(block: &[u8], settings: &mut [u32]) -> u32
     ensures { settings_told result settings.new ≡ settings_told_of (read_to block.now settings.old) }
 {
-    let answer = settings::read::read_to(block, settings);
-    number_of(answer)
+    number_of(settings::read::read_to(block, settings))
 }
 
 // The version 1 reader, which turns a block of version 2 away with 17: six words. Answers as of
@@ -435,8 +485,7 @@ pub extern "C" fn cathar_read_settings(block: &[u8], settings: &mut [u32]) -> u3
 pub extern "C" fn cathar_read_settings_v1(block: &[u8], settings: &mut [u32]) -> u32
     ensures { settings_told result settings.new ≡ settings_told_of (read_to_v1 block.now settings.old) }
 {
-    let answer = settings::read::read_to_v1(block, settings);
-    number_of(answer)
+    number_of(settings::read::read_to_v1(block, settings))
 }
 
 // Writes the first seven words as a stored block of version 2 in the first 120 bytes. The number of the refusal, 6 or
@@ -445,8 +494,7 @@ pub extern "C" fn cathar_read_settings_v1(block: &[u8], settings: &mut [u32]) ->
 pub extern "C" fn cathar_write_settings(settings: &[u32], block: &mut [u8]) -> u32
     ensures { settings_told result block.new ≡ settings_told_of (write_from settings.now block.old) }
 {
-    let answer = settings::write::write_from(settings, block);
-    number_of(answer)
+    number_of(settings::write::write_from(settings, block))
 }
 
 // Writes the first six words as a stored block of version 1 in the first 104 bytes. Answers as of
@@ -455,8 +503,7 @@ pub extern "C" fn cathar_write_settings(settings: &[u32], block: &mut [u8]) -> u
 pub extern "C" fn cathar_write_settings_v1(settings: &[u32], block: &mut [u8]) -> u32
     ensures { settings_told result block.new ≡ settings_told_of (write_from_v1 settings.now block.old) }
 {
-    let answer = settings::write::write_from_v1(settings, block);
-    number_of(answer)
+    number_of(settings::write::write_from_v1(settings, block))
 }
 
 // Reads a WAV file of mono 16-bit PCM into samples and marks. The number of the refusal, 19, 20, 2 or 21, with nothing
@@ -490,9 +537,7 @@ pub extern "C" fn cathar_write_wav(
 ) -> u32
     ensures { wav_wrote result value.new out.new ≡ wav_wrote_of (wav_written samples.now rate out.old) }
 {
-    let answer = riff::write::write_wav(samples, rate, out);
-    *value = value_of(answer);
-    number_of(answer)
+    tell(riff::write::write_wav(samples, rate, out), value)
 }
 
 // IEEE 754's square root, correctly rounded: a NaN and a number below zero give a NaN, a zero of
