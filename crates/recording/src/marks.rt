@@ -33,14 +33,7 @@ pub const DECLIP_PROPOSED: u8 = 8;
 pub fn is_made(word: u32) -> bool
     ensures { result ≡ made word }
 {
-    if word < GAP_BY_MODEL as u32 {
-        return false;
-    }
-    if word <= DEQUANTIZE as u32 {
-        return true;
-    }
-    if word == DECRACKLE_FROM_MEAN as u32 {
-        return true;
-    }
-    word == DECLIP_PROPOSED as u32
+    GAP_BY_MODEL as u32 <= word && word <= DEQUANTIZE as u32
+        || word == DECRACKLE_FROM_MEAN as u32
+        || word == DECLIP_PROPOSED as u32
 }

@@ -7,7 +7,7 @@ use Prim.Native.Nat.{ℕ, zero, suc, ◌+◌, ◌-◌, ◌*◌, ◌≤◌, ◌<�
 use native.Mathlib.Omega.{arith}
 use native.Mathlib.Numerals.{add-one}
 use native.Mathlib.Nat.{sub-zero}
-use lib.ListN.{length, get_or, set, length-set, replicate}
+use lib.ListN.{length, get_or, set, replicate}
 use lib.Seq.{sets}
 use lib.Dec.{leb, ltb, eqb, leb-suc-zero, leb-suc-suc}
 use borrow.Author.Tests.{lt-ltb, le-ltb, le-leb, lt-leb, eq-eqb, ne_eqb, ltb-false, leb-false}
@@ -154,9 +154,6 @@ mark_first journal begin m i more none =
 
 -- i of the m saved samples are given back: putting what is left gives the whole, and what is left can be put.
 pub record GivenBack (samples₀ marks₀ journal : List ℕ) (begin m : ℕ) (samples marks : List ℕ) (i : ℕ) : Type 0 where
-  pub counted : i ≤ m
-  pub as_samples : length samples ≡ length samples₀
-  pub as_marks : length marks ≡ length marks₀
   pub words : put (old_words (left_at journal begin m i)) samples ≡ put (old_words (saved_at journal begin m)) samples₀
   pub bytes : put (old_marks (left_at journal begin m i)) marks ≡ put (old_marks (saved_at journal begin m)) marks₀
   pub places_within : place_past (length samples₀) (left_at journal begin m i) ≡ false
@@ -169,9 +166,6 @@ module _ (samples₀ marks₀ journal : List ℕ) (begin m : ℕ) where
   none_back r =
       let all = left_all journal begin m in
       record {
-        counted = omega arith;
-        as_samples = refl;
-        as_marks = refl;
         words = rw all refl;
         bytes = rw all refl;
         places_within = rw all r.places;
@@ -203,9 +197,6 @@ module _ (samples₀ marks₀ journal : List ℕ) (begin m : ℕ) where
       one_back place read =
           let first = left_first journal begin m i more in
           record {
-            counted = omega arith;
-            as_samples = length-set samples place _ ∙ g.as_samples;
-            as_marks = length-set marks place _ ∙ g.as_marks;
             words = rw read (sym (ap (λ (ts : List Saved). put (old_words ts) samples) first) ∙ g.words);
             bytes = rw read (sym (ap (λ (ts : List Saved). put (old_marks ts) marks) first) ∙ g.bytes);
             places_within = (past_first (length samples₀) journal begin m i more g.places_within).1;

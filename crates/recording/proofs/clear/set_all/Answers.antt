@@ -12,6 +12,6 @@ loop-i-preserved g c =
     rw next (run_more _ _ _ _ _ _ _ below refl c.loop-i.invariant)
 
 pub returns : goal.returns
-returns g c = 
+returns g c =
     let past : c.args.count ≤ c.loop-i.i - c.args.start = omega (arith, c.loop-i-test.false) in
     all_stored _ _ _ _ _ _ past c.loop-i.invariant
