@@ -215,47 +215,17 @@ clauses n journal used m read =
     let olds = saved_at journal (used - entry_size m) m in
     rw (← read, three_tests n olds, ← or_assoc _ _ (mark_past olds), ← or_assoc _ (place_past n olds) _) refl
 
--- One law for each of the first clauses: those before it do not hold, and it holds. Past them only two are left.
+-- The first clause holds, or the others are left.
 module _ (n : ℕ) (journal : List ℕ) (used : ℕ) where
   pub malformed_short : used ≡ 1 → true ≡ malformed n journal used
   unfolding malformed
   malformed_short h = rw (eq-eqb used 1 h) refl
 
-  module _ (long : used ≡ 1 → ⊥) (m : ℕ) (read : m ≡ last_count journal used) where
-    pub malformed_none : m ≡ 0 → true ≡ malformed n journal used
-    malformed_none h = rw (clauses n journal used m read, ne_eqb used 1 long, eq-eqb m 0 h) refl
-
-    module _ (some : m ≡ 0 → ⊥) where
-      pub malformed_many : n < m → true ≡ malformed n journal used
-      malformed_many h = rw (clauses n journal used m read, ne_eqb used 1 long, ne_eqb m 0 some, lt-ltb n m h) refl
-
-      module _ (few : m ≤ n) where
-        pub malformed_past : used < entry_size m → true ≡ malformed n journal used
-        malformed_past h =
-            rw (clauses n journal used m read, ne_eqb used 1 long, ne_eqb m 0 some, le-ltb n m few, lt-ltb used _ h)
-            refl
-
-        pub two_left : entry_size m ≤ used → (wrong : Bool)
-            → wrong ≡ any_wrong n 0 (saved_at journal (used - entry_size m) m)
-            → malformed n journal used ≡ wrong || not (made (last_mark journal used))
-        two_left there wrong found =
-            rw (
-              found,
-              clauses n journal used m read,
-              ne_eqb used 1 long,
-              ne_eqb m 0 some,
-              le-ltb n m few,
-              le-ltb used _ there,
-            ) refl
-
--- One law for each way through the two that are left: whether a saved sample is wrong, and the set mark.
-module _ (n : ℕ) (journal : List ℕ) (used : ℕ) (wrong : Bool)
-    (two : malformed n journal used ≡ wrong || not (made (last_mark journal used))) where
-  pub malformed_saved : wrong ≡ true → true ≡ malformed n journal used
-  malformed_saved h = rw (two, h) refl
-
-  pub malformed_mark : (b : Bool) → wrong ≡ false → b ≡ made (last_mark journal used) → not b ≡ malformed n journal used
-  malformed_mark b right e = rw (two, right, e) refl
+  pub malformed_long : (used ≡ 1 → ⊥) → (m : ℕ) → m ≡ last_count journal used
+      → eqb m 0 || ltb n m || ltb used (entry_size m) || any_wrong n 0 (saved_at journal (used - entry_size m) m)
+      || not (made (last_mark journal used))
+      ≡ malformed n journal used
+  malformed_long long m read = rw (clauses n journal used m read, ne_eqb used 1 long) refl
 
 -- ---- the clause that follows from the others
 

@@ -1,0 +1,21 @@
+-- `recording::undo::last_malformed` meets its contract: its tests are the clauses of refusal 11, in their order, with
+-- the three of the saved samples as one pass. Assumes nothing.
+use Prim.Native.Nat.{◌-◌}
+use mathlib.Core.Path.{◌≡◌, ◌∙◌}
+use mathlib.Core.Bool.{◌||◌, not}
+use lib.Dec.{eqb, ltb}
+use borrow.Author.Rules.{rules}
+use Rattle.recording.specs.Recording.{entry_size, saved_at, last_mark}
+use Rattle.recording.specs.Marks.{made}
+use Rattle.recording.specs.Inner.{any_wrong}
+use Rattle.recording.proofs.undo.Laws.{malformed_short, malformed_long}
+use Rattle.recording.proofs.undo.last_malformed.Goals as goal
+
+pub returns-then-used-eq1 : goal.returns-then-used-eq1
+returns-then-used-eq1 c = malformed_short _ _ _ c.if-used-eq1.true
+
+pub returns-then-saved_wrong : goal.returns-then-saved_wrong
+returns-then-saved_wrong c = rw (← malformed_long _ _ _ c.if-used-eq1.false _ c.index-m.ensures) (search rules)
+
+pub returns-else-saved_wrong : goal.returns-else-saved_wrong
+returns-else-saved_wrong c = rw (← malformed_long _ _ _ c.if-used-eq1.false _ c.index-m.ensures) (search rules)
