@@ -59,14 +59,14 @@ module _ (marks counts : List ℕ) (start : ℕ) where
     span_parts h = rw (ne_eqb _ _ h) refl
 
 -- the same of a span of len samples, as the code has it: the last sample lies one place before the end
-span_within : (marks counts : List ℕ) (start len : ℕ) → (len ≡ 0 → ⊥) → block_of start ≡ block_of (start + len - 1)
+pub span_within : (marks counts : List ℕ) (start len : ℕ) → (len ≡ 0 → ⊥) → block_of start ≡ block_of (start + len - 1)
     → marks_say marks start len ≡ span_measured marks counts start len
 span_within marks counts start zero some h = absurd (some refl)
 span_within marks counts start (suc more) some h =
     let last : start + suc more - 1 ≡ start + more = omega arith in
     span_one marks counts start more (rw last at h)
 
-span_several : (marks counts : List ℕ) (start len : ℕ) → (len ≡ 0 → ⊥) → (block_of start ≡ block_of (start + len - 1) → ⊥)
+pub span_several : (marks counts : List ℕ) (start len : ℕ) → (len ≡ 0 → ⊥) → (block_of start ≡ block_of (start + len - 1) → ⊥)
     → let second = block_of start + 1 in
     let final = block_of (start + len - 1) in
     marks_say marks start (block_begin second - start) && counts_say counts second (final - second)
@@ -77,30 +77,6 @@ span_several marks counts start (suc more) some h =
     let last : start + suc more - 1 ≡ start + more = omega arith in
     let end : start + suc more ≡ start + more + 1 = omega arith in
     rw (last, end) (span_parts marks counts start more (rw last at h))
-
--- one law for each way out
-module _ (marks counts : List ℕ) (start len : ℕ) (some : len ≡ 0 → ⊥) where
-  pub one_block : (says : Bool) → says ≡ marks_say marks start len → block_of start ≡ block_of (start + len - 1)
-      → says ≡ span_measured marks counts start len
-  one_block says e h = e ∙ span_within marks counts start len some h
-
-  module _ (h : block_of start ≡ block_of (start + len - 1) → ⊥) (first : Bool)
-      (looked : first ≡ marks_say marks start (block_begin (block_of start + 1) - start)) where
-    -- a mark of the first block
-    pub first_not : first ≡ false → false ≡ span_measured marks counts start len
-    first_not e = rw (sym looked ∙ e) at (span_several marks counts start len some h)
-
-    module _ (yes : first ≡ true) (between : Bool)
-        (told : between ≡ counts_say counts (block_of start + 1) (block_of (start + len - 1) - (block_of start + 1))) where
-      -- a count between
-      pub between_not : between ≡ false → false ≡ span_measured marks counts start len
-      between_not e = rw (sym looked ∙ yes, sym told ∙ e) at (span_several marks counts start len some h)
-
-      -- or the last block decides
-      pub last_says : between ≡ true → (says : Bool)
-          → says ≡ marks_say marks (block_begin (block_of (start + len - 1))) (start + len - block_begin (block_of (start + len - 1)))
-          → says ≡ span_measured marks counts start len
-      last_says e says l = l ∙ (rw (sym looked ∙ yes, sym told ∙ e) at (span_several marks counts start len some h))
 
 -- ---- How the question ends
 

@@ -113,26 +113,11 @@ all_tested n least journal begin m i whole rest h = sym (ap (any_wrong n least) 
 -- Between, the tests of the sample that a turn reads, and then of what is left, give the whole.
 module _ (journal : List ℕ) (begin m i n least place : ℕ) (whole : Bool) (more : i < m)
     (rest : any_wrong n least (left_at journal begin m i) ≡ whole) (read : place ≡ get_or journal (begin + 3 * i) 0) where
-  opened : ltb place least || leb n place || ltb 255 (get_or journal (begin + 3 * i + 2) 0)
+  pub one_tested : ltb place least || leb n place || ltb 255 (get_or journal (begin + 3 * i + 2) 0)
       || any_wrong n (place + 1) (left_at journal begin m (i + 1))
       ≡ whole
   unfolding any_wrong
-  opened = rw read (sym (ap (any_wrong n least) (left_first journal begin m i more)) ∙ rest)
-
-  pub wrong_low : place < least → true ≡ whole
-  wrong_low h = rw (lt-ltb place least h) at opened
-
-  module _ (rises : least ≤ place) where
-    pub wrong_past : n ≤ place → true ≡ whole
-    wrong_past h = rw (le-ltb place least rises, le-leb n place h) at opened
-
-    module _ (within : place < n) where
-      pub wrong_mark : 255 < get_or journal (begin + 3 * i + 2) 0 → true ≡ whole
-      wrong_mark h = rw (le-ltb place least rises, lt-leb n place within, lt-ltb 255 _ h) at opened
-
-      pub none_wrong : get_or journal (begin + 3 * i + 2) 0 ≤ 255
-          → any_wrong n (place + 1) (left_at journal begin m (i + 1)) ≡ whole
-      none_wrong h = rw (le-ltb place least rises, lt-leb n place within, le-ltb 255 _ h) at opened
+  one_tested = rw read (sym (ap (any_wrong n least) (left_first journal begin m i more)) ∙ rest)
 
 -- ---- saved samples given back
 
