@@ -183,31 +183,34 @@ module _ (w₀ w : List Float) (band rhs y len p i : ℕ) (whole : List Float) (
 
 -- ---- One turn of a row of the factor, and its end
 
-module _ (w₀ w : List Float) (b band p i c left : ℕ) (whole : List Float) (e : w ≡ sets w₀ band (area w band c)) where
-  pub cells_turn : (v : Float) → 0 < left → b + (p + 1) ≤ band → band + c < length w
-      → v ≡ cell_at (lent w b (p + 1)) p (lent w band c) i (left - 1)
-      → cells (area w₀ b (p + 1)) p i left (area w band c) ≡ whole
-      → cells (area w₀ b (p + 1)) p i (left - 1) (area (set w (band + c) v) band (c + 1)) ≡ whole
+module _ (w₀ w : List Float) (b band p i row k : ℕ) (whole : List Float) (e : w ≡ sets w₀ band (area w band (row + k))) where
+  pub cells_turn : (v : Float) → k ≤ p → b + (p + 1) ≤ band → band + (row + k) < length w
+      → v ≡ cell_at (lent w b (p + 1)) p (lent w band (row + k)) i (p - k)
+      → cells (area w₀ b (p + 1)) p i (p + 1 - k) (area w band (row + k)) ≡ whole
+      → cells (area w₀ b (p + 1)) p i (p + 1 - (k + 1)) (area (set w (band + (row + k)) v) band (row + (k + 1))) ≡ whole
   unfolding cells
   cells_turn v h hb hw ev rest =
       let bs = area w₀ b (p + 1) in
-      let one : left ≡ suc (left - 1) = omega arith in
-      let place : v ≡ cell_at bs p (area w band c) i (left - 1) =
+      let one : p + 1 - k ≡ suc (p - k) = omega arith in
+      let left : p + 1 - (k + 1) ≡ p - k = omega arith in
+      let next : row + (k + 1) ≡ row + k + 1 = omega arith in
+      let place : v ≡ cell_at bs p (area w band (row + k)) i (p - k) =
       ev
-      ∙ ap (λ (z : List Float). cell_at z p (lent w band c) i (left - 1))
-      (lent_before w₀ w (area w band c) band b (p + 1) e hb)
-      ∙ ap (λ (z : List Float). cell_at bs p z i (left - 1)) (lent_area w band c) in
-      ap (λ (z : List Float). cells bs p i (left - 1) z) (part_grows w band c v hw)
-      ∙ ap (λ (z : Float). cells bs p i (left - 1) (area w band c ++ (z ∷ []))) place
-      ∙ sym (ap (λ (n : ℕ). cells bs p i n (area w band c)) one)
-      ∙ rest
+      ∙ ap (λ (z : List Float). cell_at z p (lent w band (row + k)) i (p - k))
+      (lent_before w₀ w (area w band (row + k)) band b (p + 1) e hb)
+      ∙ ap (λ (z : List Float). cell_at bs p z i (p - k)) (lent_area w band (row + k)) in
+      rw (left, next)
+      (ap (λ (z : List Float). cells bs p i (p - k) z) (part_grows w band (row + k) v hw)
+      ∙ ap (λ (z : Float). cells bs p i (p - k) (area w band (row + k) ++ (z ∷ []))) place
+      ∙ sym (ap (λ (n : ℕ). cells bs p i n (area w band (row + k))) one)
+      ∙ rest)
 
-  pub cells_done : left ≤ 0 → cells (area w₀ b (p + 1)) p i left (area w band c) ≡ whole → w ≡ sets w₀ band whole
+  pub cells_done : p < k → cells (area w₀ b (p + 1)) p i (p + 1 - k) (area w band (row + k)) ≡ whole → w ≡ sets w₀ band whole
   unfolding cells
   cells_done h rest =
-      let none : left ≡ 0 = omega arith in
-      let all : area w band c ≡ whole =
-      sym (ap (λ (n : ℕ). cells (area w₀ b (p + 1)) p i n (area w band c)) none) ∙ rest in
+      let none : p + 1 - k ≡ 0 = omega arith in
+      let all : area w band (row + k) ≡ whole =
+      sym (ap (λ (n : ℕ). cells (area w₀ b (p + 1)) p i n (area w band (row + k))) none) ∙ rest in
       e ∙ ap (λ (l : List Float). sets w₀ band l) all
 
 -- a row adds its places
