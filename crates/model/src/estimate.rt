@@ -33,12 +33,9 @@ fn raised_at(a: &[f64], i: usize, k: f64, j: usize) -> f64
     ensures { result ≡ raised_at a.now i k j }
 {
     if 0 < j && j < i {
-        a[j] + k * a[i - j]
-    } else if j == i {
-        k
-    } else {
-        a[j]
+        return a[j] + k * a[i - j];
     }
+    if j == i { k } else { a[j] }
 }
 
 // Writes the coefficients of the order i at `copy`, from those at a.

@@ -3,13 +3,13 @@
 use mathlib.Core.Path.{◌≡◌, refl, sym, ap, ◌∙◌}
 use mathlib.Core.Bool.{Bool, true, false, cond, ◌&&◌, and-false}
 use mathlib.Core.List.{List, [], ◌∷◌, ◌++◌}
-use Prim.Native.Nat.{ℕ, zero, suc, ◌+◌, ◌-◌, ◌*◌, ◌≤◌, ◌<◌}
+use Prim.Native.Nat.{ℕ, suc, ◌+◌, ◌-◌, ◌*◌, ◌≤◌, ◌<◌}
 use native.Mathlib.Omega.{arith}
 use native.Mathlib.Numerals.{add-one}
 use borrow.Author.Tests.{lt-ltb, le-ltb, eq-eqb, ne_eqb}
 use lib.Dec.{ltb}
 use lib.ListN.{length, set, take, drop, replicate, length-replicate}
-use lib.Seq.{sets, sets-eq, paste, length-sets, get_or-take, get_or-drop, drop-cons, drop-set-add, take-set-lt}
+use lib.Seq.{sets, sets-eq, paste, length-sets, get_or-take, get_or-drop, drop-set-add, take-set-lt}
 use lib.Ieee.{Float, nan, binary64, neg, lt, le, of_bits}
 use Rattle.leaves.specs.Arithmetic.{◌+₆₄◌, ◌-₆₄◌, ◌*₆₄◌, ◌/₆₄◌, nought, one, at}
 use Rattle.leaves.specs.Floats.{magnitude}

@@ -1,8 +1,6 @@
 -- `model::banded::backward_at` meets its contract: the products taken away are those of the rule, and the rows
 -- down to the last that is read end within the band. Assumes nothing.
-use native.Mathlib.Omega.{arith}
-use lib.ListN.{length}
-use Rattle.model.proofs.banded.Laws.{row_in, backward_place}
+use Rattle.model.proofs.banded.Laws.{backward_place}
 use Rattle.model.proofs.banded.backward_at.Goals as goal
 
 pub returns : goal.returns

@@ -1,9 +1,6 @@
 -- `model::banded::cell_at` meets its contract: each way out is a line of the rule, and what it reads stands in the
 -- band before the place. Assumes nothing.
-use Prim.Native.Nat.{◌+◌, ◌-◌, ◌*◌, ◌≤◌}
-use native.Mathlib.Omega.{arith}
-use lib.ListN.{length}
-use Rattle.model.proofs.banded.Laws.{cell_row, cell_other, cell_pivot, cell_outside, cell_diagonal, cell_below}
+use Rattle.model.proofs.banded.Laws.{cell_outside, cell_diagonal, cell_below}
 use Rattle.model.proofs.banded.cell_at.Goals as goal
 
 pub returns-then-i-d : goal.returns-then-i-d

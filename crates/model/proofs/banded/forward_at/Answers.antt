@@ -1,7 +1,6 @@
 -- `model::banded::forward_at` meets its contract: the products taken away are those of the rule, and row i ends
 -- within the band. Assumes nothing.
-use native.Mathlib.Omega.{arith}
-use Rattle.model.proofs.banded.Laws.{row_in, forward_place}
+use Rattle.model.proofs.banded.Laws.{forward_place}
 use Rattle.model.proofs.banded.forward_at.Goals as goal
 
 pub returns : goal.returns

@@ -5,7 +5,7 @@ use Prim.Native.Nat.{◌+◌, ◌-◌, ◌*◌, ◌≤◌}
 use native.Mathlib.Omega.{arith}
 use mathlib.Core.Path.{◌≡◌, refl, ap, ◌∙◌}
 use mathlib.Core.List.{List}
-use lib.ListN.{length, length-take, length-drop}
+use lib.ListN.{length}
 use lib.Ieee.{Float, neg}
 use Rattle.leaves.specs.Arithmetic.{◌/₆₄◌}
 use Rattle.model.specs.Model.{shortfall, raised}
