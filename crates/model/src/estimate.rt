@@ -48,14 +48,6 @@ fn raise_order(work: &mut [f64], copy: usize, a: usize, p: usize, i: usize, k: f
     }
 }
 
-// Writes what stands in the `count` places from `copy` on at a.
-fn copy_area(work: &mut [f64], copy: usize, a: usize, count: usize)
-    requires { (copy + count ≤ a) × (a + count ≤ length work.old) }
-    ensures { work.new ≡ sets work.old a (area work.old copy count) }
-{
-    work.copy_within(copy..copy + count, a);
-}
-
 // Levinson's recursion over the lags at r: the coefficients come to stand two lists behind them, and
 // the list between is where each order's are worked out. It stops where |e| is below 1e-12, before k is
 // used, and where e is not above 0, after it, and answers the highest order whose k it used.
@@ -76,7 +68,7 @@ fn levinson(work: &mut [f64], r: usize, p: usize) -> usize
         }
         let k = -acc / e;
         raise_order(work, copy, a, p, i, k);
-        copy_area(work, copy, a, p + 1);
+        work.copy_within(copy..copy + (p + 1), a);
         e *= 1.0 - k * k;
         if e <= 0.0 {
             return i;

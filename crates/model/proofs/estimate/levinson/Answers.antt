@@ -12,9 +12,9 @@ use Rattle.model.specs.Model.{shortfall, raised}
 use Rattle.model.specs.Areas.{area, Only}
 use Rattle.model.proofs.Parts.{only_then}
 use Rattle.model.proofs.estimate.Laws.{order_stands, shortfall_here, stop, orders_done, orders_small}
-use Rattle.model.proofs.estimate.Laws.{orders_ended, orders_next, levinson_ends}
+use Rattle.model.proofs.estimate.Laws.{orders_ended, orders_next, levinson_ends, copied}
 use Rattle.model.proofs.estimate.levinson.Goals as goal
-use Rattle.model.proofs.estimate.levinson.Goals.{After-order_shortfall-acc, After-copy_area}
+use Rattle.model.proofs.estimate.levinson.Goals.{After-order_shortfall-acc, After-copy_within}
 
 -- what the order has to make up for, from the lags and the coefficients as they stand
 made_up : (c : After-order_shortfall-acc) → let n = c.args.p + 1 in c.order_shortfall-acc.result ≡ shortfall (area c.loop-i.work (c.args.r + 2 * n) n) (area c.start_unit.new.work c.args.r n) c.loop-i.i
@@ -27,14 +27,14 @@ made_up c =
     c.loop-i.invariant.0 c.order_shortfall-acc.ensures
 
 -- the coefficients of the order, and that nothing else was written but the copy
-raised_here : (c : After-copy_area) → let n = c.args.p + 1 in let k = neg c.order_shortfall-acc.result /₆₄ c.loop-i.e in
-    (area c.copy_area.new.work (c.args.r + 2 * n) n ≡ raised (area c.loop-i.work (c.args.r + 2 * n) n) c.loop-i.i k) × Only (c.args.r + n) (c.args.r + 3 * n) c.loop-i.work c.copy_area.new.work
+raised_here : (c : After-copy_within) → let n = c.args.p + 1 in let k = neg c.order_shortfall-acc.result /₆₄ c.loop-i.e in
+    (area c.copy_within.new.self (c.args.r + 2 * n) n ≡ raised (area c.loop-i.work (c.args.r + 2 * n) n) c.loop-i.i k) × Only (c.args.r + n) (c.args.r + 3 * n) c.loop-i.work c.copy_within.new.self
 raised_here c =
     let r = c.args.r in
     let n = c.args.p + 1 in
     let room : r + 2 * n + n ≤ length c.loop-i.work = omega arith in
-    order_stands c.loop-i.work c.raise_order.new.work c.copy_area.new.work (r + n) (r + 2 * n) c.args.p _ (r + 3 * n) _ (omega arith) room (omega arith)
-    c.raise_order.ensures c.copy_area.ensures
+    order_stands c.loop-i.work c.raise_order.new.work c.copy_within.new.self (r + n) (r + 2 * n) c.args.p _ (r + 3 * n) _ (omega arith) room (omega arith)
+    c.raise_order.ensures (copied _ _ (r + n) (r + 2 * n) n (omega arith) (omega arith) c.copy_within.ensures.after)
 
 pub returns-then-magnitude64 : goal.returns-then-magnitude64
 returns-then-magnitude64 c =
@@ -46,7 +46,7 @@ returns-then-magnitude64 c =
 pub returns-then-e : goal.returns-then-e
 returns-then-e c =
     let acc = made_up (goal.at.returns-then-e c).After-order_shortfall-acc in
-    let done = raised_here (goal.at.returns-then-e c).After-copy_area in
+    let done = raised_here (goal.at.returns-then-e c).After-copy_within in
     let inv = c.loop-i.invariant in
     let ended = orders_ended _ _ _ _ _ _ inv.1 _ _ _ _ (omega arith) c.magnitude64.ensures acc refl refl c.if-magnitude64.false c.if-e.true in
     levinson_ends c.args.work.now _ _ c.args.r c.args.p _ c.requires.0 c.start_unit.ensures (only_then _ _ _ _ _ inv.0 done.1)
@@ -55,7 +55,7 @@ returns-then-e c =
 pub loop-i-preserved : goal.loop-i-preserved
 loop-i-preserved c =
     let acc = made_up (goal.at.loop-i-preserved c).After-order_shortfall-acc in
-    let done = raised_here (goal.at.loop-i-preserved c).After-copy_area in
+    let done = raised_here (goal.at.loop-i-preserved c).After-copy_within in
     let inv = c.loop-i.invariant in
     let on = orders_next _ _ _ _ _ _ inv.1 _ _ _ _ (omega arith) c.magnitude64.ensures acc refl refl c.if-magnitude64.false c.if-e.false in
     (only_then _ _ _ _ _ inv.0 done.1, rw done.0 on)
