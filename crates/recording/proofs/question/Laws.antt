@@ -1,5 +1,6 @@
--- The span question, line by line: a stretch of marks or of counts, whatever is looked for, the parts of a span, and how the question ends. Assumes nothing.
-use mathlib.Core.Path.{◌≡◌, refl, sym, ap, ◌∙◌}
+-- The span question, line by line: a stretch of marks or of counts, whatever is looked for, the parts of a span, and how the
+-- question ends. Assumes nothing.
+use mathlib.Core.Path.{◌≡◌, refl, ap}
 use mathlib.Core.Bool.{Bool, true, false, ◌&&◌}
 use mathlib.Core.List.{List}
 use Prim.Native.Nat.{ℕ, zero, suc, ◌+◌, ◌-◌, ◌≤◌, ◌<◌}

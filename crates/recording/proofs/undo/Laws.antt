@@ -10,7 +10,7 @@ use native.Mathlib.Nat.{sub-zero}
 use lib.ListN.{length, get_or, set, replicate}
 use lib.Seq.{sets}
 use lib.Dec.{leb, ltb, eqb, leb-suc-zero, leb-suc-suc}
-use borrow.Author.Tests.{lt-ltb, le-ltb, le-leb, lt-leb, eq-eqb, ne_eqb, ltb-false, leb-false}
+use borrow.Author.Tests.{eq-eqb, ne_eqb, ltb-false, leb-false}
 use Rattle.leaves.proofs.Choice.{neither, picks_by}
 use Rattle.recording.specs.Answers.{number, value}
 use Rattle.std.specs.Prelude.{if◌then◌else◌}

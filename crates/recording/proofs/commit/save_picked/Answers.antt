@@ -17,11 +17,6 @@ save-requires c =
     let room = pick_room _ _ _ c.loop-place-test.true _ _ c.if-work-n-ne0.true c.loop-place.invariant.0 in
     (omega arith, omega arith, omega arith, omega arith)
 
-pub overflow_add-next : goal.overflow_add-next
-overflow_add-next c =
-    let room = pick_room _ _ _ c.loop-place-test.true _ _ c.if-work-n-ne0.true c.loop-place.invariant.0 in
-    omega arith
-
 pub loop-place-preserved : goal.loop-place-preserved
 loop-place-preserved c =
     let h = c.loop-place-test.true in

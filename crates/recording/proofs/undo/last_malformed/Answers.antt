@@ -1,13 +1,6 @@
 -- `recording::undo::last_malformed` meets its contract: its tests are the clauses of refusal 11, in their order, with
 -- the three of the saved samples as one pass. Assumes nothing.
-use Prim.Native.Nat.{◌-◌}
-use mathlib.Core.Path.{◌≡◌, ◌∙◌}
-use mathlib.Core.Bool.{◌||◌, not}
-use lib.Dec.{eqb, ltb}
 use borrow.Author.Rules.{rules}
-use Rattle.recording.specs.Recording.{entry_size, saved_at, last_mark}
-use Rattle.recording.specs.Marks.{made}
-use Rattle.recording.specs.Inner.{any_wrong}
 use Rattle.recording.proofs.undo.Laws.{malformed_short, malformed_long}
 use Rattle.recording.proofs.undo.last_malformed.Goals as goal
 
