@@ -6,7 +6,7 @@ ghost use Rattle.model.specs.Model.{laid, cell_at, cells, factored, forward_at, 
 ghost use Rattle.model.specs.Areas.{area};
 
 use super::sums::{minus_column, minus_products};
-use leaves::order::larger64;
+use leaves::order::larger;
 use leaves::root::square_root;
 
 // The matrix d places before its diagonal, as it is laid down: b by that distance, and on the diagonal
@@ -40,7 +40,7 @@ fn cell_at(b: &[f64], p: usize, band: &[f64], i: usize, d: usize) -> f64
         laid_at(b, d),
     );
     if d == 0 {
-        square_root(larger64(sum, 1e-12))
+        square_root(larger(sum, 1e-12))
     } else {
         sum / band[other + j]
     }

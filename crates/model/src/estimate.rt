@@ -7,7 +7,7 @@ ghost use Rattle.model.specs.Order.{levinson_order, model_order};
 ghost use Rattle.model.specs.Areas.{area, Only, Laid, coefs_at};
 
 use super::sums::{lag_sum, order_shortfall};
-use leaves::order::magnitude64;
+use leaves::order::magnitude;
 
 // Writes r[lag], lag from 0 to p, behind the window.
 fn correlate(work: &mut [f64], size: usize, g: usize, len: usize, p: usize)
@@ -64,7 +64,7 @@ fn levinson(work: &mut [f64], r: usize, p: usize) -> usize
     let mut e = work[r];
     for i in 1..p + 1 {
         let acc = order_shortfall(&work[a..a + (p + 1)], &work[r..r + (p + 1)], i);
-        if magnitude64(e) < 1e-12 {
+        if magnitude(e) < 1e-12 {
             return i - 1;
         }
         let k = -acc / e;

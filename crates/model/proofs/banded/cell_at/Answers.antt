@@ -10,7 +10,7 @@ pub returns-then-d-eq0 : goal.returns-then-d-eq0
 returns-then-d-eq0 c =
     cell_diagonal _ _ _ _ _ _ _ _ c.if-i-d.false c.saturating_sub.ensures
     c.laid_at.ensures c.minus_products-sum.ensures _ _ c.if-d-eq0.true
-    c.larger64.ensures c.square_root.ensures.rule
+    c.larger.ensures c.square_root.ensures.rule
 
 pub returns-else-d-eq0 : goal.returns-else-d-eq0
 returns-else-d-eq0 c =

@@ -36,19 +36,19 @@ raised_here c =
     order_stands c.loop-i.work c.raise_order.new.work c.copy_within.new.self (r + n) (r + 2 * n) c.args.p _ (r + 3 * n) _ (omega arith) room (omega arith)
     c.raise_order.ensures (copied _ _ (r + n) (r + 2 * n) n (omega arith) (omega arith) c.copy_within.ensures.after)
 
-pub returns-then-magnitude64 : goal.returns-then-magnitude64
-returns-then-magnitude64 c =
-    let acc = made_up (goal.at.returns-then-magnitude64 c).After-order_shortfall-acc in
+pub returns-then-magnitude : goal.returns-then-magnitude
+returns-then-magnitude c =
+    let acc = made_up (goal.at.returns-then-magnitude c).After-order_shortfall-acc in
     let inv = c.loop-i.invariant in
     levinson_ends c.args.work.now _ _ c.args.r c.args.p _ c.requires.0 c.start_unit.ensures inv.0
-    (orders_small _ _ _ _ _ _ inv.1 _ _ _ _ (omega arith) c.magnitude64.ensures acc refl refl c.if-magnitude64.true)
+    (orders_small _ _ _ _ _ _ inv.1 _ _ _ _ (omega arith) c.magnitude.ensures acc refl refl c.if-magnitude.true)
 
 pub returns-then-e : goal.returns-then-e
 returns-then-e c =
     let acc = made_up (goal.at.returns-then-e c).After-order_shortfall-acc in
     let done = raised_here (goal.at.returns-then-e c).After-copy_within in
     let inv = c.loop-i.invariant in
-    let ended = orders_ended _ _ _ _ _ _ inv.1 _ _ _ _ (omega arith) c.magnitude64.ensures acc refl refl c.if-magnitude64.false c.if-e.true in
+    let ended = orders_ended _ _ _ _ _ _ inv.1 _ _ _ _ (omega arith) c.magnitude.ensures acc refl refl c.if-magnitude.false c.if-e.true in
     levinson_ends c.args.work.now _ _ c.args.r c.args.p _ c.requires.0 c.start_unit.ensures (only_then _ _ _ _ _ inv.0 done.1)
     (ap (λ (a : List Float). stop a c.loop-i.i) done.0 ∙ ended)
 
@@ -57,7 +57,7 @@ loop-i-preserved c =
     let acc = made_up (goal.at.loop-i-preserved c).After-order_shortfall-acc in
     let done = raised_here (goal.at.loop-i-preserved c).After-copy_within in
     let inv = c.loop-i.invariant in
-    let on = orders_next _ _ _ _ _ _ inv.1 _ _ _ _ (omega arith) c.magnitude64.ensures acc refl refl c.if-magnitude64.false c.if-e.false in
+    let on = orders_next _ _ _ _ _ _ inv.1 _ _ _ _ (omega arith) c.magnitude.ensures acc refl refl c.if-magnitude.false c.if-e.false in
     (only_then _ _ _ _ _ inv.0 done.1, rw done.0 on)
 
 pub returns : goal.returns
