@@ -193,9 +193,8 @@ module _ (allowed : Bool) (w : List ℕ) (s : State) (a : Answer) (start : a ≡
     unfolding called whole_plan performed
     repair_is = refl
 
-    -- a refusal of the start ends it
-    pub whole_refused : (why : Reason) (v : List ℕ) → a ≡ Err why → Begun a s.samples w v → Ends a s v
-    whole_refused why v e kept =
+    start_refused : (why : Reason) (v : List ℕ) → a ≡ Err why → Begun a s.samples w v → Ends a s v
+    start_refused why v e kept =
         let decided = sym begins_so ∙ e in (
           ap (λ (x : Answer). ended x s) begins_so
               ∙ first_refuses s (fitting s) (not allowed) short (readable 0 s.samples) planned why decided
@@ -211,6 +210,10 @@ module _ (allowed : Bool) (w : List ℕ) (s : State) (a : Answer) (start : a ≡
             let kept : clears a ≡ false = rw begins_so (first_keeps (fitting s) (not allowed) short (readable 0 s.samples) why
             (fitting_keeps s) (read_keeps s.samples) (sym begins_so ∙ e)) in
             rw kept k
+
+    -- a refusal of the start ends it, with that answer
+    pub whole_refused : (why : Reason) (v : List ℕ) (r : Answer) → r ≡ a → a ≡ Err why → Begun a s.samples w v → Ends r s v
+    whole_refused why v r same e kept = subst (λ (x : Answer). Ends x s v) (sym same) (start_refused why v e kept)
 
     -- what the workspace holds is committed
     pub whole_done : (m : ℕ) (v u next : List ℕ) (r : Answer) (after : State) → a ≡ Ok m

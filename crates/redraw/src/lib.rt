@@ -2,12 +2,14 @@
 // works out its words in the workspace, so that a refusal leaves the recording as it was.
 #![tactic(auto)]
 
-ghost use Rattle.std.specs.Prelude.{◌≡◌, ◌*◌, ◌≤◌, length};
+ghost use Rattle.std.specs.Prelude.{◌≡◌, ℕ, ◌+◌, ◌-◌, ◌*◌, ◌≤◌, ◌<◌, Bool, length};
 ghost use Rattle.recording.specs.Recording.{ended, change, carried, cleared};
 ghost use Rattle.recording.specs.Marks.{byte_of};
 ghost use Rattle.recording.specs.Lent.{held, SameMemory};
 ghost use Rattle.recording.specs.Inner.{Fits, picked_by};
+ghost use Rattle.recording.specs.Runs.{begins, run_length};
 ghost use Rattle.redraw.specs.Whole.{untouched, needed};
+ghost use Rattle.redraw.specs.Runs.{Decides};
 ghost use Rattle.redraw.specs.Inner.{begun, Begun, Holds};
 
 use recording::clear::set_all;
@@ -54,4 +56,26 @@ pub fn finish(recording: &mut Recording, work: &mut [u32], mark: Mark) -> Answer
     let answer = recording.commit_picked(work, mark);
     set_all(work, 0, 2 * n, 0);
     answer
+}
+
+// Whether a run begins at place i: the place meets the test, and the one before it, if there is one, does not.
+pub fn run_begins<F: Fn(usize) -> bool>(i: usize, meets: F) -> bool
+    requires { (k : ℕ) → k ≤ i → F.pre meets k }
+    ensures { (test : ℕ → Bool) → Decides (F.post meets) (i + 1) test → result ≡ begins test i }
+{
+    meets(i) && (i == 0 || !meets(i - 1))
+}
+
+// The first place behind the run that begins at `start`, which ends before place n.
+pub fn run_end<F: Fn(usize) -> bool>(n: usize, start: usize, meets: F) -> usize
+    requires within { start ≤ n }
+    requires asked { (k : ℕ) → k < n → F.pre meets k }
+    ensures { (test : ℕ → Bool) → Decides (F.post meets) n test → result ≡ start + run_length test start (n - start) }
+{
+    for end in start..n {
+        if !meets(end) {
+            return end;
+        }
+    }
+    n
 }
