@@ -10,6 +10,7 @@ use Rattle.leaves.specs.Floats.{in_range}
 use Rattle.leaves.proofs.words.Laws.{nan_test, one_nan}
 use Rattle.std.specs.Prelude.{if◌then◌else◌}
 use Rattle.recording.specs.Runs.{run_length}
+use Rattle.recording.proofs.Runs.{run_within}
 use Rattle.leaves.proofs.Choice.{truth, EitherWay, both_hold}
 use Rattle.inpaint.specs.Auto.{zero_or_nan, holdable, continues, continues_at, run_begins, run_at, long_enough, kept}
 use Rattle.inpaint.specs.Auto.{gap_at, gap_length, gap_allowed, qualifies, starts, next_among, next_run}
@@ -176,18 +177,15 @@ at_most_kept w = elim (truth (holdable w)) [ inl h ↦ omega (arith, kept_held w
 pub keeps_one : (w k : ℕ) → k ≡ kept w → k ≤ 1
 keeps_one w k e = omega (arith, at_most_kept w)
 
--- a run that reaches the end does not qualify
-touching : (n most held w i len : ℕ) → 1 ≤ len → n ≤ i + len → qualifies n most held w i len ≡ false
-unfolding qualifies
-touching n most held w i len some reach =
-    let past : n ≤ i + kept w + (len - kept w) = omega (arith, at_most_kept w) in
-    rw (le-ltb (i + kept w + (len - kept w)) n past, and-false, and-false) refl
-
 -- ---- the search, place by place
 
 -- how many places from i on continue a run
 abbrev pub more : List ℕ → ℕ → ℕ
 more samples i = run_length (continues_at samples) i (length samples - i)
+
+-- a run is within its recording
+pub run_fits : (samples : List ℕ) (i : ℕ) → i < length samples → i + run_at samples i ≤ length samples
+run_fits samples i h = omega (arith, run_within (continues_at samples) (i + 1) (length samples - (i + 1)))
 
 -- the search of the places from `from` on, as it goes on at place i
 abbrev pub searched : List ℕ → ℕ → ℕ → ℕ → ℕ → Option Stretch
