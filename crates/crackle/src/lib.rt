@@ -18,7 +18,7 @@ use decrackle::{
     LEAST_SAMPLES, MEAN_OVER, OLD_FLOOR, Start, factor_for, from_middle, mean_floor, raise_floor,
     stands_out,
 };
-use leaves::order::magnitude32;
+use leaves::order::magnitude;
 use leaves::words::{f32_of_word, word_of_f32};
 use recording::open::MOST_SAMPLES;
 use recording::read::check_words;
@@ -126,7 +126,7 @@ fn sum_held(held: &[u32], n: usize) -> f32
 {
     let mut sum: f32 = 0.0;
     for k in 0..n {
-        sum += magnitude32(f32_of_word(held[k]));
+        sum += magnitude(f32_of_word(held[k]));
     }
     sum
 }
@@ -147,7 +147,7 @@ fn judge_held(
 {
     let mut present = floor;
     for k in 0..n {
-        let a = magnitude32(f32_of_word(held[k]));
+        let a = magnitude(f32_of_word(held[k]));
         present = raise_floor(present, a);
         flags[at + k] = flag_byte(detector, present, a);
     }
@@ -172,7 +172,7 @@ fn judge(
 {
     let taken = detector.taken as usize;
     if !held_back(detector.start, taken) {
-        let a = magnitude32(value);
+        let a = magnitude(value);
         let floor = raise_floor(detector.floor, a);
         flags[at] = flag_byte(detector, floor, a);
         return floor;

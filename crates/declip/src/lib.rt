@@ -11,7 +11,7 @@ ghost use Rattle.redraw.specs.Whole.{untouched, needed};
 ghost use Rattle.redraw.specs.Inner.{drawn_in, Holds, Room};
 ghost use Rattle.declip.specs.Declip.{allowed, clipped, clipped_at, cubic_at, cubic_fill, bridged, declipped, declip_repair};
 
-use leaves::order::magnitude32;
+use leaves::order::magnitude;
 use leaves::words::{count_as_f32, f32_of_word, word_of_f32};
 use recording::marks::Mark;
 use recording::{Answer, Recording};
@@ -31,7 +31,7 @@ pub fn threshold_allowed(threshold: f32) -> bool
 pub fn is_clipped(threshold: f32, word: u32) -> bool
     ensures { result ≡ clipped threshold word }
 {
-    threshold <= magnitude32(f32_of_word(word))
+    threshold <= magnitude(f32_of_word(word))
 }
 
 // The word at place i of a curve from y0 at place a to y1 at place z.

@@ -16,7 +16,7 @@ ghost use Rattle.decrackle.specs.Decrackle.{factor_for, from_middle, detector, m
 ghost use Rattle.decrackle.specs.Decrackle.{floor_after, flagged, flags_of, slope_before, slope_behind};
 ghost use Rattle.decrackle.specs.Decrackle.{hermite_at, repair_hermite, smoothed, decrackled, mark_for, decrackle_repair};
 
-use leaves::order::{clamp32, larger32, magnitude32};
+use leaves::order::{clamp, larger, magnitude};
 use leaves::words::{count_as_f32, f32_of_word, word_of_f32};
 use recording::marks::Mark;
 use recording::{Answer, Recording};
@@ -47,7 +47,7 @@ const ALPHA: f32 = 0.001;
 pub fn factor_for(sensitivity: f32) -> f32
     ensures { result ≡ factor_for sensitivity }
 {
-    12.0 - clamp32(sensitivity, 1.0, 10.0)
+    12.0 - clamp(sensitivity, 1.0, 10.0)
 }
 
 // How far a sample lies from the middle of its neighbours.
@@ -77,7 +77,7 @@ fn sum_magnitudes(samples: &[u32], n: usize) -> f32
 {
     let mut sum: f32 = 0.0;
     for i in 0..n {
-        sum += magnitude32(detector_at(samples, i));
+        sum += magnitude(detector_at(samples, i));
     }
     sum
 }
@@ -87,7 +87,7 @@ pub fn mean_floor(sum: f32, n: usize) -> f32
     requires { n ≤ mean_over }
     ensures { result ≡ mean_floor sum n }
 {
-    larger32(sum / count_as_f32(n), LEAST_FLOOR)
+    larger(sum / count_as_f32(n), LEAST_FLOOR)
 }
 
 // The floor before the first sample: the mean goes over the first 1,024 places, or over all where there are fewer.
@@ -114,7 +114,7 @@ pub fn raise_floor(floor: f32, a: f32) -> f32
 pub fn stands_out(factor: f32, floor: f32, a: f32) -> bool
     ensures { result ≡ flagged factor floor a }
 {
-    factor * larger32(floor, LEAST_FLOOR) < a
+    factor * larger(floor, LEAST_FLOOR) < a
 }
 
 // 1 where a sample with the detector's magnitude a is flagged, and else 0.
@@ -135,7 +135,7 @@ fn flag_samples(samples: &[u32], sensitivity: f32, start: Start, work: &mut [u32
     let factor = factor_for(sensitivity);
     let mut floor = opening_floor(start, samples);
     for i in 0..n {
-        let a = magnitude32(detector_at(samples, i));
+        let a = magnitude(detector_at(samples, i));
         floor = raise_floor(floor, a);
         work[n + i] = flag_word(factor, floor, a);
     }

@@ -10,7 +10,7 @@ ghost use Rattle.redraw.specs.Inner.{words_in, snapshot_in, rest_of, drawn_in, H
 ghost use Rattle.dequant.specs.Dequant.{cubic_weight, candidate, local_strength, sparse_at, sparse_pass, sparse_passes, cosparse, cosparse_repair};
 
 use super::lattice::{name_inner, reaches, snapshot, step_of, strength_of, target_of};
-use leaves::order::{clamp32, magnitude32};
+use leaves::order::{clamp, magnitude};
 use leaves::words::{f32_of_word, word_of_f32};
 use recording::marks::Mark;
 use recording::{Answer, Recording};
@@ -28,8 +28,8 @@ const MOST_ITERATIONS: usize = 16;
 fn cubic_weight(a: f32, b: f32, c: f32, d: f32) -> f32
     ensures { result ≡ cubic_weight a b c d }
 {
-    let bend = magnitude32(d - 2.0 * c + 2.0 * b - a);
-    clamp32(1.0 / (1.0 + 32.0 * bend), 0.1, 1.0)
+    let bend = magnitude(d - 2.0 * c + 2.0 * b - a);
+    clamp(1.0 / (1.0 + 32.0 * bend), 0.1, 1.0)
 }
 
 // What the two samples before a place and the two behind it predict there.
@@ -46,7 +46,7 @@ fn candidate_of(a: f32, b: f32, c: f32, d: f32) -> f32
 fn local_strength(strength: f32, b: f32, c: f32) -> f32
     ensures { result ≡ local_strength strength b c }
 {
-    let rise = magnitude32(c - b);
+    let rise = magnitude(c - b);
     strength * (0.5 + 0.5 / (1.0 + 16.0 * rise))
 }
 

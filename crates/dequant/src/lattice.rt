@@ -6,7 +6,7 @@ ghost use Rattle.redraw.specs.Whole.{drawn};
 ghost use Rattle.redraw.specs.Inner.{words_in, flag_word, Holds, Room};
 ghost use Rattle.dequant.specs.Dequant.{strength_of, step_of, target, inner, acts};
 
-use leaves::order::clamp32;
+use leaves::order::clamp;
 use leaves::whole::round_to_whole;
 use leaves::words::count_as_f32;
 
@@ -19,7 +19,7 @@ const MOST_BITS: u32 = 24;
 pub fn strength_of(strength: f32) -> f32
     ensures { result ≡ strength_of strength }
 {
-    clamp32(strength, 0.0, 1.0)
+    clamp(strength, 0.0, 1.0)
 }
 
 // The step between two levels of so many bits, which cover -1 .. 1.
@@ -36,7 +36,7 @@ pub fn target_of(step: f32, x: f32, pred: f32) -> f32
 {
     let q = round_to_whole(x / step) * step;
     let half = step * 0.5;
-    clamp32(pred, q - half, q + half)
+    clamp(pred, q - half, q + half)
 }
 
 // Whether a form does anything: at least so many samples, and a strength above 0.

@@ -15,7 +15,7 @@ ghost use Rattle.recording.specs.Lent.{SameMemory};
 use super::gap::inpaint_gap;
 use super::window::MAX_SOLVE;
 use super::{Filled, Scanned, Stretch};
-use leaves::order::larger32;
+use leaves::order::larger;
 use leaves::words::{count_as_f32, f32_of_word, in_range};
 use recording::{Answer, Reason, Recording};
 
@@ -59,7 +59,7 @@ fn longest_run(millis: f32, rate: u32) -> usize
     ensures { result ≡ limit millis rate }
 {
     let product = millis / 1000.0 * count_as_f32(rate as usize);
-    whole_part(larger32(product, 1.0)) as usize
+    whole_part(larger(product, 1.0)) as usize
 }
 
 // Whether the settings of the limit are allowed: a rate that an f32 holds, and a limit between the infinities,

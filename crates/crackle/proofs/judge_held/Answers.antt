@@ -6,7 +6,7 @@ pub loop-k-preserved : goal.loop-k-preserved
 loop-k-preserved c =
     let inv = c.loop-k.invariant in
     let read = c.f32_of_word.ensures in
-    let size = c.magnitude32-a.ensures in (
+    let size = c.magnitude-a.ensures in (
       floor_more _ _ c.requires.0 _ _ _ _ _ _ c.loop-k-test.true read size c.raise_floor-present.ensures inv.0,
       flags_more _ _ c.requires.0 _ _ _ _ _ _ _ _ _ _ c.loop-k-test.true read size c.raise_floor-present.ensures
           c.flag_byte.ensures inv.1,

@@ -6,7 +6,7 @@ use Rattle.decrackle.proofs.flag_samples.Goals as goal
 pub loop-i-preserved : goal.loop-i-preserved
 loop-i-preserved c =
     flag_stored _ _ _ _ _ _ _ _ _ _ _ c.loop-i-test.true c.detector_at.ensures
-    c.magnitude32-a.ensures c.raise_floor-floor.ensures c.flag_word.ensures c.loop-i.invariant
+    c.magnitude-a.ensures c.raise_floor-floor.ensures c.flag_word.ensures c.loop-i.invariant
 
 pub returns : goal.returns
 returns c =
