@@ -26,9 +26,7 @@ use Rattle.inpaint.specs.Auto.{Scan, scan, source_passes, repair_at, scan_from, 
 use Rattle.inpaint.specs.Runs.{Stretch, stretch, runs_among, runs_of, single_calls, gap_calls, answers, acceptances, first_refusal}
 use Rattle.inpaint.specs.Runs.{ScanIsItsRuns, ScanCountsItsRuns}
 use Rattle.inpaint.specs.Consequences.{ScanLawful, ListLawful, RefusedScan}
-use Rattle.inpaint.specs.declared.Stretch.{Stretch}
 use Rattle.std.specs.Prelude.{Option, Some, None}
-use Rattle.inpaint.specs.Auto.{stretch}
 use Rattle.inpaint.proofs.auto.Laws.{scan_stops, scan_takes}
 use Rattle.inpaint.proofs.auto.Runs.{Found, found_run, Fit, fits}
 use Rattle.inpaint.proofs.auto.Laws.{numbered, automatic_refused, automatic_scanned}

@@ -30,7 +30,6 @@ use Rattle.inpaint.specs.Runs.{stretch}
 use Rattle.inpaint.specs.Order.{noted}
 use Rattle.inpaint.specs.declared.Stretch.{Stretch}
 use Rattle.std.specs.Prelude.{Option, Some, None}
-use Rattle.inpaint.specs.Auto.{stretch}
 use Rattle.inpaint.proofs.auto.Runs.{both}
 
 -- ---- how the repair of a run counts
