@@ -30,24 +30,15 @@ pub fn is_laid_out(bytes: &[u8], before: usize, parts: usize) -> bool
     ensures { result ≡ laid_out before parts bytes.now }
 {
     let mut at = bodies_at(before, parts);
-    if bytes.len() < at {
+    if bytes.len() < at || word_at(bytes, before) as usize != parts {
         return false;
     }
-    if word_at(bytes, before) as usize != parts {
-        return false;
-    }
-    let mut row = before + COUNT_BYTES;
-    let mut k: usize = 0;
-    while k < parts {
-        if word_at(bytes, row) as usize != k + 1 {
-            return false;
-        }
-        if word_at(bytes, row + 4) as usize != at {
+    for k in 0..parts {
+        let row = before + COUNT_BYTES + ROW_BYTES * k;
+        if word_at(bytes, row) as usize != k + 1 || word_at(bytes, row + 4) as usize != at {
             return false;
         }
         at += word_at(bytes, row + 8) as usize;
-        row += ROW_BYTES;
-        k += 1;
     }
     at == bytes.len()
 }
@@ -79,13 +70,10 @@ pub fn write_table(bytes: &mut [u8], before: usize, lens: &[u32])
 {
     let parts = lens.len();
     store_word(bytes, before, parts as u32);
-    let mut row = before + COUNT_BYTES;
     let mut offset = bodies_at(before, parts);
-    let mut k: usize = 0;
-    while k < parts {
-        write_row(bytes, row, (k + 1) as u32, offset as u32, lens[k]);
-        offset += lens[k] as usize;
-        row += ROW_BYTES;
-        k += 1;
+    for (k, len) in lens.iter().enumerate() {
+        let row = before + COUNT_BYTES + ROW_BYTES * k;
+        write_row(bytes, row, (k + 1) as u32, offset as u32, *len);
+        offset += *len as usize;
     }
 }

@@ -20,7 +20,8 @@ fn read_at<R: Read>(reader: &mut R, space: &mut [u8], at: usize) -> io::Result<u
 }
 
 // Reads until the space is full or the input ends, and says how many bytes that gave. They stand at the
-// start of the space.
+// start of the space. A reader's own `read_exact` refuses an input that ends early, and `read_to_end` needs
+// a Vec where the space is lent; how many reads it takes is not known, so that a `while` asks.
 pub fn read_full<R: Read>(reader: &mut R, space: &mut [u8]) -> io::Result<usize>
     ensures within { IfOk result (λ n. n ≤ length space.new) }
     ensures bytes { IfOk result

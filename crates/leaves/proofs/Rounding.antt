@@ -11,7 +11,7 @@ use lib.Ieee.Bits.{of_bits-fits}
 use lib.Ieee.Nearest.{closest, closest_same, nearest-ge}
 use lib.Ieee.Exact.{units_val}
 use Rattle.leaves.specs.Steps.{signed}
-use Rattle.leaves.proofs.Numbers.{lt_or_ge, compare_lt, compare_eq, compare_gt}
+use Rattle.leaves.proofs.Numbers.{lt_or_ge, compare_lt}
 use Rattle.leaves.proofs.Values.{same_value, value_of_sum}
 
 -- ---- which digits are kept
@@ -164,15 +164,9 @@ neg_round f num den =
     go w u true = neg_odd (suc (prec f)) w u (low f)
     go w u false = refl
 
--- ---- a / b to the nearest whole number, by what is left over: less than half of b, more, or just half
+-- ---- a / b to the nearest whole number: the whole part where less than half of b is left over
 pub closest_down : (a b : ℕ) → a % b * 2 < b → closest a b ≡ a / b
 closest_down a b h = rw (compare_lt _ _ h) refl
-
-pub closest_up : (a b : ℕ) → b < a % b * 2 → closest a b ≡ a / b + 1
-closest_up a b h = rw (compare_gt _ _ h) (sym (add-one (a / b)))
-
-pub closest_tie : (a b : ℕ) → a % b * 2 ≡ b → closest a b ≡ a / b + a / b % 2
-closest_tie a b h = rw (compare_eq _ _ h) refl
 
 -- it is the whole part, or one more
 pub closest_least : (a b : ℕ) → a / b ≤ closest a b

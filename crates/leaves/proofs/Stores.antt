@@ -1,8 +1,9 @@
--- Runs of stores: the length they leave, one that covers a whole list, one behind another, a loop that stores one value after the other,
--- one that stores the image of what stands in another list or in the same place: what is left to store, stored from the present place on,
+-- Runs of stores: the length they leave, one that covers a whole list, one behind another, a list that is copied in, a loop
+-- that stores one value after the other, one that stores the image of what stands in another list or in the same place: what is left to store, stored from the present place on,
 -- gives the whole. Assumes nothing.
-use Rattle.std.proofs.Common.{◌≡◌, ℕ, suc, ◌+◌, ◌-◌, ◌<◌, ◌≤◌, List, [], ◌∷◌, ◌++◌, map, length, get_or, take, drop, set, replicate, sym, refl, ap, ◌∙◌, append-nil, zero-add, arith, drop_of_length-le, take_all, drop-cons, take-suc-set, drop-set-lt}
-use lib.Seq.{sets, sets-eq, length-sets, drop-length, append_snoc}
+use Rattle.std.proofs.Common.{◌≡◌, ℕ, suc, ◌+◌, ◌-◌, ◌<◌, ◌≤◌, List, [], ◌∷◌, ◌++◌, map, length, get_or, take, drop, set, replicate, sym, refl, ap, ◌∙◌, append-nil, append_assoc, zero-add, arith, drop_of_length-le, take_all, drop-cons, take-suc-set, drop-set-lt}
+use lib.Seq.{sets, sets-eq, length-sets, drop-length, drop-drop, append_snoc}
+use borrow.Rule.Slice.PartMut.{put_mid}
 
 -- what is stored leaves a list's length
 pub as_long : {A : Type 0} (l after vs : List A) (a : ℕ) → after ≡ sets l a vs → length after ≡ length l
@@ -11,6 +12,14 @@ as_long l after vs a e = ap length e ∙ length-sets l a vs
 -- as many values as the list has, stored from its first place on
 pub stored_over : {A : Type 0} (l vs : List A) → length vs ≡ length l → sets l 0 vs ≡ vs
 stored_over l vs count = sets-eq vs l 0 (omega arith) ∙ rw (count, zero-add, drop-length l, append-nil vs) refl
+
+-- copying a list into a part of its length is to store its elements from there on
+pub copied_in : {A : Type 0} (xs ys zs : List A) (i k : ℕ) → ys ≡ zs → length zs ≡ k → i + k ≤ length xs → put_mid i k xs ys ≡ sets xs i zs
+copied_in xs ys zs i k e n h =
+    ap (λ l. take i xs ++ (l ++ drop k (drop i xs))) e
+    ∙ ap (λ l. take i xs ++ (zs ++ l)) (drop-drop k i xs ∙ ap (λ m. drop (i + m) xs) (sym n))
+    ∙ sym (append_assoc (take i xs) zs _)
+    ∙ sym (sets-eq zs xs i (rw n h))
 
 -- values stored behind others are stored with them
 pub stored_behind : {A : Type 0} (l xs ys : List A) (a : ℕ) → sets (sets l a xs) (a + length xs) ys ≡ sets l a (xs ++ ys)

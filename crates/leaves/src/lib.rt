@@ -3,7 +3,6 @@
 // argument, a NaN and the infinities among them.
 #![tactic(auto)]
 
-pub mod counts;
 pub mod narrow;
 pub mod order;
 pub mod root;

@@ -1,77 +1,72 @@
 // Magnitude, the larger and the smaller of two, and a number held to a span, as Rust's `abs`, `max`,
-// `min` and `clamp`. Rattle has no generics, so what both formats need stands twice; the definitions
-// are the same for both.
-ghost use Rattle.std.specs.Prelude.{◌≡◌};
+// `min` and `clamp`, for both formats at once.
+ghost use Rattle.std.specs.Prelude.{◌≡◌, Float, refl};
+ghost use Rattle.std.specs.Float.Ieee.{eq};
+ghost use Rattle.std.specs.Ordering.{float_partial_cmp};
 ghost use Rattle.leaves.specs.Floats.{magnitude, larger, smaller, held};
 
-// x without its sign. A zero equals either zero, so it is told apart before the sign is dropped.
-pub fn magnitude32(x: f32) -> f32
-    ensures { result ≡ magnitude x }
-{
-    if x < 0.0 {
-        -x
-    } else if x == 0.0 {
-        0.0
-    } else {
-        x
+// A float of either format. `float` says which one a value is, and the two laws that it is ordered and
+// compared as such.
+pub trait Real: PartialOrd + Copy {
+    ghost float: { Self → Float };
+
+    // x without its sign.
+    fn without_sign(self) -> Self
+        ensures { float result ≡ magnitude (float self) };
+
+    ghost ordered: { (a b : Self) → Self.partial_cmp a b ≡ float_partial_cmp (float a) (float b) };
+
+    ghost compared: { (a b : Self) → Self.eq a b ≡ eq (float a) (float b) };
+}
+
+impl Real for f32 {
+    ghost float = { λ x. x };
+
+    ghost ordered = { λ a b. refl };
+
+    ghost compared = { λ a b. refl };
+
+    fn without_sign(self) -> f32 {
+        self.abs()
     }
 }
 
-// The same at binary64.
-pub fn magnitude64(x: f64) -> f64
-    ensures { result ≡ magnitude x }
-{
-    if x < 0.0 {
-        -x
-    } else if x == 0.0 {
-        0.0
-    } else {
-        x
+impl Real for f64 {
+    ghost float = { λ x. x };
+
+    ghost ordered = { λ a b. refl };
+
+    ghost compared = { λ a b. refl };
+
+    fn without_sign(self) -> f64 {
+        self.abs()
     }
+}
+
+// x without its sign; a NaN stays one.
+pub fn magnitude<R: Real>(x: R) -> R
+    ensures { R.float result ≡ magnitude (R.float x) }
+{
+    x.without_sign()
 }
 
 // The larger of two. Where b is the NaN, `a < b` is false.
-pub fn larger32(a: f32, b: f32) -> f32
-    ensures { result ≡ larger a b }
+pub fn larger<R: Real>(a: R, b: R) -> R
+    ensures { R.float result ≡ larger (R.float a) (R.float b) }
 {
-    if a != a {
-        b
-    } else if a < b {
-        b
-    } else {
-        a
-    }
-}
-
-// The same at binary64.
-pub fn larger64(a: f64, b: f64) -> f64
-    ensures { result ≡ larger a b }
-{
-    if a != a {
-        b
-    } else if a < b {
-        b
-    } else {
-        a
-    }
+    if a != a || a < b { b } else { a }
 }
 
 // The smaller of two. Where b is the NaN, `b < a` is false.
-pub fn smaller32(a: f32, b: f32) -> f32
-    ensures { result ≡ smaller a b }
+pub fn smaller<R: Real>(a: R, b: R) -> R
+    ensures { R.float result ≡ smaller (R.float a) (R.float b) }
 {
-    if a != a {
-        b
-    } else if b < a {
-        b
-    } else {
-        a
-    }
+    if a != a || b < a { b } else { a }
 }
 
 // x held to low .. high; a NaN is beyond neither end, and stays.
-pub fn clamp32(x: f32, low: f32, high: f32) -> f32
-    ensures { result ≡ held low high x }
+pub fn clamp<R: Real>(x: R, low: R, high: R) -> R
+    ensures { R.float result ≡ held (R.float low) (R.float high) (R.float x) }
 {
     if x < low {
         low

@@ -58,9 +58,7 @@ fn brought_down(left: u64, taken: u64) -> u64
     ensures { (result < 2 ^ 63 → left * 2 ^ 26 ≡ taken + result)
         × ((rest : ℕ) → left ≤ 2 ^ 36 → left * 2 ^ 26 ≡ taken + rest → result ≡ rest) }
 {
-    if MOST_LEFT < left {
-        TOO_FAR
-    } else if left * LOWER_HALF < taken {
+    if MOST_LEFT < left || left * LOWER_HALF < taken {
         TOO_FAR
     } else {
         left * LOWER_HALF - taken
@@ -95,9 +93,7 @@ fn root_by_digits(digits: u64) -> u64
     let mut left = digits;
     let mut rest: u64 = 0;
     let mut root: u64 = 0;
-    let mut turns: u64 = 0;
-    while turns < DIGITS {
-        turns += 1;
+    for _turn in 0..DIGITS {
         rest = rest * 4 + left / NEXT_TWO;
         left = left % NEXT_TWO * 4;
         root = root * 2;

@@ -5,6 +5,9 @@ ghost use Rattle.std.specs.Float.{binary32, binary64};
 ghost use Rattle.leaves.specs.Arithmetic.{count};
 ghost use Rattle.leaves.specs.Floats.{in_range};
 
+// What each format needs stands once for each: a generic word would be no plainer, since its arithmetic
+// would have to come from a trait, and every caller works with one format's word and its constants.
+
 // A pattern has the sign on top, then the exponent's field, then the digits below the leading one. The
 // weight of the sign in it, of an f32 and of an f64.
 pub const SIGN32: u32 = 0x8000_0000;
@@ -84,5 +87,5 @@ pub fn in_range(word: u32) -> bool
     ensures { result ≡ in_range word }
 {
     let x = f32_of_word(word);
-    if -65536.0 <= x { x <= 65536.0 } else { false }
+    -65536.0 <= x && x <= 65536.0
 }

@@ -6,8 +6,7 @@ ghost use Rattle.model.specs.Model.{laid, cell_at, cells, factored, forward_at, 
 ghost use Rattle.model.specs.Areas.{area};
 
 use super::sums::{minus_column, minus_products};
-use leaves::counts::{difference_or_zero, smaller_of};
-use leaves::order::larger64;
+use leaves::order::larger;
 use leaves::root::square_root;
 
 // The matrix d places before its diagonal, as it is laid down: b by that distance, and on the diagonal
@@ -36,12 +35,12 @@ fn cell_at(b: &[f64], p: usize, band: &[f64], i: usize, d: usize) -> f64
         row,
         band,
         other,
-        difference_or_zero(i, p),
+        i.saturating_sub(p),
         j,
         laid_at(b, d),
     );
     if d == 0 {
-        square_root(larger64(sum, 1e-12))
+        square_root(larger(sum, 1e-12))
     } else {
         sum / band[other + j]
     }
@@ -53,12 +52,10 @@ fn factor_row(work: &mut [f64], b: usize, band: usize, p: usize, i: usize)
     ensures { work.new
         ≡ sets work.old band (cells (area work.old b (p + 1)) p i (p + 1) (area work.old band (i * (p + 1)))) }
 {
-    let mut c = i * (p + 1);
-    let mut left = p + 1;
-    while 0 < left {
-        left -= 1;
-        work[band + c] = cell_at(&work[b..b + (p + 1)], p, &work[band..band + c], i, left);
-        c += 1;
+    let row = i * (p + 1);
+    for k in 0..p + 1 {
+        let c = row + k;
+        work[band + c] = cell_at(&work[b..b + (p + 1)], p, &work[band..band + c], i, p - k);
     }
 }
 
@@ -67,10 +64,8 @@ pub fn factor(work: &mut [f64], b: usize, band: usize, len: usize, p: usize)
     requires { (b + (p + 1) ≤ band) × (band + len * (p + 1) ≤ length work.old) × (1 ≤ p) × (p ≤ 128) × (len ≤ 2048) }
     ensures { work.new ≡ sets work.old band (factored (area work.old b (p + 1)) p len) }
 {
-    let mut i: usize = 0;
-    while i < len {
+    for i in 0..len {
         factor_row(work, b, band, p, i);
-        i += 1;
     }
 }
 
@@ -81,7 +76,7 @@ fn forward_at(band: &[f64], rhs: &[f64], p: usize, y: &[f64]) -> f64
 {
     let i = y.len();
     let row = p * (i + 1);
-    let sum = minus_products(band, row, y, 0, difference_or_zero(i, p), i, rhs[i]);
+    let sum = minus_products(band, row, y, 0, i.saturating_sub(p), i, rhs[i]);
     sum / band[row + i]
 }
 
@@ -91,15 +86,13 @@ pub fn forward_solve(work: &mut [f64], band: usize, rhs: usize, y: usize, len: u
     ensures { work.new
         ≡ sets work.old y (forward (area work.old band (len * (p + 1))) (area work.old rhs len) p len []) }
 {
-    let mut i: usize = 0;
-    while i < len {
+    for i in 0..len {
         work[y + i] = forward_at(
             &work[band..band + len * (p + 1)],
             &work[rhs..rhs + len],
             p,
             &work[y..y + i],
         );
-        i += 1;
     }
 }
 
@@ -109,7 +102,7 @@ fn backward_at(band: &[f64], y: &[f64], p: usize, i: usize, x: &[f64]) -> f64
         × (1 ≤ p) × (p ≤ 128) × (length y.now ≤ 2048) }
     ensures { result ≡ backward_at band.now y.now p (length y.now) i x.now }
 {
-    let high = smaller_of(i + p, y.len() - 1);
+    let high = (i + p).min(y.len() - 1);
     let sum = minus_column(band, p, i, x, high, y[i]);
     sum / band[p * (i + 1) + i]
 }
@@ -120,9 +113,7 @@ pub fn back_solve(work: &mut [f64], band: usize, y: usize, x: usize, len: usize,
     ensures { work.new
         ≡ sets work.old x (backward (area work.old band (len * (p + 1))) (area work.old y len) p len len []) }
 {
-    let mut i = len;
-    while 0 < i {
-        i -= 1;
+    for i in (0..len).rev() {
         work[x + i] = backward_at(
             &work[band..band + len * (p + 1)],
             &work[y..y + len],

@@ -1,4 +1,5 @@
-// The coefficients of the model, from what is known of the window.
+// The coefficients of the model, from what is known of the window. The ranges end before p + 1, which is how many places
+// an area has: of a loop up to `..=p` that writes, what it leaves would have to be proved twice, at either way out.
 ghost use Rattle.std.specs.Prelude.{◌≡◌, ◌+◌, ◌*◌, ◌≤◌, ◌<◌, length};
 ghost use Rattle.std.proofs.lemmas.List.Edits.{sets};
 ghost use Rattle.model.specs.Model.{lags, unit, raised_at, raised, levinson, estimate_ar_known};
@@ -6,17 +7,15 @@ ghost use Rattle.model.specs.Order.{levinson_order, model_order};
 ghost use Rattle.model.specs.Areas.{area, Only, Laid, coefs_at};
 
 use super::sums::{lag_sum, order_shortfall};
-use leaves::order::magnitude64;
+use leaves::order::magnitude;
 
 // Writes r[lag], lag from 0 to p, behind the window.
 fn correlate(work: &mut [f64], size: usize, g: usize, len: usize, p: usize)
     requires { Laid size g len p work.old }
     ensures { work.new ≡ sets work.old size (lags (area work.old 0 size) g len p) }
 {
-    let mut lag: usize = 0;
-    while lag <= p {
+    for lag in 0..p + 1 {
         work[size + lag] = lag_sum(&work[0..size], g, len, lag);
-        lag += 1;
     }
 }
 
@@ -26,11 +25,7 @@ fn start_unit(work: &mut [f64], a: usize, p: usize)
     ensures { work.new ≡ sets work.old a (unit p) }
 {
     work[a] = 1.0;
-    let mut j: usize = 1;
-    while j <= p {
-        work[a + j] = 0.0;
-        j += 1;
-    }
+    work[a + 1..a + 1 + p].fill(0.0);
 }
 
 // The j-th coefficient of the order i.
@@ -38,10 +33,8 @@ fn raised_at(a: &[f64], i: usize, k: f64, j: usize) -> f64
     requires { (i < length a.now) × (j < length a.now) }
     ensures { result ≡ raised_at a.now i k j }
 {
-    if 0 < j {
-        if j < i {
-            return a[j] + k * a[i - j];
-        }
+    if 0 < j && j < i {
+        return a[j] + k * a[i - j];
     }
     if j == i { k } else { a[j] }
 }
@@ -51,22 +44,8 @@ fn raise_order(work: &mut [f64], copy: usize, a: usize, p: usize, i: usize, k: f
     requires { (copy + (p + 1) ≤ a) × (a + (p + 1) ≤ length work.old) × (i ≤ p) × (p ≤ 128) }
     ensures { work.new ≡ sets work.old copy (raised (area work.old a (p + 1)) i k) }
 {
-    let mut j: usize = 0;
-    while j <= p {
+    for j in 0..p + 1 {
         work[copy + j] = raised_at(&work[a..a + (p + 1)], i, k, j);
-        j += 1;
-    }
-}
-
-// Writes what stands in the `count` places from `copy` on at a.
-fn copy_area(work: &mut [f64], copy: usize, a: usize, count: usize)
-    requires { (copy + count ≤ a) × (a + count ≤ length work.old) }
-    ensures { work.new ≡ sets work.old a (area work.old copy count) }
-{
-    let mut j: usize = 0;
-    while j < count {
-        work[a + j] = work[copy + j];
-        j += 1;
     }
 }
 
@@ -83,22 +62,20 @@ fn levinson(work: &mut [f64], r: usize, p: usize) -> usize
     let a = r + 2 * (p + 1);
     start_unit(work, a, p);
     let mut e = work[r];
-    let mut i: usize = 1;
-    while i <= p {
+    for i in 1..p + 1 {
         let acc = order_shortfall(&work[a..a + (p + 1)], &work[r..r + (p + 1)], i);
-        if magnitude64(e) < 1e-12 {
+        if magnitude(e) < 1e-12 {
             return i - 1;
         }
         let k = -acc / e;
         raise_order(work, copy, a, p, i, k);
-        copy_area(work, copy, a, p + 1);
-        e = e * (1.0 - k * k);
+        work.copy_within(copy..copy + (p + 1), a);
+        e *= 1.0 - k * k;
         if e <= 0.0 {
             return i;
         }
-        i += 1;
     }
-    i - 1
+    p
 }
 
 // The coefficients of the model of what is known, for the window at the front of the workspace, and the
@@ -115,6 +92,6 @@ pub fn estimate_ar_known(work: &mut [f64], size: usize, g: usize, len: usize, p:
         start_unit(work, size + 2 * (p + 1), p);
         return 0;
     }
-    work[size] = work[size] * (1.0 + 1e-6);
+    work[size] *= 1.0 + 1e-6;
     levinson(work, size, p)
 }

@@ -14,10 +14,8 @@ fn coef_autocorr(work: &mut [f64], a: usize, b: usize, p: usize)
     requires { (a + (p + 1) ≤ b) × (b + (p + 1) ≤ length work.old) × (p ≤ 128) }
     ensures { work.new ≡ sets work.old b (coef_autocorr (area work.old a (p + 1)) p) }
 {
-    let mut j: usize = 0;
-    while j <= p {
+    for j in 0..p + 1 {
         work[b + j] = coef_at(&work[a..a + (p + 1)], p, j);
-        j += 1;
     }
 }
 
@@ -27,10 +25,8 @@ fn right_sides(work: &mut [f64], size: usize, g: usize, len: usize, b: usize, rh
     ensures { work.new
         ≡ sets work.old rhs (right_sides (area work.old 0 size) g len (area work.old b (p + 1)) p) }
 {
-    let mut i: usize = 0;
-    while i < len {
+    for i in 0..len {
         work[rhs + i] = right_side(&work[0..size], &work[b..b + (p + 1)], g, len, p, i);
-        i += 1;
     }
 }
 
@@ -70,6 +66,8 @@ pub fn results_at(size: usize, len: usize, p: usize) -> usize
 
 // The gap's doubles by one pass over the window at the front of the workspace, written at its end; the answer
 // is the highest order that the model used.
+// The size, the gap and the order stay four parameters here and in the stages: `Laid` and the rules of specs/Model.antt,
+// which the promises cite, take them one by one, so that a struct would be taken apart again in each clause.
 pub fn fill_by_model(work: &mut [f64], size: usize, g: usize, len: usize, p: usize) -> usize
     requires { Laid size g len p work.old }
     ensures { (area work.new (results_at size len p) len ≡ solved (area work.old 0 size) g len p)

@@ -5,14 +5,12 @@ ghost use Rattle.std.specs.Float.Ieee.{mul};
 ghost use Rattle.leaves.specs.Arithmetic.{◌*₆₄◌, at};
 ghost use Rattle.model.specs.Model.{most_window, minus, known, mat, lag_sum, shortfall, coef_at, right_side};
 
-use leaves::counts::{difference_or_zero, smaller_of};
-
 // Whether place i of the window lies outside the gap.
 fn is_known(g: usize, len: usize, i: usize) -> bool
     requires { g + len ≤ most_window }
     ensures { result ≡ known g len i }
 {
-    if i < g { true } else { g + len <= i }
+    i < g || g + len <= i
 }
 
 // r[lag]: the products of known pairs, ascending. A pair is known where both of its places are.
@@ -21,14 +19,9 @@ pub fn lag_sum(seg: &[f64], g: usize, len: usize, lag: usize) -> f64
     ensures { result ≡ lag_sum seg.now g len lag }
 {
     let mut s: f64 = 0.0;
-    let mut i = lag;
-    while i < seg.len() {
-        let place = i;
-        i += 1;
-        if is_known(g, len, place) {
-            if is_known(g, len, place - lag) {
-                s = s + seg[place] * seg[place - lag];
-            }
+    for i in lag..seg.len() {
+        if is_known(g, len, i) && is_known(g, len, i - lag) {
+            s += seg[i] * seg[i - lag];
         }
     }
     s
@@ -40,10 +33,8 @@ pub fn order_shortfall(a: &[f64], r: &[f64], i: usize) -> f64
     ensures { result ≡ shortfall a.now r.now i }
 {
     let mut s = r[i];
-    let mut j: usize = 1;
-    while j < i {
-        s = s + a[j] * r[i - j];
-        j += 1;
+    for j in 1..i {
+        s += a[j] * r[i - j];
     }
     s
 }
@@ -55,10 +46,8 @@ pub fn coef_at(a: &[f64], p: usize, j: usize) -> f64
 {
     let count = p + 1 - j;
     let mut s: f64 = 0.0;
-    let mut k: usize = 0;
-    while k < count {
-        s = s + a[k] * a[k + j];
-        k += 1;
+    for k in 0..count {
+        s += a[k] * a[k + j];
     }
     s
 }
@@ -70,17 +59,13 @@ pub fn right_side(seg: &[f64], b: &[f64], g: usize, len: usize, p: usize, i: usi
     ensures { result ≡ right_side seg.now g len b.now p i }
 {
     let c = g + i;
-    let high = smaller_of(c + p + 1, seg.len());
+    let high = (c + p + 1).min(seg.len());
     let mut s: f64 = 0.0;
-    let mut x = difference_or_zero(c, p);
-    while x < g {
-        s = s + b[c - x] * seg[x];
-        x += 1;
+    for x in c.saturating_sub(p)..g {
+        s += b[c - x] * seg[x];
     }
-    let mut z = g + len;
-    while z < high {
-        s = s + b[z - c] * seg[z];
-        z += 1;
+    for x in g + len..high {
+        s += b[x - c] * seg[x];
     }
     -s
 }
@@ -100,10 +85,8 @@ pub fn minus_products(
     ensures { result ≡ minus (λ k. at l.now (x + k) *₆₄ at m.now (y + k)) from (to - from) s }
 {
     let mut left = s;
-    let mut k = from;
-    while k < to {
-        left = left - l[x + k] * m[y + k];
-        k += 1;
+    for k in from..to {
+        left -= l[x + k] * m[y + k];
     }
     left
 }
@@ -115,10 +98,8 @@ pub fn minus_column(band: &[f64], p: usize, i: usize, x: &[f64], high: usize, s:
     ensures { result ≡ minus (λ k. mat p band.now k i *₆₄ at x.now (k - (i + 1))) (i + 1) (high - i) s }
 {
     let mut left = s;
-    let mut k = i + 1;
-    while k <= high {
-        left = left - band[p * (k + 1) + i] * x[k - (i + 1)];
-        k += 1;
+    for k in i + 1..=high {
+        left -= band[p * (k + 1) + i] * x[k - (i + 1)];
     }
     left
 }

@@ -20,7 +20,7 @@ use Rattle.recording.specs.Question.{all_are, marks_say, counts_say, span_measur
 use Rattle.recording.specs.Consequences.{EachMeasured, AnswerIsEachMark, YesExactlyWhen}
 use Rattle.recording.specs.Consequences.{OtherMarksHaveNoSay, OtherCountsHaveNoSay}
 use Rattle.recording.specs.Answer.{Verdict}
-use Rattle.std.specs.Prelude.{Ok, Err, true, false}
+use Rattle.std.specs.Prelude.{Ok, true, false}
 use Rattle.recording.proofs.Counting.{length_counted, read_counted}
 use Rattle.recording.proofs.question.Laws.{span_one, span_parts}
 

@@ -5,7 +5,6 @@ use Rattle.std.specs.Prelude.{ℕ, zero, suc, ◌+◌, ◌-◌, ◌≤◌, ◌<�
 use Rattle.recording.specs.Answers.{value}
 use Rattle.recording.specs.Recording.{State, Placed, places, put, Plan, refuse, change}
 use Rattle.recording.specs.Recording.{last_count, last_mark, last_begin}
-use Rattle.std.specs.Prelude.{if◌then◌else◌}
 use Rattle.recording.specs.Marks.{measured, made}
 use Rattle.recording.specs.Counts.{block_of, count_of, counted, recounted}
 use Rattle.recording.specs.Question.{marks_say, span_verdict}

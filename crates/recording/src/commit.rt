@@ -50,10 +50,8 @@ fn save_span(
     ensures { journal.new
         ≡ sets journal.old at (three_words (saved samples.now marks.now (consecutive start len))) }
 {
-    let mut i: usize = 0;
-    while i < len {
+    for i in 0..len {
         save(samples, marks, journal, at + 3 * i, start + i);
-        i += 1;
     }
 }
 
@@ -125,14 +123,9 @@ fn check_picked(work: &[u32], n: usize) -> Answer
     requires { n + n ≤ length work.now }
     ensures { result ≡ ranged (picked_by work.now n) }
 {
-    let mut i: usize = 0;
-    while i < n {
-        let place = i;
-        i += 1;
-        if work[n + place] != 0 {
-            if !in_range(work[place]) {
-                return Err(Reason::Result(place));
-            }
+    for place in 0..n {
+        if work[n + place] != 0 && !in_range(work[place]) {
+            return Err(Reason::Result(place));
         }
     }
     Ok(0)
@@ -144,10 +137,7 @@ fn count_picked(work: &[u32], n: usize) -> usize
     ensures { result ≡ length (picked_by work.now n) }
 {
     let mut m: usize = 0;
-    let mut i: usize = 0;
-    while i < n {
-        let place = i;
-        i += 1;
+    for place in 0..n {
         if work[n + place] != 0 {
             m += 1;
         }
@@ -166,10 +156,7 @@ fn save_picked(samples: &[u32], marks: &[u8], journal: &mut [u32], at: usize, wo
 {
     let n = samples.len();
     let mut next = at;
-    let mut i: usize = 0;
-    while i < n {
-        let place = i;
-        i += 1;
+    for place in 0..n {
         if work[n + place] != 0 {
             save(samples, marks, journal, next, place);
             next += 3;
@@ -184,10 +171,7 @@ fn write_picked(samples: &mut [u32], marks: &mut [u8], work: &[u32], mark: u8)
         × (marks.new ≡ put (each mark (places (picked_by work.now (length samples.old)))) marks.old) }
 {
     let n = samples.len();
-    let mut i: usize = 0;
-    while i < n {
-        let place = i;
-        i += 1;
+    for place in 0..n {
         if work[n + place] != 0 {
             samples[place] = work[place];
             marks[place] = mark;

@@ -5,7 +5,6 @@ ghost use Rattle.recording.specs.Counts.{block_of, blocks, counted_mark, count_o
 ghost use Rattle.recording.specs.Inner.{Recountable};
 
 use super::marks::Mark;
-use leaves::counts::smaller_of;
 
 // The number of samples in a block; the last one may have fewer.
 pub const BLOCK: usize = 256;
@@ -31,12 +30,10 @@ fn count_block(marks: &[u8], block: usize) -> u16
     ensures { result ≡ count_of marks.now block }
 {
     let begin = block * BLOCK;
-    let size = smaller_of(marks.len() - begin, BLOCK);
+    let size = (marks.len() - begin).min(BLOCK);
     let mut count: u16 = 0;
-    let mut i: usize = 0;
-    while i < size {
+    for i in 0..size {
         count += counted_mark(marks[begin + i]);
-        i += 1;
     }
     count
 }
@@ -46,10 +43,8 @@ pub fn count_all(marks: &[u8], counts: &mut [u16])
     requires { length counts.old ≡ blocks (length marks.now) }
     ensures { counts.new ≡ counted marks.now }
 {
-    let mut next: usize = 0;
-    while next < counts.len() {
+    for next in 0..counts.len() {
         counts[next] = count_block(marks, next);
-        next += 1;
     }
 }
 
@@ -69,10 +64,8 @@ pub fn recount(marks: &[u8], counts: &mut [u16], journal: &[u32], begin: usize, 
         ≡ recounted marks.now (places (old_marks (saved_at journal.now begin m))) counts.old }
 {
     let mut last = counts.len();
-    let mut i: usize = 0;
-    while i < m {
+    for i in 0..m {
         let block = block_of(journal[begin + 3 * i]);
-        i += 1;
         if block != last {
             counts[block] = count_block(marks, block);
             last = block;

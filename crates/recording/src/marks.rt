@@ -38,14 +38,7 @@ impl Mark {
 pub fn is_made(word: u32) -> bool
     ensures { result ≡ made word }
 {
-    if word < Mark::GapByModel as u32 {
-        return false;
-    }
-    if word <= Mark::Dequantize as u32 {
-        return true;
-    }
-    if word == Mark::DecrackleFromMean as u32 {
-        return true;
-    }
-    word == Mark::DeclipProposed as u32
+    Mark::GapByModel as u32 <= word && word <= Mark::Dequantize as u32
+        || word == Mark::DecrackleFromMean as u32
+        || word == Mark::DeclipProposed as u32
 }

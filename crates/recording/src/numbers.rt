@@ -68,9 +68,10 @@ pub fn value_of(answer: Answer) -> usize
 pub fn verdict_number(verdict: Verdict) -> u32
     ensures { result ≡ verdict_number verdict }
 {
-    match verdict {
-        Ok(_) => 0,
-        Err(why) => why.number(),
+    if let Err(why) = verdict {
+        why.number()
+    } else {
+        0
     }
 }
 

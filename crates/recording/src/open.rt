@@ -94,10 +94,8 @@ fn kept_mark(mark: u8) -> u8
 fn keep_received(marks: &mut [u8])
     ensures { marks.new ≡ map kept_mark marks.old }
 {
-    let mut i: usize = 0;
-    while i < marks.len() {
-        marks[i] = kept_mark(marks[i]);
-        i += 1;
+    for mark in marks.iter_mut() {
+        *mark = kept_mark(*mark);
     }
 }
 

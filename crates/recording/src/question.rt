@@ -12,14 +12,9 @@ fn marks_say(marks: &[u8], start: usize, count: usize) -> bool
     requires { start + count ≤ length marks.now }
     ensures { result ≡ marks_say marks.now start count }
 {
-    let mut i: usize = 0;
-    while i < count {
-        if marks[start + i] != Mark::Measured as u8 {
-            return false;
-        }
-        i += 1;
-    }
-    true
+    marks[start..start + count]
+        .iter()
+        .all(|mark| *mark == Mark::Measured as u8)
 }
 
 // Whether the counts of the `count` blocks from `block` on are all 0.
@@ -27,24 +22,16 @@ fn counts_say(counts: &[u16], block: usize, count: usize) -> bool
     requires { block + count ≤ length counts.now }
     ensures { result ≡ counts_say counts.now block count }
 {
-    let mut i: usize = 0;
-    while i < count {
-        if counts[block + i] != 0 {
-            return false;
-        }
-        i += 1;
-    }
-    true
+    counts[block..block + count]
+        .iter()
+        .all(|unmeasured| *unmeasured == 0)
 }
 
 // Whether a span's start plus length passes the end of n samples, with no sum that could overflow.
 fn span_past(n: usize, start: usize, len: usize) -> bool
     ensures { result ≡ span_past n start len }
 {
-    if n < start {
-        return true;
-    }
-    n - start < len
+    n < start || n - start < len
 }
 
 // Whether a span within the recording is measured: by its marks where it lies in one block, and else by
@@ -63,13 +50,9 @@ fn span_measured(marks: &[u8], counts: &[u16], start: usize, len: usize) -> bool
         return marks_say(marks, start, len);
     }
     let second = first + 1;
-    if !marks_say(marks, start, second * BLOCK - start) {
-        return false;
-    }
-    if !counts_say(counts, second, last - second) {
-        return false;
-    }
-    marks_say(marks, last * BLOCK, end - last * BLOCK)
+    marks_say(marks, start, second * BLOCK - start)
+        && counts_say(counts, second, last - second)
+        && marks_say(marks, last * BLOCK, end - last * BLOCK)
 }
 
 // Whether every sample of a span is measured, from marks and counts; refusals 14 and 5, in this order. Of

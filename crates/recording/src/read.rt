@@ -11,12 +11,10 @@ pub fn check_words(words: &[u32], first: usize) -> Answer
     requires { first + length words.now < 2 ^ 64 }
     ensures { result ≡ readable first words.now }
 {
-    let mut i: usize = 0;
-    while i < words.len() {
-        if !in_range(words[i]) {
+    for (i, word) in words.iter().enumerate() {
+        if !in_range(*word) {
             return Err(Reason::Read(first + i));
         }
-        i += 1;
     }
     Ok(0)
 }

@@ -27,21 +27,13 @@ fn saved_wrong(journal: &[u32], begin: usize, m: usize, n: usize) -> bool
     ensures { result ≡ any_wrong n 0 (saved_at journal.now begin m) }
 {
     let mut least: usize = 0;
-    let mut i: usize = 0;
-    while i < m {
+    for i in 0..m {
         let at = begin + 3 * i;
         let place = index(journal[at]);
-        if place < least {
-            return true;
-        }
-        if n <= place {
-            return true;
-        }
-        if LAST_BYTE < journal[at + 2] {
+        if place < least || n <= place || LAST_BYTE < journal[at + 2] {
             return true;
         }
         least = place + 1;
-        i += 1;
     }
     false
 }
@@ -55,19 +47,11 @@ fn last_malformed(n: usize, journal: &[u32], used: usize) -> bool
         return true;
     }
     let m = index(journal[used - 2]);
-    if m == 0 {
-        return true;
-    }
-    if n < m {
-        return true;
-    }
-    if used < 3 * m + 2 {
-        return true;
-    }
-    if saved_wrong(journal, used - (3 * m + 2), m, n) {
-        return true;
-    }
-    !is_made(journal[used - 1])
+    m == 0
+        || n < m
+        || used < 3 * m + 2
+        || saved_wrong(journal, used - (3 * m + 2), m, n)
+        || !is_made(journal[used - 1])
 }
 
 // Words and marks of the m saved samples from journal word `begin` on return to their places.
@@ -76,13 +60,11 @@ fn give_back(samples: &mut [u32], marks: &mut [u8], journal: &[u32], begin: usiz
     ensures { (samples.new ≡ put (old_words (saved_at journal.now begin m)) samples.old)
         × (marks.new ≡ put (old_marks (saved_at journal.now begin m)) marks.old) }
 {
-    let mut i: usize = 0;
-    while i < m {
+    for i in 0..m {
         let at = begin + 3 * i;
         let place = index(journal[at]);
         samples[place] = journal[at + 1];
         marks[place] = journal[at + 2] as u8;
-        i += 1;
     }
 }
 

@@ -11,11 +11,11 @@
 //   d  the magnitude of an f64
 #![tactic(auto)]
 
-ghost use Rattle.std.specs.Prelude.{◌+◌, ◌≤◌, length};
+ghost use Rattle.std.specs.Prelude.{◌≡◌, ◌≤◌, length};
 
 use intake::read_full;
 use leaves::narrow::narrow;
-use leaves::order::{clamp32, larger32, larger64, magnitude32, magnitude64, smaller32};
+use leaves::order::{clamp, larger, magnitude, smaller};
 use leaves::root::square_root;
 use leaves::whole::round_to_whole;
 use leaves::words::{f32_of_word, f64_of_word, in_range, widen, word_of_f32, word_of_f64};
@@ -28,6 +28,46 @@ const MOST_BYTES: usize = 65_536;
 // How many bytes a line has.
 const LINE: usize = 36;
 
+// A leaf, by what the list above says of its letter.
+#[derive(Clone, Copy, PartialEq, Eq)]
+enum Leaf {
+    Root,
+    Narrow,
+    Round,
+    InRange,
+    Widen,
+    Magnitude32,
+    Magnitude64,
+    Larger32,
+    Larger64,
+    Smaller32,
+    Clamp32,
+}
+
+// Each leaf's letter and its name, in the order of the report.
+const LEAVES: [(u8, Leaf, &str); 11] = [
+    (b'r', Leaf::Root, "root"),
+    (b'n', Leaf::Narrow, "narrow"),
+    (b'w', Leaf::Round, "round to whole"),
+    (b'i', Leaf::InRange, "in range"),
+    (b'x', Leaf::Widen, "widen"),
+    (b'm', Leaf::Magnitude32, "magnitude32"),
+    (b'd', Leaf::Magnitude64, "magnitude64"),
+    (b'l', Leaf::Larger32, "larger32"),
+    (b'g', Leaf::Larger64, "larger64"),
+    (b's', Leaf::Smaller32, "smaller32"),
+    (b'c', Leaf::Clamp32, "clamp32"),
+];
+
+impl TryFrom<u8> for Leaf {
+    type Error = ();
+
+    fn try_from(letter: u8) -> Result<Leaf, ()> {
+        let found = LEAVES.iter().find(|(l, _, _)| *l == letter);
+        found.map(|(_, leaf, _)| *leaf).ok_or(())
+    }
+}
+
 // The number that an ASCII digit stands for; any other byte counts as 0.
 fn digit(c: u8) -> u64
     ensures { result ≤ 15 }
@@ -39,18 +79,12 @@ fn digit(c: u8) -> u64
     }
 }
 
-// The number that the 16 digits from `at` on spell. Of what stands before a digit the lowest 60 bits
-// stay, which are all there are.
-fn number(list: &[u8], at: usize) -> u64
-    requires { at + 16 ≤ length list.now }
-{
-    let mut n: u64 = 0;
-    let mut i: usize = 0;
-    while i < 16 {
-        n = n % 0x1000_0000_0000_0000 * 16 + digit(list[at + i]);
-        i += 1;
-    }
-    n
+// The number that hexadecimal digits spell. Of what stands before a digit the lowest 60 bits stay, which
+// are all there are of 16 digits.
+fn number(digits: &[u8]) -> u64 {
+    digits
+        .iter()
+        .fold(0, |n, c| n % 0x1000_0000_0000_0000 * 16 + digit(*c))
 }
 
 // The lower and the upper 32 bits.
@@ -71,102 +105,58 @@ fn second_end(given: u64) -> u32 {
     (given % 0x1_0000 * 0x1_0000) as u32
 }
 
-// What a leaf gives as an f64.
-fn answer64(letter: u8, given: u64) -> f64 {
+// The pattern that a leaf gives for a pattern.
+fn answer(leaf: Leaf, given: u64) -> u64 {
     let x = f64_of_word(given);
     let a = f32_of_word(upper(given));
     let b = f32_of_word(lower(given));
-    match letter {
-        b'r' => square_root(x),
-        b'd' => magnitude64(x),
-        b'x' => widen(b),
-        _ => larger64(widen(a), widen(b)),
+    match leaf {
+        Leaf::Root => word_of_f64(square_root(x)),
+        Leaf::Narrow => word_of_f32(narrow(x)) as u64,
+        Leaf::Round => word_of_f32(round_to_whole(b)) as u64,
+        Leaf::InRange => in_range(lower(given)) as u64,
+        Leaf::Widen => word_of_f64(widen(b)),
+        Leaf::Magnitude32 => word_of_f32(magnitude(b)) as u64,
+        Leaf::Magnitude64 => word_of_f64(magnitude(x)),
+        Leaf::Larger32 => word_of_f32(larger(a, b)) as u64,
+        Leaf::Larger64 => word_of_f64(larger(widen(a), widen(b))),
+        Leaf::Smaller32 => word_of_f32(smaller(a, b)) as u64,
+        Leaf::Clamp32 => {
+            let low = f32_of_word(first_end(given));
+            let high = f32_of_word(second_end(given));
+            word_of_f32(clamp(a, low, high)) as u64
+        }
     }
 }
 
-// What a leaf gives as an f32.
-fn answer32(letter: u8, given: u64) -> f32 {
-    let a = f32_of_word(upper(given));
-    let b = f32_of_word(lower(given));
-    match letter {
-        b'n' => narrow(f64_of_word(given)),
-        b'w' => round_to_whole(b),
-        b'm' => magnitude32(b),
-        b'l' => larger32(a, b),
-        b's' => smaller32(a, b),
-        _ => clamp32(
-            a,
-            f32_of_word(first_end(given)),
-            f32_of_word(second_end(given)),
-        ),
-    }
-}
-
-// The pattern that a leaf gives for a pattern.
-fn answer(letter: u8, given: u64) -> u64 {
-    match letter {
-        b'i' => in_range(lower(given)) as u64,
-        b'r' | b'd' | b'x' | b'g' => word_of_f64(answer64(letter, given)),
-        _ => word_of_f32(answer32(letter, given)) as u64,
-    }
-}
-
-// Whether the line that begins at `at` has the answer that its leaf gives.
-fn agrees(list: &[u8], at: usize) -> bool
-    requires { at + 36 ≤ length list.now }
+// Whether a line has the answer that its leaf gives. A letter that is no leaf's counts as c.
+fn agrees(line: &[u8]) -> bool
+    requires { length line.now ≡ 36 }
 {
-    answer(list[at], number(list, at + 2)) == number(list, at + 19)
+    let leaf = Leaf::try_from(line[0]).unwrap_or(Leaf::Clamp32);
+    answer(leaf, number(&line[2..18])) == number(&line[19..35])
 }
 
 // How many lines with this letter agree.
 fn agreeing(list: &[u8], letter: u8) -> usize {
-    let mut n: usize = 0;
-    let mut next: usize = 0;
-    while next + LINE <= list.len() {
-        let at = next;
-        next += LINE;
-        if list[at] == letter {
-            if agrees(list, at) {
-                n += 1;
-            }
-        }
-    }
-    n
+    list.chunks_exact(LINE)
+        .filter(|line| line[0] == letter && agrees(line))
+        .count()
 }
 
 // The number of the first line that does not agree, counted from 1, or 0 where all do.
 fn first_that_differs(list: &[u8]) -> usize {
-    let mut at: usize = 0;
-    while at + LINE <= list.len() {
-        if !agrees(list, at) {
-            return at / LINE + 1;
-        }
-        at += LINE;
-    }
-    0
-}
-
-// Writes a name and a number as a line.
-fn print_line<W: Write>(out: &mut W, name: &[u8], n: usize) -> io::Result<()> {
-    out.write_all(name)?;
-    writeln!(out, "{n}")
+    let first = list.chunks_exact(LINE).position(|line| !agrees(line));
+    first.map_or(0, |k| k + 1)
 }
 
 // Writes how many lines there are, how many of them agree for each leaf, and the first that does not.
 fn print_report<W: Write>(out: &mut W, list: &[u8]) -> io::Result<()> {
-    print_line(out, b"lines ", list.len() / LINE)?;
-    print_line(out, b"root ", agreeing(list, b'r'))?;
-    print_line(out, b"narrow ", agreeing(list, b'n'))?;
-    print_line(out, b"round to whole ", agreeing(list, b'w'))?;
-    print_line(out, b"in range ", agreeing(list, b'i'))?;
-    print_line(out, b"widen ", agreeing(list, b'x'))?;
-    print_line(out, b"magnitude32 ", agreeing(list, b'm'))?;
-    print_line(out, b"magnitude64 ", agreeing(list, b'd'))?;
-    print_line(out, b"larger32 ", agreeing(list, b'l'))?;
-    print_line(out, b"larger64 ", agreeing(list, b'g'))?;
-    print_line(out, b"smaller32 ", agreeing(list, b's'))?;
-    print_line(out, b"clamp32 ", agreeing(list, b'c'))?;
-    print_line(out, b"first line that differs ", first_that_differs(list))
+    writeln!(out, "lines {}", list.len() / LINE)?;
+    for (letter, _, name) in LEAVES.iter() {
+        writeln!(out, "{name} {}", agreeing(list, *letter))?;
+    }
+    writeln!(out, "first line that differs {}", first_that_differs(list))
 }
 
 fn main(rt: HostRuntime) -> io::Result<()> {

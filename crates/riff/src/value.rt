@@ -4,7 +4,7 @@ ghost use Rattle.std.specs.Prelude.{◌≡◌, true};
 ghost use Rattle.leaves.specs.Floats.{in_range};
 ghost use Rattle.riff.specs.Values.{sample_word, value_of};
 
-use leaves::order::clamp32;
+use leaves::order::clamp;
 use leaves::whole::round_to_whole;
 use leaves::words::{f32_of_word, word_of_f32};
 
@@ -38,7 +38,7 @@ pub fn value_of(word: u32) -> u16
     requires { in_range word ≡ true }
     ensures { result ≡ value_of word }
 {
-    let whole = clamp32(round_to_whole(f32_of_word(word) * SCALE), LEAST, MOST);
+    let whole = clamp(round_to_whole(f32_of_word(word) * SCALE), LEAST, MOST);
     if whole < 0.0 {
         (VALUES as u64 - std::num::truncating_f32_to_u64(-whole)) as u16
     } else {

@@ -11,9 +11,7 @@ pub fn half_at(bytes: &[u8], i: usize) -> u16
     requires { i + 2 ≤ length bytes.now }
     ensures { result ≡ half_at bytes.now i }
 {
-    let low = bytes[i] as u16;
-    let high = bytes[i + 1] as u16;
-    low + 256 * high
+    u16::from_le_bytes([bytes[i], bytes[i + 1]])
 }
 
 // The word of the four bytes from place i on: each counts 256 times as much as the one before.
@@ -21,10 +19,7 @@ pub fn word_at(bytes: &[u8], i: usize) -> u32
     requires { i + 4 ≤ length bytes.now }
     ensures { result ≡ word_at bytes.now i }
 {
-    bytes[i] as u32
-        + 256 * (bytes[i + 1] as u32)
-        + 65_536 * (bytes[i + 2] as u32)
-        + 16_777_216 * (bytes[i + 3] as u32)
+    u32::from_le_bytes([bytes[i], bytes[i + 1], bytes[i + 2], bytes[i + 3]])
 }
 
 // Stores `count` words, from place `at` on, which are those of the bytes from `from` on; the others stay.
@@ -32,23 +27,17 @@ pub fn decode(bytes: &[u8], from: usize, words: &mut [u32], at: usize, count: us
     requires { (from + 4 * count ≤ length bytes.now) × (at + count ≤ length words.old) }
     ensures { words.new ≡ sets words.old at (decoded bytes.now from count) }
 {
-    let mut i: usize = 0;
-    while i < count {
+    for i in 0..count {
         words[at + i] = word_at(bytes, from + 4 * i);
-        i += 1;
     }
 }
 
-// Stores the four bytes of a word from place i on; the others stay. Each byte is what is left of the word, once
-// the bytes before it are taken away, below 256.
+// Stores the four bytes of a word from place i on; the others stay.
 pub fn store_word(bytes: &mut [u8], i: usize, word: u32)
     requires { i + 4 ≤ length bytes.old }
     ensures { bytes.new ≡ sets bytes.old i (bytes_of word) }
 {
-    bytes[i] = (word % 256) as u8;
-    bytes[i + 1] = (word / 256 % 256) as u8;
-    bytes[i + 2] = (word / 65_536 % 256) as u8;
-    bytes[i + 3] = (word / 16_777_216 % 256) as u8;
+    bytes[i..i + 4].copy_from_slice(&word.to_le_bytes());
 }
 
 // Stores the two bytes of a number of 16 bits from place i on; the others stay.
@@ -56,8 +45,7 @@ pub fn store_half(bytes: &mut [u8], i: usize, half: u16)
     requires { i + 2 ≤ length bytes.old }
     ensures { bytes.new ≡ sets bytes.old i (half_bytes half) }
 {
-    bytes[i] = (half % 256) as u8;
-    bytes[i + 1] = (half / 256 % 256) as u8;
+    bytes[i..i + 2].copy_from_slice(&half.to_le_bytes());
 }
 
 // Stores the bytes of words, one behind the other, from place `at` on; the others stay.
@@ -65,9 +53,7 @@ pub fn encode(words: &[u32], bytes: &mut [u8], at: usize)
     requires { at + 4 * length words.now ≤ length bytes.old }
     ensures { bytes.new ≡ sets bytes.old at (encoded words.now) }
 {
-    let mut i: usize = 0;
-    while i < words.len() {
-        store_word(bytes, at + 4 * i, words[i]);
-        i += 1;
+    for (i, word) in words.iter().enumerate() {
+        store_word(bytes, at + 4 * i, *word);
     }
 }

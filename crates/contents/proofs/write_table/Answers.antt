@@ -1,12 +1,13 @@
 -- `contents::write_table` meets its contract. The loop's invariant: storing the rows that are left gives the whole, and their figures are
--- of 32 bits. The measure is how many rows are left. Assumes nothing.
+-- of 32 bits. Assumes nothing.
 use Prim.Native.Nat.{ℕ, suc, ◌+◌, ◌≤◌, ◌<◌}
 use native.Mathlib.Omega.{arith}
+use native.Mathlib.Nat.{add-zero}
 use mathlib.Core.Path.{◌≡◌, refl, sym, ap, subst, ◌∙◌}
 use mathlib.Core.List.{List, [], ◌∷◌}
 use lib.ListN.{length, get_or, drop, drop_of_length-le}
 use lib.Seq.{sets, drop-cons}
-use Rattle.leaves.proofs.Stores.{as_long, stored_behind}
+use Rattle.leaves.proofs.Stores.{stored_behind}
 use Rattle.wire.specs.Wire.{bytes_of, encoded, Below, words_to}
 use Rattle.wire.proofs.Laws.{length_bytes, length_encoded, encoded_append}
 use Rattle.contents.specs.Contents.{table_bytes, rows, table}
@@ -37,12 +38,12 @@ module _ (bytes after whole lens : List ℕ) (row number at k : ℕ) (more : k <
       let next : suc k ≡ k + 1 = omega arith in
       ap (rows number at) (drop-cons lens k 0 more ∙ ap (λ (j : ℕ). len ∷ drop j lens) next)
 
-  row_more : after ≡ sets bytes row (encoded (number ∷ at ∷ len ∷ [])) → sets bytes row (encoded (rows number at (drop k lens))) ≡ whole
-      → sets after (row + 12) (encoded (rows (number + 1) (at + len) (drop (k + 1) lens))) ≡ whole
-  row_more stored rest =
+  row_more : (next : ℕ) → next ≡ row + 12 → after ≡ sets bytes row (encoded (number ∷ at ∷ len ∷ [])) → sets bytes row (encoded (rows number at (drop k lens))) ≡ whole
+      → sets after next (encoded (rows (number + 1) (at + len) (drop (k + 1) lens))) ≡ whole
+  row_more next e stored rest =
       let later = rows (number + 1) (at + len) (drop (k + 1) lens) in
       let there : row + 12 ≡ row + length (encoded (number ∷ at ∷ len ∷ [])) = omega (arith, length_encoded (number ∷ at ∷ len ∷ [])) in
-      rw (stored, there)
+      rw (e, stored, there)
       (stored_behind bytes (encoded (number ∷ at ∷ len ∷ [])) (encoded later) row
       ∙ ap (sets bytes row) (sym (encoded_append (number ∷ at ∷ len ∷ []) later) ∙ ap encoded (sym opened))
       ∙ rest)
@@ -63,59 +64,32 @@ all_rows bytes whole lens row number at k end rest =
     ap (λ (l : List ℕ). sets bytes row (encoded (rows number at l))) (sym (drop_of_length-le lens end)) ∙ rest
 
 pub loop-k-init : goal.loop-k-init
-loop-k-init c = (
-  omega arith,
-  omega arith,
-  refl,
-  rows_below _ _ _ _ _ c.store_word.ensures c.bodies_at-offset.ensures c.requires.2,
-  refl,
-)
-
-pub overflow_cast-k : goal.overflow_cast-k
-overflow_cast-k c = omega arith
+loop-k-init c = record {
+  below = rows_below _ _ _ _ _ c.store_word.ensures c.bodies_at-offset.ensures c.requires.2;
+  left = rw add-zero refl;
+}
 
 pub overflow_cast-offset : goal.overflow_cast-offset
 overflow_cast-offset c =
-    let lens = c.args.lens.now in
-    let below = offset_below [] [] [] lens 0 (c.loop-k.k + 1) c.loop-k.offset c.loop-k.k c.loop-k-test.true c.loop-k.invariant.3 in
-    omega (arith, below)
-
-pub overflow_cast-offset-in-loop-k : goal.overflow_cast-offset-in-loop-k
-overflow_cast-offset-in-loop-k c =
-    omega (arith, c.shared_slice_known-in-loop-k-2-1.given c.loop-k.k)
+    let at = c.loop-k in
+    omega (arith, offset_below [] [] [] c.args.lens.now 0 (at.k + 1) at.offset at.k c.loop-k-test.true at.invariant.below)
 
 pub overflow_add-offset : goal.overflow_add-offset
 overflow_add-offset c =
-    let lens = c.args.lens.now in
-    let below =
-    offset_below [] [] [] lens 0 (c.loop-k.k + 1) c.loop-k.offset c.loop-k.k
-    c.loop-k-test.true c.loop-k.invariant.3 in
-    omega (arith, below, c.shared_slice_known-in-loop-k-2-1.given c.loop-k.k)
-
-pub loop-k-smaller : goal.loop-k-smaller
-loop-k-smaller c = omega arith
+    let at = c.loop-k in
+    let below = offset_below [] [] [] c.args.lens.now 0 (at.k + 1) at.offset at.k c.loop-k-test.true at.invariant.below in
+    omega (arith, below, c.type_inv.lens at.k)
 
 pub loop-k-preserved : goal.loop-k-preserved
 loop-k-preserved c =
+    let at = c.loop-k in
     let lens = c.args.lens.now in
-    let more = c.loop-k-test.true in
-    let stored = c.write_row.ensures in (
-      omega arith,
-      omega arith,
-      as_long c.loop-k.bytes _ (encoded ((c.loop-k.k + 1) ∷ c.loop-k.offset ∷ (get_or lens c.loop-k.k 0) ∷ []))
-          c.loop-k.row stored
-          ∙ c.loop-k.invariant.2,
-      later_below [] [] [] lens 0 (c.loop-k.k + 1) c.loop-k.offset c.loop-k.k more c.loop-k.invariant.3,
-      row_more _ _ _ lens c.loop-k.row (c.loop-k.k + 1) c.loop-k.offset c.loop-k.k more stored c.loop-k.invariant.4,
-    )
-
-pub shape_of-bytes : goal.shape_of-bytes
-shape_of-bytes c =
-    let args = c.args in
-    c.loop-k.invariant.2
-    ∙ as_long args.bytes.now _ (bytes_of (length args.lens.now)) args.before c.store_word.ensures
+    let more = c.loop-k-test.true in record {
+      below = later_below [] [] [] lens 0 (at.k + 1) at.offset at.k more at.invariant.below;
+      left = row_more _ _ _ lens _ (at.k + 1) at.offset at.k more _ (omega arith) c.write_row.ensures at.invariant.left;
+    }
 
 pub returns : goal.returns
 returns c =
-    all_rows _ _ _ _ _ _ _ c.loop-k-test.false c.loop-k.invariant.4
+    all_rows _ _ _ _ _ _ _ c.loop-k-test.false c.loop-k.invariant.left
     ∙ rows_left _ _ _ _ _ c.store_word.ensures c.bodies_at-offset.ensures

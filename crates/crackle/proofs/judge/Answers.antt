@@ -17,7 +17,7 @@ bounds-flags-at c =
 
 pub returns-then-not-held_back : goal.returns-then-not-held_back
 returns-then-not-held_back c =
-    judged_one _ _ _ _ _ c.held_back.ensures (not-true _ (ap not c.if-not-held_back.true)) _ _ _ _ _ c.magnitude32-a.ensures
+    judged_one _ _ _ _ _ c.held_back.ensures (not-true _ (ap not c.if-not-held_back.true)) _ _ _ _ _ c.magnitude-a.ensures
     c.raise_floor-floor.ensures c.flag_byte.ensures
 
 pub bounds-held-taken : goal.bounds-held-taken

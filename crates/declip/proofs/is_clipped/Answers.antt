@@ -3,4 +3,4 @@ use Rattle.declip.proofs.Laws.{clipped_word}
 use Rattle.declip.proofs.is_clipped.Goals as goal
 
 pub returns : goal.returns
-returns c = clipped_word _ _ _ _ c.f32_of_word.ensures c.magnitude32.ensures
+returns c = clipped_word _ _ _ _ c.f32_of_word.ensures c.magnitude.ensures

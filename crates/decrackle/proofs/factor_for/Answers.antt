@@ -3,4 +3,4 @@ use Rattle.decrackle.proofs.Flags.{factor_is}
 use Rattle.decrackle.proofs.factor_for.Goals as goal
 
 pub returns : goal.returns
-returns c = factor_is _ _ c.clamp32.ensures
+returns c = factor_is _ _ c.clamp.ensures

@@ -3,4 +3,4 @@ use Rattle.decrackle.proofs.Flags.{out_is}
 use Rattle.decrackle.proofs.stands_out.Goals as goal
 
 pub returns : goal.returns
-returns c = out_is _ _ _ _ c.larger32.ensures
+returns c = out_is _ _ _ _ c.larger.ensures

@@ -106,11 +106,6 @@ module _ (root : ℕ) where
       omega arith
 
   -- of a root of 53 digits each part fits 64 digits
-  pub high_square_small : root < 2 ^ 53 → high * high < 2 ^ 54
-  high_square_small h =
-      let most : high ≤ 2 ^ 27 - 1 = omega arith in
-      lt_of_le_of_lt (mul-le-mul most most) (lit< tt)
-
   pub product_small : root < 2 ^ 53 → 2 * high * low < 2 ^ 54
   product_small h =
       let most : 2 * high ≤ 2 ^ 28 - 2 = omega arith in

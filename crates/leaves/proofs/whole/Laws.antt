@@ -128,9 +128,6 @@ at_shifted bits h k s =
     let d = 150 - bits / 2 ^ 23 in
     rw (one_up d 32 (omega arith)) (at_digits bits d h (omega arith) s)
 
-pub shifted_fits : (bits : ℕ) → 126 ≤ bits / 2 ^ 23 → (1 * 2 ^ (150 - bits / 2 ^ 23)) % 2 ^ 32 ≤ 2 ^ 24
-shifted_fits bits h = rw (one_up (150 - bits / 2 ^ 23) 32 (omega arith)) (pow_mono {j = 24} (omega arith))
-
 -- ---- from 2 ^ 23 on
 
 -- a whole number with a half added has itself as its whole part

@@ -4,7 +4,7 @@ use mathlib.Core.Path.{◌≡◌, refl, sym, ap, ◌∙◌}
 use mathlib.Core.List.{List, [], ◌∷◌, ◌++◌}
 use Prim.Native.Nat.{ℕ, zero, suc, ◌+◌, ◌-◌, ◌*◌, ◌≤◌, ◌<◌, min}
 use native.Mathlib.Omega.{arith}
-use native.Mathlib.Nat.{zero-add, zero-mul, sub-zero, mul-add, mul-one, mul_comm, mul-le-mul_left, mul-le-mul_right}
+use native.Mathlib.Nat.{zero-add, zero-mul, sub-zero, mul-add, mul-one, mul_comm, mul-le-mul_right}
 use borrow.Author.Tests.{lt-ltb, le-ltb, eq-eqb, ne_eqb}
 use lib.Ieee.{Float, binary64, of_bits}
 use lib.ListN.{length, set, take, drop, length-append}
@@ -25,34 +25,6 @@ use Rattle.model.proofs.sums.Laws.{micro_word, pico_word}
 -- rows of the band, one more
 pub row_more : (i p : ℕ) → (i + 1) * (p + 1) ≡ i * (p + 1) + (p + 1)
 row_more i p = omega (arith, mul_comm (i + 1) (p + 1), mul_comm i (p + 1), mul-add (p + 1) i 1, mul-one (p + 1))
-
--- the diagonal of row i, by the rows before it
-pub row_end : (i p : ℕ) → p * (i + 1) + i ≡ i * (p + 1) + p
-row_end i p = omega (arith, mul-add p i 1, mul-one p, mul_comm p i, mul-add i p 1, mul-one i)
-
-pub row_in : (i n p : ℕ) → i < n → p * (i + 1) + i < n * (p + 1)
-row_in i n p h =
-    let much : p * (i + 1) ≤ p * n = mul-le-mul_left p (omega arith) in
-    omega (arith, mul_comm p n, mul-add n p 1, mul-one n)
-
-positive : (n : ℕ) → (n ≡ 0 → ⊥) → 0 < n
-positive zero h = absurd (h refl)
-positive (suc n) h = omega arith
-
--- the stretches that a place d before the diagonal of row i reads, with n places before it in the band
-module _ (i d n p : ℕ) (h : d ≤ i) (hd : d ≤ p) (count : n ≡ i * (p + 1) + (p - d)) where
-  pub cell_row : p * (i + 1) + (i - d) ≤ n
-  cell_row = omega (arith, row_end i p)
-
-  pub cell_other : p * (i - d + 1) + (i - d) ≤ n
-  cell_other =
-      let much : p * (i - d + 1) ≤ p * (i + 1) = mul-le-mul_left p (omega arith) in
-      omega (arith, row_end i p)
-
-  pub cell_pivot : (d ≡ 0 → ⊥) → p * (i - d + 1) + (i - d) < n
-  cell_pivot z =
-      let some : 0 < d = positive d z in
-      omega (arith, row_in (i - d) i p (omega arith))
 
 -- ---- laid
 
@@ -109,12 +81,6 @@ lent_area w from n = let count : from + n - from ≡ n = omega arith in ap (λ (
 
 pub lent_length : (w : List Float) (from n : ℕ) → from + n ≤ length w → length (lent w from n) ≡ n
 lent_length w from n h = ap length (lent_area w from n) ∙ part_length w from n h
-
--- the band has p + 1 places for each of a lent list
-pub lent_rows : (w : List Float) (band from len p : ℕ) → band + len * (p + 1) ≤ length w → from + len ≤ length w
-    → length (lent w band (len * (p + 1))) ≡ length (lent w from len) * (p + 1)
-lent_rows w band from len p hb hf =
-    lent_length w band (len * (p + 1)) hb ∙ sym (ap (λ (n : ℕ). n * (p + 1)) (lent_length w from len hf))
 
 -- a part before a run of stores is lent as it was
 pub lent_before : (w₀ w l : List Float) (d from n : ℕ) → w ≡ sets w₀ d l → from + n ≤ d → lent w from n ≡ area w₀ from n
@@ -183,31 +149,34 @@ module _ (w₀ w : List Float) (band rhs y len p i : ℕ) (whole : List Float) (
 
 -- ---- One turn of a row of the factor, and its end
 
-module _ (w₀ w : List Float) (b band p i c left : ℕ) (whole : List Float) (e : w ≡ sets w₀ band (area w band c)) where
-  pub cells_turn : (v : Float) → 0 < left → b + (p + 1) ≤ band → band + c < length w
-      → v ≡ cell_at (lent w b (p + 1)) p (lent w band c) i (left - 1)
-      → cells (area w₀ b (p + 1)) p i left (area w band c) ≡ whole
-      → cells (area w₀ b (p + 1)) p i (left - 1) (area (set w (band + c) v) band (c + 1)) ≡ whole
+module _ (w₀ w : List Float) (b band p i row k : ℕ) (whole : List Float) (e : w ≡ sets w₀ band (area w band (row + k))) where
+  pub cells_turn : (v : Float) → k ≤ p → b + (p + 1) ≤ band → band + (row + k) < length w
+      → v ≡ cell_at (lent w b (p + 1)) p (lent w band (row + k)) i (p - k)
+      → cells (area w₀ b (p + 1)) p i (p + 1 - k) (area w band (row + k)) ≡ whole
+      → cells (area w₀ b (p + 1)) p i (p + 1 - (k + 1)) (area (set w (band + (row + k)) v) band (row + (k + 1))) ≡ whole
   unfolding cells
   cells_turn v h hb hw ev rest =
       let bs = area w₀ b (p + 1) in
-      let one : left ≡ suc (left - 1) = omega arith in
-      let place : v ≡ cell_at bs p (area w band c) i (left - 1) =
+      let one : p + 1 - k ≡ suc (p - k) = omega arith in
+      let left : p + 1 - (k + 1) ≡ p - k = omega arith in
+      let next : row + (k + 1) ≡ row + k + 1 = omega arith in
+      let place : v ≡ cell_at bs p (area w band (row + k)) i (p - k) =
       ev
-      ∙ ap (λ (z : List Float). cell_at z p (lent w band c) i (left - 1))
-      (lent_before w₀ w (area w band c) band b (p + 1) e hb)
-      ∙ ap (λ (z : List Float). cell_at bs p z i (left - 1)) (lent_area w band c) in
-      ap (λ (z : List Float). cells bs p i (left - 1) z) (part_grows w band c v hw)
-      ∙ ap (λ (z : Float). cells bs p i (left - 1) (area w band c ++ (z ∷ []))) place
-      ∙ sym (ap (λ (n : ℕ). cells bs p i n (area w band c)) one)
-      ∙ rest
+      ∙ ap (λ (z : List Float). cell_at z p (lent w band (row + k)) i (p - k))
+      (lent_before w₀ w (area w band (row + k)) band b (p + 1) e hb)
+      ∙ ap (λ (z : List Float). cell_at bs p z i (p - k)) (lent_area w band (row + k)) in
+      rw (left, next)
+      (ap (λ (z : List Float). cells bs p i (p - k) z) (part_grows w band (row + k) v hw)
+      ∙ ap (λ (z : Float). cells bs p i (p - k) (area w band (row + k) ++ (z ∷ []))) place
+      ∙ sym (ap (λ (n : ℕ). cells bs p i n (area w band (row + k))) one)
+      ∙ rest)
 
-  pub cells_done : left ≤ 0 → cells (area w₀ b (p + 1)) p i left (area w band c) ≡ whole → w ≡ sets w₀ band whole
+  pub cells_done : p < k → cells (area w₀ b (p + 1)) p i (p + 1 - k) (area w band (row + k)) ≡ whole → w ≡ sets w₀ band whole
   unfolding cells
   cells_done h rest =
-      let none : left ≡ 0 = omega arith in
-      let all : area w band c ≡ whole =
-      sym (ap (λ (n : ℕ). cells (area w₀ b (p + 1)) p i n (area w band c)) none) ∙ rest in
+      let none : p + 1 - k ≡ 0 = omega arith in
+      let all : area w band (row + k) ≡ whole =
+      sym (ap (λ (n : ℕ). cells (area w₀ b (p + 1)) p i n (area w band (row + k))) none) ∙ rest in
       e ∙ ap (λ (l : List Float). sets w₀ band l) all
 
 -- a row adds its places
@@ -229,11 +198,6 @@ pub rows_start : (b w : List Float) (band p len : ℕ)
     → rows b p 0 (len - 0) (area w band (0 * (p + 1))) ≡ factored b p len
 unfolding factored
 rows_start b w band p len = rw (zero-mul, sub-zero) refl
-
-pub row_room : (band len p i n : ℕ) → i < len → band + len * (p + 1) ≤ n → band + (i + 1) * (p + 1) ≤ n
-row_room band len p i n h k =
-    let room : (i + 1) * (p + 1) ≤ len * (p + 1) = mul-le-mul_right (p + 1) (omega arith) in
-    omega arith
 
 module _ (w₀ w : List Float) (b band len p i : ℕ) (e : w ≡ sets w₀ band (area w band (i * (p + 1)))) where
   module _ (v : List Float) (h : i < len) (hb : b + (p + 1) ≤ band) (hw : band + len * (p + 1) ≤ length w)
@@ -295,16 +259,7 @@ module _ (w₀ w : List Float) (b band len p i : ℕ) (e : w ≡ sets w₀ band 
       let all : l ≡ whole = sym (ap (λ (n : ℕ). rows (area w₀ b (p + 1)) p i n l) none) ∙ rest in
       e ∙ ap (λ (z : List Float). sets w₀ band z) all
 
--- ---- The back solve before its first turn, one turn of it, and its end
-
-pub none_solved : (w : List Float) (x len : ℕ) → w ≡ sets w (x + len) (area w (x + len) (len - len))
-none_solved w x len = let none : len - len ≡ 0 = omega arith in rw none refl
-
-pub back_start : (b y w : List Float) (x p len : ℕ)
-    → backward b y p len len (area w (x + len) (len - len)) ≡ backward b y p len len []
-back_start b y w x p len =
-    let none : len - len ≡ 0 = omega arith in
-    ap (λ (n : ℕ). backward b y p len len (take n (drop (x + len) w))) none
+-- ---- One turn of the back solve, and its end
 
 -- what is lent of the results that stand
 pub lent_results : (w : List Float) (x i len : ℕ) → 0 < i → i ≤ len
@@ -313,12 +268,6 @@ lent_results w x i len h hi =
     let count : x + len - (x + (i - 1 + 1)) ≡ len - i = omega arith in
     let place : x + (i - 1 + 1) ≡ x + i = omega arith in
     rw (count, place) refl
-
-pub lent_results_length : (w : List Float) (y x i len : ℕ) → 0 < i → i ≤ len → y + len ≤ length w → x + len ≤ length w
-    → length (take (x + len - (x + (i - 1 + 1))) (drop (x + (i - 1 + 1)) w)) ≡ length (lent w y len) - (i - 1 + 1)
-lent_results_length w y x i len h hi hy hx =
-    let count : length (area w (x + i) (len - i)) ≡ len - i = part_length w (x + i) (len - i) (omega arith) in
-    omega (arith, ap length (lent_results w x i len h hi), lent_length w y len hy)
 
 module _ (w₀ w : List Float) (x len i : ℕ) (e : w ≡ sets w₀ (x + i) (area w (x + i) (len - i))) where
   module _ (v : Float) (h : 0 < i) (hi : i ≤ len) (hx : x + len ≤ length w) (same : length w ≡ length w₀) where

@@ -2,14 +2,14 @@
 -- place, an order of Levinson's recursion and its ends, and the literals of the code. Assumes nothing.
 use mathlib.Core.Path.{◌≡◌, refl, sym, ap, ◌∙◌}
 use mathlib.Core.Bool.{Bool, true, false, cond, ◌&&◌, and-false}
-use mathlib.Core.List.{List, [], ◌∷◌}
-use Prim.Native.Nat.{ℕ, zero, suc, ◌+◌, ◌-◌, ◌*◌, ◌≤◌, ◌<◌}
+use mathlib.Core.List.{List, [], ◌∷◌, ◌++◌}
+use Prim.Native.Nat.{ℕ, suc, ◌+◌, ◌-◌, ◌*◌, ◌≤◌, ◌<◌}
 use native.Mathlib.Omega.{arith}
 use native.Mathlib.Numerals.{add-one}
 use borrow.Author.Tests.{lt-ltb, le-ltb, eq-eqb, ne_eqb}
 use lib.Dec.{ltb}
 use lib.ListN.{length, set, take, drop, replicate, length-replicate}
-use lib.Seq.{sets, length-sets, get_or-take, get_or-drop, drop-cons, drop-set-add, take-set-lt}
+use lib.Seq.{sets, sets-eq, paste, length-sets, get_or-take, get_or-drop, drop-set-add, take-set-lt}
 use lib.Ieee.{Float, nan, binary64, neg, lt, le, of_bits}
 use Rattle.leaves.specs.Arithmetic.{◌+₆₄◌, ◌-₆₄◌, ◌*₆₄◌, ◌/₆₄◌, nought, one, at}
 use Rattle.leaves.specs.Floats.{magnitude}
@@ -19,6 +19,8 @@ use Rattle.model.specs.Order.{highest_used, levinson_order, model_order}
 use Rattle.model.specs.Areas.{area, Only, coefs_at}
 use Rattle.leaves.proofs.Parts.{take-sets, store_next, part_of_sets, part_before_sets, part_behind_sets}
 use Rattle.leaves.proofs.Parts.{part_length}
+use borrow.Rule.Slice.PartMut.{put_mid}
+use Rattle.leaves.proofs.Lists.{lent_back, lent_count}
 use Rattle.leaves.proofs.Literals.{nought_double, one_double}
 use Rattle.model.proofs.Parts.{only_sets, only_then, only_wider, only_before}
 use Rattle.model.proofs.sums.Laws.{each_next, length_each, micro_word, pico_word}
@@ -101,6 +103,14 @@ lag_done w₀ w size g len p lag h e = fill_done w₀ w size lag (p + 1) (lag_su
 pub length_unit : (p : ℕ) → length (unit p) ≡ p + 1
 length_unit p = ap suc (length-replicate p nought) ∙ sym (add-one p)
 
+-- +0 stored in the n places from a on
+pub zeros_stored : (w part : List Float) (a n : ℕ) (x : Float) → a + n ≤ length w
+    → part ≡ replicate (length (take (a + n - a) (drop a w))) x
+    → put_mid a (a + n - a) w part ≡ sets w a (replicate n x)
+zeros_stored w part a n x h e =
+    let all : part ≡ replicate n x = e ∙ ap (λ (k : ℕ). replicate k x) (lent_count a n w h) in
+    lent_back a n w part h (ap length all ∙ length-replicate n x) ∙ ap (sets w a) all
+
 pub unit_stored : (w v : List Float) (a p : ℕ)
     → v ≡ sets (set w a (of_bits binary64 4607182418800017408)) (a + 1) (replicate p (of_bits binary64 0))
     → v ≡ sets w a (unit p)
@@ -108,33 +118,18 @@ unit_stored w v a p e =
     let next : a + 1 ≡ suc a = omega arith in
     e ∙ rw (next, nought_double, one_double) refl
 
--- ---- An area, place by place
+-- ---- An area, copied
 
-each_part : (w : List Float) (from i n : ℕ) → from + i + n ≤ length w
-    → each (λ j. at w (from + j)) i n ≡ take n (drop (from + i) w)
-unfolding each
-each_part w from i zero h = refl
-each_part w from i (suc n) h =
-    let here : from + i < length w = omega arith in
-    let next : from + (i + 1) ≡ suc (from + i) = omega arith in
-    ap (λ (l : List Float). at w (from + i) ∷ l)
-    (each_part w from (i + 1) n (omega arith) ∙ ap (λ (k : ℕ). take n (drop k w)) next)
-    ∙ sym (ap (λ (l : List Float). take (suc n) l) (drop-cons w (from + i) nan here))
-
-pub copy_turn : (w₀ w : List Float) (a copy j : ℕ) → copy + j < a → w ≡ sets w₀ a (each (λ k. at w₀ (copy + k)) 0 j)
-    → set w (a + j) (at w (copy + j)) ≡ sets w₀ a (each (λ k. at w₀ (copy + k)) 0 (j + 1))
-copy_turn w₀ w a copy j h e =
-    let f : ℕ → Float = λ k. at w₀ (copy + k) in
-    fill_turn w₀ w a j f (at w (copy + j)) e (fill_at w₀ w (each f 0 j) a (copy + j) e h)
-
-pub copied : (w v : List Float) (a copy count j : ℕ) → copy + count ≤ length w → j ≡ count
-    → v ≡ sets w a (each (λ k. at w (copy + k)) 0 j)
+pub copied : (w v : List Float) (copy a count : ℕ) → copy + count ≤ length w → a + count ≤ length w
+    → v ≡ paste w a (drop copy w) (copy + count - copy)
     → v ≡ sets w a (area w copy count)
-copied w v a copy count j h e ev =
-    let here : copy + 0 ≡ copy = omega arith in
-    fill_done w v a j count (λ k. at w (copy + k)) ev e
-    ∙ ap (λ (l : List Float). sets w a l)
-    (each_part w copy 0 count (omega arith) ∙ ap (λ (k : ℕ). take count (drop k w)) here)
+copied w v copy a count h k e =
+    let part : length (area w copy count) ≡ count = part_length w copy count h in
+    let span : copy + count - copy ≡ count = omega arith in
+    e
+    ∙ ap (paste w a (drop copy w)) span
+    ∙ sym (ap (λ (n : ℕ). (take a w ++ area w copy count) ++ drop (a + n) w) part)
+    ∙ sym (sets-eq (area w copy count) w a (rw part k))
 
 -- ---- The order i
 
@@ -269,9 +264,12 @@ one_more r a e i n =
 
 -- the orders from i on, by the tests of a turn: none is left, e is too small, e ends it, or one order more
 module _ (r a : List Float) (e : Float) (i p : ℕ) (whole : Stop) (rest : stop_of r a e i (p + 1 - i) ≡ whole) where
-  pub orders_done : p < i → stop a (i - 1) ≡ whole
+  pub orders_done : i ≡ p + 1 → stop a p ≡ whole
   unfolding orders highest_used
-  orders_done h = let none : p + 1 - i ≡ 0 = omega arith in sym (ap (stop_of r a e i) none) ∙ rest
+  orders_done h =
+      let none : p + 1 - i ≡ 0 = omega arith in
+      let last : p ≡ i - 1 = omega arith in
+      ap (stop a) last ∙ sym (ap (stop_of r a e i) none) ∙ rest
 
   module _ (acc size k next : Float) (h : i ≤ p) (es : size ≡ magnitude e) (ea : acc ≡ shortfall a r i)
       (ek : k ≡ neg acc /₆₄ e) (en : next ≡ e *₆₄ (of_bits binary64 4607182418800017408 -₆₄ k *₆₄ k)) where

@@ -3,13 +3,11 @@
 use mathlib.Core.Path.{◌≡◌, refl, sym, ap, ◌∙◌}
 use mathlib.Core.Bool.{Bool, true, false, ◌&&◌, cond}
 use mathlib.Core.List.{List, [], ◌∷◌, ◌++◌}
-use Prim.Native.Nat.{ℕ, zero, suc, ◌+◌, ◌-◌, ◌*◌, ◌≤◌, ◌<◌, min}
+use Prim.Native.Nat.{ℕ, zero, suc, ◌+◌, ◌-◌, ◌≤◌, ◌<◌, min}
 use native.Mathlib.Omega.{arith}
-use native.Mathlib.Nat.{mul-le-mul_left}
 use lib.ListN.{length}
 use lib.Ieee.{Float, binary64, neg, of_bits}
-use lib.Dec.{leb}
-use borrow.Author.Tests.{lt-ltb, le-ltb}
+use borrow.Author.Tests.{lt-ltb}
 use Rattle.leaves.specs.Arithmetic.{◌+₆₄◌, ◌-₆₄◌, ◌*₆₄◌, at, nought}
 use Rattle.leaves.proofs.Literals.{nought_double}
 use Rattle.model.specs.Model.{micro, pico, plus, minus, plus_where, each, known, lag_sum, shortfall, coef_at}
@@ -118,9 +116,6 @@ module _ (test : ℕ → Bool) (f : ℕ → Float) (i n : ℕ) (s whole : Float)
 pub known_before : (g len i : ℕ) → i < g → true ≡ known g len i
 known_before g len i h = rw lt-ltb refl
 
-pub known_else : (g len i : ℕ) → g ≤ i → leb (g + len) i ≡ known g len i
-known_else g len i h = rw le-ltb refl
-
 -- whether place i and the one that is `lag` before it are both known, and their product
 abbrev pub pair_known : ℕ → ℕ → ℕ → ℕ → Bool
 pair_known g len lag i = known g len i && known g len (i - lag)
@@ -182,11 +177,3 @@ pub right_end : (seg b : List Float) (g len p i high : ℕ) (before s : Float)
     → neg s ≡ right_side seg g len b p i
 unfolding right_side
 right_end seg b g len p i high before s top e es = rw (es, e, top) refl
-
-pub column_start : (f : ℕ → Float) (i high : ℕ) (s : Float)
-    → minus f (i + 1) (high + 1 - (i + 1)) s ≡ minus f (i + 1) (high - i) s
-column_start f i high s = let all : high + 1 - (i + 1) ≡ high - i = omega arith in rw all refl
-
--- the rows of the band lie one behind the other
-pub row_below : {k high : ℕ} (p : ℕ) → k ≤ high → p * (k + 1) ≤ p * (high + 1)
-row_below p h = mul-le-mul_left p (omega arith)

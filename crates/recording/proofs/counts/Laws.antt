@@ -4,7 +4,7 @@ use mathlib.Core.Path.{◌≡◌, refl, sym, ap, ◌∙◌}
 use mathlib.Core.List.{List}
 use Prim.Native.Nat.{ℕ, ◌+◌, ◌*◌, ◌≤◌, ◌<◌}
 use native.Mathlib.Omega.{arith}
-use lib.ListN.{length, get_or, set, length-set}
+use lib.ListN.{length, get_or, set}
 use lib.Seq.{set_out, set-set}
 use borrow.Author.Tests.{leb-false}
 use mathlib.Core.Bool.{false}
@@ -16,8 +16,6 @@ use Rattle.recording.proofs.undo.Laws.{left_at, left_all, left_first, left_none,
 -- i of the m saved samples have their blocks recounted, the last one `last`: recounting what is left gives the whole, and what is left can be
 -- recounted
 pub record Recounted (marks counts₀ journal : List ℕ) (begin m : ℕ) (counts : List ℕ) (last i : ℕ) : Type 0 where
-  pub done : i ≤ m
-  pub long : length counts ≡ length counts₀
   pub rest : recounted marks (places (old_marks (left_at journal begin m i))) counts
       ≡ recounted marks (places (old_marks (saved_at journal begin m))) counts₀
   pub within : place_past (length marks) (left_at journal begin m i) ≡ false
@@ -29,8 +27,6 @@ module _ (marks counts₀ journal : List ℕ) (begin m : ℕ) where
   none_recounted r =
       let all = left_all journal begin m in
       record {
-        done = omega arith;
-        long = refl;
         rest = rw all refl;
         within = rw all r.places;
         again = set_out counts₀ (length counts₀) _ (omega arith);
@@ -66,8 +62,6 @@ module _ (marks counts₀ journal : List ℕ) (begin m : ℕ) where
           → Recounted marks counts₀ journal begin m (set counts block count) block (i + 1)
       one_recounted count e =
           record {
-            done = omega arith;
-            long = length-set counts block count ∙ r.long;
             rest = rw e opened;
             within = later;
             again = rw e (set-set counts block _ _);
@@ -78,8 +72,6 @@ module _ (marks counts₀ journal : List ℕ) (begin m : ℕ) where
       same_block e =
           let same : set counts block (count_of marks block) ≡ counts = rw e r.again in
           record {
-            done = omega arith;
-            long = r.long;
             rest = rw same at opened;
             within = later;
             again = r.again;

@@ -1,43 +1,36 @@
--- The span question, line by line: one turn of the loops that look at marks and at counts, whatever they look for, the parts of a span, and
--- how the question ends. Assumes nothing.
-use mathlib.Core.Path.{◌≡◌, refl, sym, ap, ◌∙◌}
+-- The span question, line by line: a stretch of marks or of counts, whatever is looked for, the parts of a span, and how the
+-- question ends. Assumes nothing.
+use mathlib.Core.Path.{◌≡◌, refl, ap}
 use mathlib.Core.Bool.{Bool, true, false, ◌&&◌}
 use mathlib.Core.List.{List}
 use Prim.Native.Nat.{ℕ, zero, suc, ◌+◌, ◌-◌, ◌≤◌, ◌<◌}
 use native.Mathlib.Omega.{arith}
-use lib.ListN.{length, get_or}
-use lib.Dec.{ltb}
-use mathlib.Core.Logic.{inl, inr}
-use Rattle.leaves.proofs.Numbers.{lt_or_ge}
-use borrow.Author.Tests.{eq-eqb, ne_eqb, lt-ltb, le-ltb}
+use lib.ListN.{length, get_or, take, drop}
+use lib.Seq.{drop-cons}
+use lib.Dec.{eqb}
+use Rattle.std.specs.List.{list_all}
+use borrow.Author.Tests.{eq-eqb, ne_eqb}
 use Rattle.recording.specs.Counts.{block_of, block_begin, blocks}
 use Rattle.recording.specs.Question.{all_are, marks_say, counts_say, span_measured, span_past, span_verdict}
 use Rattle.recording.specs.declared.Reason.TheVariants.{Gap, Blocks}
 use Rattle.std.specs.Prelude.{Ok, Err}
 
--- ---- One turn over a stretch of elements
+-- ---- A stretch of elements
 
-module _ (k : ℕ) (l : List ℕ) (start n i : ℕ) (whole : Bool) (rest : all_are k l (start + i) (n - i) ≡ whole) where
-  -- nothing is left to look at
-  pub all_looked : n ≤ i → true ≡ whole
-  unfolding all_are
-  all_looked h = let none : n - i ≡ 0 = omega arith in sym (ap (all_are k l (start + i)) none) ∙ rest
+-- the n elements from place i on, taken out, are all this one where each of them is
+taken : (k : ℕ) (l : List ℕ) (i n : ℕ) → i + n ≤ length l → list_all (λ x. eqb x k) (take n (drop i l)) ≡ all_are k l i n
+unfolding all_are
+taken k l i zero h = refl
+taken k l i (suc n) h =
+    let here : i < length l = omega arith in
+    let next : suc i ≡ i + 1 = omega arith in
+    let rest : list_all (λ x. eqb x k) (take n (drop (suc i) l)) ≡ all_are k l (i + 1) n = rw next (taken k l (i + 1) n (omega arith)) in
+    rw (drop-cons l i 0) (ap (λ (b : Bool). eqb (get_or l i 0) k && b) rest)
 
-  module _ (more : i < n) where
-    left_more : n - i ≡ suc (n - (i + 1))
-    left_more = omega arith
-
-    -- an element that is another
-    pub one_other : (get_or l (start + i) 0 ≡ k → ⊥) → false ≡ whole
-    unfolding all_are
-    one_other h = rw (ne_eqb _ _ h) at (sym (ap (all_are k l (start + i)) left_more) ∙ rest)
-
-    -- one that is not
-    pub one_same : get_or l (start + i) 0 ≡ k → all_are k l (start + (i + 1)) (n - (i + 1)) ≡ whole
-    unfolding all_are
-    one_same h =
-        let next : start + (i + 1) ≡ start + i + 1 = omega arith in
-        rw next (rw (eq-eqb _ _ h) at (sym (ap (all_are k l (start + i)) left_more) ∙ rest))
+-- and so as the code takes them
+pub all_taken : (k : ℕ) (l : List ℕ) (i n : ℕ) → i + n ≤ length l
+    → list_all (λ x. eqb x k) (take (i + n - i) (drop i l)) ≡ all_are k l i n
+all_taken k l i n h = let size : i + n - i ≡ n = omega arith in rw size (taken k l i n h)
 
 -- ---- A span within one block, and over several
 
@@ -67,14 +60,14 @@ module _ (marks counts : List ℕ) (start : ℕ) where
     span_parts h = rw (ne_eqb _ _ h) refl
 
 -- the same of a span of len samples, as the code has it: the last sample lies one place before the end
-span_within : (marks counts : List ℕ) (start len : ℕ) → (len ≡ 0 → ⊥) → block_of start ≡ block_of (start + len - 1)
+pub span_within : (marks counts : List ℕ) (start len : ℕ) → (len ≡ 0 → ⊥) → block_of start ≡ block_of (start + len - 1)
     → marks_say marks start len ≡ span_measured marks counts start len
 span_within marks counts start zero some h = absurd (some refl)
 span_within marks counts start (suc more) some h =
     let last : start + suc more - 1 ≡ start + more = omega arith in
     span_one marks counts start more (rw last at h)
 
-span_several : (marks counts : List ℕ) (start len : ℕ) → (len ≡ 0 → ⊥) → (block_of start ≡ block_of (start + len - 1) → ⊥)
+pub span_several : (marks counts : List ℕ) (start len : ℕ) → (len ≡ 0 → ⊥) → (block_of start ≡ block_of (start + len - 1) → ⊥)
     → let second = block_of start + 1 in
     let final = block_of (start + len - 1) in
     marks_say marks start (block_begin second - start) && counts_say counts second (final - second)
@@ -86,43 +79,7 @@ span_several marks counts start (suc more) some h =
     let end : start + suc more ≡ start + more + 1 = omega arith in
     rw (last, end) (span_parts marks counts start more (rw last at h))
 
--- one law for each way out
-module _ (marks counts : List ℕ) (start len : ℕ) (some : len ≡ 0 → ⊥) where
-  pub one_block : (says : Bool) → says ≡ marks_say marks start len → block_of start ≡ block_of (start + len - 1)
-      → says ≡ span_measured marks counts start len
-  one_block says e h = e ∙ span_within marks counts start len some h
-
-  module _ (h : block_of start ≡ block_of (start + len - 1) → ⊥) (first : Bool)
-      (looked : first ≡ marks_say marks start (block_begin (block_of start + 1) - start)) where
-    -- a mark of the first block
-    pub first_not : first ≡ false → false ≡ span_measured marks counts start len
-    first_not e = rw (sym looked ∙ e) at (span_several marks counts start len some h)
-
-    module _ (yes : first ≡ true) (between : Bool)
-        (told : between ≡ counts_say counts (block_of start + 1) (block_of (start + len - 1) - (block_of start + 1))) where
-      -- a count between
-      pub between_not : between ≡ false → false ≡ span_measured marks counts start len
-      between_not e = rw (sym looked ∙ yes, sym told ∙ e) at (span_several marks counts start len some h)
-
-      -- or the last block decides
-      pub last_says : between ≡ true → (says : Bool)
-          → says ≡ marks_say marks (block_begin (block_of (start + len - 1))) (start + len - block_begin (block_of (start + len - 1)))
-          → says ≡ span_measured marks counts start len
-      last_says e says l = l ∙ (rw (sym looked ∙ yes, sym told ∙ e) at (span_several marks counts start len some h))
-
 -- ---- How the question ends
-
--- 5's test: the start alone passes the end, or the length does
-module _ (n start len : ℕ) where
-  pub past_start : n < start → true ≡ span_past n start len
-  past_start h = rw (lt-ltb n (start + len) (omega arith)) refl
-
-  pub past_length : start ≤ n → ltb (n - start) len ≡ span_past n start len
-  past_length h =
-      elim (lt_or_ge (n - start) len) [
-        | inl k ↦ rw (lt-ltb (n - start) len k, lt-ltb n (start + len) (omega arith)) refl
-        | inr k ↦ rw (le-ltb (n - start) len k, le-ltb n (start + len) (omega arith)) refl
-      ]
 
 module _ (marks counts : List ℕ) (start len : ℕ) where
   pub verdict_blocks : (length counts ≡ blocks (length marks) → ⊥) → Err Blocks ≡ span_verdict marks counts start len

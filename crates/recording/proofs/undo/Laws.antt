@@ -7,10 +7,10 @@ use Prim.Native.Nat.{ℕ, zero, suc, ◌+◌, ◌-◌, ◌*◌, ◌≤◌, ◌<�
 use native.Mathlib.Omega.{arith}
 use native.Mathlib.Numerals.{add-one}
 use native.Mathlib.Nat.{sub-zero}
-use lib.ListN.{length, get_or, set, length-set, replicate}
+use lib.ListN.{length, get_or, set, replicate}
 use lib.Seq.{sets}
 use lib.Dec.{leb, ltb, eqb, leb-suc-zero, leb-suc-suc}
-use borrow.Author.Tests.{lt-ltb, le-ltb, le-leb, lt-leb, eq-eqb, ne_eqb, ltb-false, leb-false}
+use borrow.Author.Tests.{eq-eqb, ne_eqb, ltb-false, leb-false}
 use Rattle.leaves.proofs.Choice.{neither, picks_by}
 use Rattle.recording.specs.Answers.{number, value}
 use Rattle.std.specs.Prelude.{if◌then◌else◌}
@@ -115,26 +115,11 @@ all_tested n least journal begin m i whole rest h = sym (ap (any_wrong n least) 
 -- Between, the tests of the sample that a turn reads, and then of what is left, give the whole.
 module _ (journal : List ℕ) (begin m i n least place : ℕ) (whole : Bool) (more : i < m)
     (rest : any_wrong n least (left_at journal begin m i) ≡ whole) (read : place ≡ get_or journal (begin + 3 * i) 0) where
-  opened : ltb place least || leb n place || ltb 255 (get_or journal (begin + 3 * i + 2) 0)
+  pub one_tested : ltb place least || leb n place || ltb 255 (get_or journal (begin + 3 * i + 2) 0)
       || any_wrong n (place + 1) (left_at journal begin m (i + 1))
       ≡ whole
   unfolding any_wrong
-  opened = rw read (sym (ap (any_wrong n least) (left_first journal begin m i more)) ∙ rest)
-
-  pub wrong_low : place < least → true ≡ whole
-  wrong_low h = rw (lt-ltb place least h) at opened
-
-  module _ (rises : least ≤ place) where
-    pub wrong_past : n ≤ place → true ≡ whole
-    wrong_past h = rw (le-ltb place least rises, le-leb n place h) at opened
-
-    module _ (within : place < n) where
-      pub wrong_mark : 255 < get_or journal (begin + 3 * i + 2) 0 → true ≡ whole
-      wrong_mark h = rw (le-ltb place least rises, lt-leb n place within, lt-ltb 255 _ h) at opened
-
-      pub none_wrong : get_or journal (begin + 3 * i + 2) 0 ≤ 255
-          → any_wrong n (place + 1) (left_at journal begin m (i + 1)) ≡ whole
-      none_wrong h = rw (le-ltb place least rises, lt-leb n place within, le-ltb 255 _ h) at opened
+  one_tested = rw read (sym (ap (any_wrong n least) (left_first journal begin m i more)) ∙ rest)
 
 -- ---- saved samples given back
 
@@ -156,9 +141,6 @@ mark_first journal begin m i more none =
 
 -- i of the m saved samples are given back: putting what is left gives the whole, and what is left can be put.
 pub record GivenBack (samples₀ marks₀ journal : List ℕ) (begin m : ℕ) (samples marks : List ℕ) (i : ℕ) : Type 0 where
-  pub counted : i ≤ m
-  pub as_samples : length samples ≡ length samples₀
-  pub as_marks : length marks ≡ length marks₀
   pub words : put (old_words (left_at journal begin m i)) samples ≡ put (old_words (saved_at journal begin m)) samples₀
   pub bytes : put (old_marks (left_at journal begin m i)) marks ≡ put (old_marks (saved_at journal begin m)) marks₀
   pub places_within : place_past (length samples₀) (left_at journal begin m i) ≡ false
@@ -171,9 +153,6 @@ module _ (samples₀ marks₀ journal : List ℕ) (begin m : ℕ) where
   none_back r =
       let all = left_all journal begin m in
       record {
-        counted = omega arith;
-        as_samples = refl;
-        as_marks = refl;
         words = rw all refl;
         bytes = rw all refl;
         places_within = rw all r.places;
@@ -205,9 +184,6 @@ module _ (samples₀ marks₀ journal : List ℕ) (begin m : ℕ) where
       one_back place read =
           let first = left_first journal begin m i more in
           record {
-            counted = omega arith;
-            as_samples = length-set samples place _ ∙ g.as_samples;
-            as_marks = length-set marks place _ ∙ g.as_marks;
             words = rw read (sym (ap (λ (ts : List Saved). put (old_words ts) samples) first) ∙ g.words);
             bytes = rw read (sym (ap (λ (ts : List Saved). put (old_marks ts) marks) first) ∙ g.bytes);
             places_within = (past_first (length samples₀) journal begin m i more g.places_within).1;
@@ -226,47 +202,17 @@ clauses n journal used m read =
     let olds = saved_at journal (used - entry_size m) m in
     rw (← read, three_tests n olds, ← or_assoc _ _ (mark_past olds), ← or_assoc _ (place_past n olds) _) refl
 
--- One law for each of the first clauses: those before it do not hold, and it holds. Past them only two are left.
+-- The first clause holds, or the others are left.
 module _ (n : ℕ) (journal : List ℕ) (used : ℕ) where
   pub malformed_short : used ≡ 1 → true ≡ malformed n journal used
   unfolding malformed
   malformed_short h = rw (eq-eqb used 1 h) refl
 
-  module _ (long : used ≡ 1 → ⊥) (m : ℕ) (read : m ≡ last_count journal used) where
-    pub malformed_none : m ≡ 0 → true ≡ malformed n journal used
-    malformed_none h = rw (clauses n journal used m read, ne_eqb used 1 long, eq-eqb m 0 h) refl
-
-    module _ (some : m ≡ 0 → ⊥) where
-      pub malformed_many : n < m → true ≡ malformed n journal used
-      malformed_many h = rw (clauses n journal used m read, ne_eqb used 1 long, ne_eqb m 0 some, lt-ltb n m h) refl
-
-      module _ (few : m ≤ n) where
-        pub malformed_past : used < entry_size m → true ≡ malformed n journal used
-        malformed_past h =
-            rw (clauses n journal used m read, ne_eqb used 1 long, ne_eqb m 0 some, le-ltb n m few, lt-ltb used _ h)
-            refl
-
-        pub two_left : entry_size m ≤ used → (wrong : Bool)
-            → wrong ≡ any_wrong n 0 (saved_at journal (used - entry_size m) m)
-            → malformed n journal used ≡ wrong || not (made (last_mark journal used))
-        two_left there wrong found =
-            rw (
-              found,
-              clauses n journal used m read,
-              ne_eqb used 1 long,
-              ne_eqb m 0 some,
-              le-ltb n m few,
-              le-ltb used _ there,
-            ) refl
-
--- One law for each way through the two that are left: whether a saved sample is wrong, and the set mark.
-module _ (n : ℕ) (journal : List ℕ) (used : ℕ) (wrong : Bool)
-    (two : malformed n journal used ≡ wrong || not (made (last_mark journal used))) where
-  pub malformed_saved : wrong ≡ true → true ≡ malformed n journal used
-  malformed_saved h = rw (two, h) refl
-
-  pub malformed_mark : (b : Bool) → wrong ≡ false → b ≡ made (last_mark journal used) → not b ≡ malformed n journal used
-  malformed_mark b right e = rw (two, right, e) refl
+  pub malformed_long : (used ≡ 1 → ⊥) → (m : ℕ) → m ≡ last_count journal used
+      → eqb m 0 || ltb n m || ltb used (entry_size m) || any_wrong n 0 (saved_at journal (used - entry_size m) m)
+      || not (made (last_mark journal used))
+      ≡ malformed n journal used
+  malformed_long long m read = rw (clauses n journal used m read, ne_eqb used 1 long) refl
 
 -- ---- the clause that follows from the others
 

@@ -1,11 +1,9 @@
--- `wire::decode` meets its contract. The loop's invariant: storing the words that are left gives the whole. The measure is how
--- many words are left. Assumes nothing.
+-- `wire::decode` meets its contract. One turn stores one word more of the whole. Assumes nothing.
 use Prim.Native.Nat.{ℕ, ◌+◌, ◌*◌, ◌≤◌, ◌<◌}
 use native.Mathlib.Omega.{arith}
-use native.Mathlib.Nat.{add-zero}
-use mathlib.Core.Path.{◌≡◌, refl}
+use mathlib.Core.Path.{◌≡◌}
 use mathlib.Core.List.{List}
-use lib.ListN.{length-set, set, drop}
+use lib.ListN.{set, drop}
 use lib.Seq.{sets}
 use Rattle.leaves.proofs.Stores.{copy_more, all_copied}
 use Rattle.wire.specs.Wire.{word_at, decoded}
@@ -25,24 +23,11 @@ all_there : (bytes words whole : List ℕ) (from a n i : ℕ) → n ≤ i → se
 all_there bytes words whole from a n i h rest =
     all_copied words whole (decoded bytes from n) a i (rw (length_decoded bytes from n) h) rest
 
-pub loop-i-init : goal.loop-i-init
-loop-i-init c = (omega arith, refl, simp add-zero)
-
-pub loop-i-smaller : goal.loop-i-smaller
-loop-i-smaller c = omega arith
-
 pub loop-i-preserved : goal.loop-i-preserved
 loop-i-preserved c =
     let at = c.args.at in
     let next : at + (c.loop-i.i + 1) ≡ at + c.loop-i.i + 1 = omega arith in
-    let inv = c.loop-i.invariant in (
-      omega arith,
-      simp length-set inv.1,
-      one_more _ _ _ _ _ _ _ _ _ c.loop-i-test.true next c.word_at.ensures inv.2,
-    )
-
-pub shape_of-words : goal.shape_of-words
-shape_of-words c = c.loop-i.invariant.1
+    one_more _ _ _ _ _ _ _ _ _ c.loop-i-test.true next c.word_at.ensures c.loop-i.invariant
 
 pub returns : goal.returns
-returns c = all_there _ _ _ _ _ _ _ c.loop-i-test.false c.loop-i.invariant.2
+returns c = all_there _ _ _ _ _ _ _ c.loop-i-test.false c.loop-i.invariant

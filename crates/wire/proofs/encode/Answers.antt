@@ -1,13 +1,11 @@
--- `wire::encode` meets its contract. The loop's invariant: storing the bytes of the words that are left gives the whole. The measure is
--- how many words are left. Assumes nothing.
+-- `wire::encode` meets its contract. One turn stores one word's bytes more of the whole. Assumes nothing.
 use Prim.Native.Nat.{ℕ, suc, ◌+◌, ◌*◌, ◌≤◌, ◌<◌}
 use native.Mathlib.Omega.{arith}
-use native.Mathlib.Nat.{add-zero}
-use mathlib.Core.Path.{◌≡◌, refl, sym, ap, ◌∙◌}
+use mathlib.Core.Path.{◌≡◌, sym, ap, ◌∙◌}
 use mathlib.Core.List.{List}
 use lib.ListN.{length, get_or, drop, drop_of_length-le}
 use lib.Seq.{sets, drop-cons}
-use Rattle.leaves.proofs.Stores.{as_long, stored_behind}
+use Rattle.leaves.proofs.Stores.{stored_behind}
 use Rattle.wire.specs.Wire.{bytes_of, encoded}
 use Rattle.wire.proofs.Laws.{length_bytes}
 use Rattle.wire.proofs.encode.Goals as goal
@@ -29,24 +27,11 @@ unfolding encoded
 words_all bytes whole words a i end rest =
     sym (ap (λ (l : List ℕ). sets bytes a (encoded l)) (drop_of_length-le words end)) ∙ rest
 
-pub loop-i-init : goal.loop-i-init
-loop-i-init c = (omega arith, refl, simp add-zero)
-
-pub loop-i-smaller : goal.loop-i-smaller
-loop-i-smaller c = omega arith
-
 pub loop-i-preserved : goal.loop-i-preserved
 loop-i-preserved c =
     let a = c.args in
-    let word = get_or a.words.now c.loop-i.i 0 in (
-      omega arith,
-      as_long c.loop-i.bytes _ (bytes_of word) (a.at + 4 * c.loop-i.i) c.store_word.ensures ∙ c.loop-i.invariant.1,
-      word_more c.loop-i.bytes _ _ a.words.now (a.at + 4 * c.loop-i.i) _ c.loop-i.i (omega arith) (omega arith)
-          c.store_word.ensures c.loop-i.invariant.2,
-    )
-
-pub shape_of-bytes : goal.shape_of-bytes
-shape_of-bytes c = c.loop-i.invariant.1
+    word_more c.loop-i.bytes _ _ a.words.now (a.at + 4 * c.loop-i.i) _ c.loop-i.i c.loop-i-test.true (omega arith)
+    c.store_word.ensures c.loop-i.invariant
 
 pub returns : goal.returns
-returns c = words_all _ _ _ _ _ c.loop-i-test.false c.loop-i.invariant.2
+returns c = words_all _ _ _ _ _ c.loop-i-test.false c.loop-i.invariant

@@ -3,4 +3,4 @@ use Rattle.dequant.proofs.cosparse.Laws.{weight_is}
 use Rattle.dequant.proofs.cosparse.cubic_weight.Goals as goal
 
 pub returns : goal.returns
-returns c = weight_is _ _ _ _ _ _ c.magnitude32-bend.ensures c.clamp32.ensures
+returns c = weight_is _ _ _ _ _ _ c.magnitude-bend.ensures c.clamp.ensures

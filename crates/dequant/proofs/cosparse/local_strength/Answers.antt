@@ -3,4 +3,4 @@ use Rattle.dequant.proofs.cosparse.Laws.{local_is}
 use Rattle.dequant.proofs.cosparse.local_strength.Goals as goal
 
 pub returns : goal.returns
-returns c = local_is _ _ _ _ c.magnitude32-rise.ensures
+returns c = local_is _ _ _ _ c.magnitude-rise.ensures

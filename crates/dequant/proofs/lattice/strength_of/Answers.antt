@@ -3,4 +3,4 @@ use Rattle.dequant.proofs.lattice.Laws.{strength_is}
 use Rattle.dequant.proofs.lattice.strength_of.Goals as goal
 
 pub returns : goal.returns
-returns c = strength_is _ _ c.clamp32.ensures
+returns c = strength_is _ _ c.clamp.ensures

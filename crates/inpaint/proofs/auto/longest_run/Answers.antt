@@ -4,5 +4,5 @@ use Rattle.inpaint.proofs.auto.longest_run.Goals as goal
 
 pub returns : goal.returns
 returns c =
-    limit_is _ _ _ _ _ c.count_as_f32.ensures c.larger32.ensures
+    limit_is _ _ _ _ _ c.count_as_f32.ensures c.larger.ensures
     c.whole_part.ensures

@@ -1,15 +1,9 @@
 -- `narrow_pattern` meets its contract: each way out is a law of `Laws.antt` beside it. Assumes nothing.
-use Rattle.std.proofs.Common.{arith}
 use Rattle.leaves.proofs.narrow.Laws.{at_nan, at_infinity, at_normal, at_subnormal, at_zero}
 use Rattle.leaves.proofs.narrow.narrow_pattern.Goals as goal
 
 pub returns-then-bits-gt-INFINITY64 : goal.returns-then-bits-gt-INFINITY64
 returns-then-bits-gt-INFINITY64 c = at_nan _ c.requires c.if-bits-gt-INFINITY64.true
-
-pub overflow_add-result : goal.overflow_add-result
-overflow_add-result c =
-    let small = (at_normal _ _ c.if-field-ge-NORMAL.true c.if-field-ge-TOO_LARGE.false c.nearest_quotient.ensures).0 in
-    omega (arith, small)
 
 pub returns-then-field-ge-TOO_LARGE : goal.returns-then-field-ge-TOO_LARGE
 returns-then-field-ge-TOO_LARGE c = at_infinity _ c.if-bits-gt-INFINITY64.false c.if-field-ge-TOO_LARGE.true

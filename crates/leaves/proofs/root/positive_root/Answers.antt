@@ -14,15 +14,6 @@ moved c = up _ c.requires.0 c.if-field-eq0.true
 pub overflow_sub-shift : goal.overflow_sub-shift
 overflow_sub-shift c = (moved c).eleven
 
-pub overflow_cast-shift : goal.overflow_cast-shift
-overflow_cast-shift c = omega (arith, (moved c).few)
-
-pub overflow_shl-tail : goal.overflow_shl-tail
-overflow_shl-tail c = omega (arith, (moved c).few)
-
-pub overflow_sub-shift-then-field-eq0 : goal.overflow_sub-shift-then-field-eq0
-overflow_sub-shift-then-field-eq0 c = (moved c).few
-
 pub scaled_root-requires : goal.scaled_root-requires
 scaled_root-requires c = ((moved c).least, ((moved c).most, omega arith))
 

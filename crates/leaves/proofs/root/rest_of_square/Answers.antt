@@ -1,7 +1,7 @@
 -- `leaves::root::rest_of_square` meets its contract. The square in two halves, and that its parts fit, are laws of
 -- `../Squares.antt`; over the three parts all else is linear. Assumes nothing.
 use Rattle.std.proofs.Common.{◌≡◌, ℕ, ◌+◌, ◌-◌, ◌*◌, ◌^◌, ◌<◌, ◌≤◌, arith}
-use Rattle.leaves.proofs.root.Squares.{high, low, square_of_halves, high_square_small, product_small, low_square_small}
+use Rattle.leaves.proofs.root.Squares.{high, low, square_of_halves, product_small, low_square_small}
 use Rattle.leaves.proofs.root.rest_of_square.Goals as goal
 
 -- the products are taken away from the digits, and the square of the lower half from what they leave
@@ -24,19 +24,10 @@ found digits root left r rest small under first second h e =
     let left_is = first ((digits - high root * high root) * 2 ^ 26 - 2 * high root * low root) (omega arith) (omega arith) in
     second rest (omega arith) (omega arith)
 
-pub overflow_mul-high : goal.overflow_mul-high
-overflow_mul-high c = omega (arith, high_square_small c.args.root c.requires)
-
 pub returns-then-digits-high : goal.returns-then-digits-high
 returns-then-digits-high c =
     let square = square_of_halves c.args.root in
     (λ h. absurd (omega (arith, h)), λ rest h e. absurd (omega (arith, square, e, c.if-digits-high.true)))
-
-pub overflow_mul-high-4 : goal.overflow_mul-high-4
-overflow_mul-high-4 c = omega (arith, product_small c.args.root c.requires)
-
-pub overflow_mul-low : goal.overflow_mul-low
-overflow_mul-low c = omega (arith, low_square_small c.args.root)
 
 pub returns : goal.returns
 returns c =

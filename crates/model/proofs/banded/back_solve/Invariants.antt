@@ -1,7 +1,6 @@
 -- `model::banded::back_solve` meets its contract. The loop's invariant: the results from i on stand at x + i and
--- nothing else changed, and what is left to solve gives the whole. The measure is how many are left. Assumes
--- nothing.
-use Prim.Native.Nat.{◌+◌, ◌-◌, ◌*◌, ◌≤◌}
+-- nothing else changed, and what is left to solve gives the whole. Assumes nothing.
+use Prim.Native.Nat.{◌+◌, ◌-◌, ◌*◌}
 use mathlib.Core.Path.{◌≡◌}
 use mathlib.Core.List.{[]}
 use lib.ListN.{length}
@@ -11,9 +10,6 @@ use Rattle.model.specs.Areas.{area}
 use Rattle.model.proofs.banded.back_solve.Given as goal
 
 abbrev pub invariant-loop-i : goal.invariant-loop-i
-invariant-loop-i l = (l.i ≤ l.len) × (length l.work ≡ length l.initial.work) × (l.work ≡ sets l.initial.work (l.x + l.i) (area l.work (l.x + l.i) (l.len - l.i)))
+invariant-loop-i l = (length l.work ≡ length l.initial.work) × (l.work ≡ sets l.initial.work (l.x + l.i) (area l.work (l.x + l.i) (l.len - l.i)))
     × (backward (area l.initial.work l.band (l.len * (l.p + 1))) (area l.initial.work l.y l.len) l.p l.len l.i (area l.work (l.x + l.i) (l.len - l.i))
     ≡ backward (area l.initial.work l.band (l.len * (l.p + 1))) (area l.initial.work l.y l.len) l.p l.len l.len [])
-
-abbrev pub decreases-loop-i : goal.decreases-loop-i
-decreases-loop-i l = l.i

@@ -2,8 +2,8 @@
 -- the first raised. Assumes nothing.
 use Prim.Native.Nat.{◌+◌, ◌*◌, ◌≤◌}
 use native.Mathlib.Omega.{arith}
-use mathlib.Core.Path.{◌≡◌, refl}
-use lib.ListN.{length, length-set}
+use mathlib.Core.Path.{refl}
+use lib.ListN.{length}
 use Rattle.model.proofs.estimate.Laws.{estimate_unit, estimate_model}
 use Rattle.model.proofs.estimate.estimate_ar_known.Goals as goal
 
@@ -13,15 +13,6 @@ returns-then-work-size c =
     let room : a.size + 3 * (a.p + 1) ≤ length a.work.now = omega arith in
     estimate_unit a.work.now _ a.size a.g a.len a.p room c.correlate.ensures _
     c.if-work-size.true c.start_unit.ensures
-
-pub levinson-requires : goal.levinson-requires
-levinson-requires c = simp length-set (omega arith)
-
-pub shape_of-work : goal.shape_of-work
-shape_of-work c =
-    let kept : length c.levinson.new.work ≡ length c.correlate.new.work =
-    simp length-set at c.levinson.ensures.1.count in
-    omega arith
 
 pub returns : goal.returns
 returns c =

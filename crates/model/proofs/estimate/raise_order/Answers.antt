@@ -1,50 +1,14 @@
 -- `model::estimate::raise_order` meets its contract. The loop's invariant: the first j coefficients of the order stand
--- at `copy`, from those that stood at a. The measure is how many are left. Assumes nothing.
+-- at `copy`, from those that stood at a. Assumes nothing.
 use Prim.Native.Nat.{◌+◌, ◌-◌, ◌≤◌}
 use native.Mathlib.Omega.{arith}
 use mathlib.Core.Path.{◌≡◌, refl}
-use lib.ListN.{length, length-set, length-take, length-drop}
+use lib.ListN.{length, length-set}
 use Rattle.model.proofs.estimate.Laws.{fill_start, raise_turn, raise_done}
 use Rattle.model.proofs.estimate.raise_order.Goals as goal
 
 pub loop-j-init : goal.loop-j-init
-loop-j-init c = (omega arith, refl, fill_start _ _ _)
-
-pub overflow_add-p : goal.overflow_add-p
-overflow_add-p c = omega arith
-
-pub overflow_add-a : goal.overflow_add-a
-overflow_add-a c = omega arith
-
-pub offset_bounds-work-a : goal.offset_bounds-work-a
-offset_bounds-work-a c = omega arith
-
-pub slice_bounds-raised_at-count : goal.slice_bounds-raised_at-count
-slice_bounds-raised_at-count c = omega arith
-
-pub slice_bounds-raised_at-start : goal.slice_bounds-raised_at-start
-slice_bounds-raised_at-start c = omega arith
-
-pub slice_bounds-raised_at-end : goal.slice_bounds-raised_at-end
-slice_bounds-raised_at-end c = omega arith
-
-pub raised_at-requires : goal.raised_at-requires
-raised_at-requires c = simp (length-take, length-drop) (omega arith)
-
-pub overflow_add-work : goal.overflow_add-work
-overflow_add-work c = omega arith
-
-pub offset_bounds-work-copy : goal.offset_bounds-work-copy
-offset_bounds-work-copy c = omega arith
-
-pub bounds-work-copy : goal.bounds-work-copy
-bounds-work-copy c = omega arith
-
-pub overflow_add-j : goal.overflow_add-j
-overflow_add-j c = omega arith
-
-pub loop-j-smaller : goal.loop-j-smaller
-loop-j-smaller c = omega arith
+loop-j-init c = (refl, fill_start _ _ _)
 
 pub loop-j-preserved : goal.loop-j-preserved
 loop-j-preserved c =
@@ -52,14 +16,11 @@ loop-j-preserved c =
     let inv = c.loop-j.invariant in
     let part : a.a + (a.p + 1) - a.a ≡ a.p + 1 = omega arith in
     let before : a.copy + c.loop-j.j ≤ a.a = omega arith in
-    (omega arith, simp length-set inv.1, raise_turn _ _ _ _ _ _ _ _ _ _ part before inv.2 c.raised_at.ensures)
-
-pub shape_of-work : goal.shape_of-work
-shape_of-work c = c.loop-j.invariant.1
+    (simp length-set inv.0, raise_turn _ _ _ _ _ _ _ _ _ _ part before inv.1 c.raised_at.ensures)
 
 pub returns : goal.returns
 returns c =
     let a = c.args in
     let room : a.a + (a.p + 1) ≤ length a.work.now = omega arith in
     let all : c.loop-j.j ≡ a.p + 1 = omega arith in
-    raise_done _ _ _ _ _ _ _ _ room all c.loop-j.invariant.2
+    raise_done _ _ _ _ _ _ _ _ room all c.loop-j.invariant.1

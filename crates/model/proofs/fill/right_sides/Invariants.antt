@@ -1,6 +1,6 @@
 -- `model::fill::right_sides` meets its contract. The loop's invariant: the first right sides stand at `rhs`, and the
--- window and b are as they were. The measure is how many are left. Assumes nothing.
-use Prim.Native.Nat.{◌+◌, ◌-◌, ◌≤◌}
+-- window and b are as they were. Assumes nothing.
+use Prim.Native.Nat.{◌+◌}
 use mathlib.Core.Path.{◌≡◌}
 use lib.ListN.{length}
 use lib.Seq.{sets}
@@ -9,8 +9,5 @@ use Rattle.model.specs.Areas.{area}
 use Rattle.model.proofs.fill.right_sides.Given as goal
 
 abbrev pub invariant-loop-i : goal.invariant-loop-i
-invariant-loop-i l = (l.i ≤ l.len) × (length l.work ≡ length l.initial.work)
+invariant-loop-i l = (length l.work ≡ length l.initial.work)
     × (l.work ≡ sets l.initial.work l.rhs (each (right_side (area l.initial.work 0 l.size) l.g l.len (area l.initial.work l.b (l.p + 1)) l.p) 0 l.i))
-
-abbrev pub decreases-loop-i : goal.decreases-loop-i
-decreases-loop-i l = l.len - l.i

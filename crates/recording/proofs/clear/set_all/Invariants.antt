@@ -1,4 +1,4 @@
-use Rattle.std.proofs.Common.{◌≡◌, ◌+◌, replicate, ◌-◌}
+use Rattle.std.proofs.Common.{◌≡◌, replicate, ◌-◌}
 use Rattle.std.proofs.lemmas.List.Edits.{sets}
 use Rattle.recording.proofs.clear.set_all.Given as goal
 

@@ -1,73 +1,35 @@
--- `recording::commit::save_picked` meets its contract. The measure of its loop is how many places are left. Assumes
--- nothing.
+-- `recording::commit::save_picked` meets its contract. Assumes nothing.
 use native.Mathlib.Omega.{arith}
 use mathlib.Core.Path.{refl, sym, subst}
 use Rattle.recording.specs.Recording.{saved}
 use Rattle.recording.proofs.commit.Laws.{pick_end, pick_none, pick_room, pick_save, picked_all}
 use Rattle.recording.proofs.commit.save_picked.Invariants.{Fits-in, Saves}
+use Rattle.recording.proofs.commit.save_picked.Goals.{then-work-n-ne0, else-work-n-ne0}
 use Rattle.recording.proofs.commit.save_picked.Goals as goal
 
-pub loop-i-init : goal.loop-i-init
-loop-i-init c =
-    let pre = c.requires in (
-      omega arith,
-      refl,
-      subst (Fits-in _ _) (sym (picked_all _ _ pre.1)) pre.0,
-      subst (Saves _ _ _ _ _) (sym (picked_all _ _ pre.1)) refl,
-    )
-
-pub overflow_add-i : goal.overflow_add-i
-overflow_add-i c = omega arith
-
-pub overflow_add-n : goal.overflow_add-n
-overflow_add-n c = omega arith
-
-pub offset_bounds-work-n : goal.offset_bounds-work-n
-offset_bounds-work-n c = omega arith
-
-pub bounds-work-n : goal.bounds-work-n
-bounds-work-n c = omega arith
+pub loop-place-init : goal.loop-place-init
+loop-place-init c =
+    let pre = c.requires in
+    (subst (Fits-in _ _) (sym (picked_all _ _ pre.1)) pre.0, subst (Saves _ _ _ _ _) (sym (picked_all _ _ pre.1)) refl)
 
 pub save-requires : goal.save-requires
 save-requires c =
-    let room = pick_room _ _ _ c.loop-i-test.true _ _ c.if-work-n-ne0.true c.loop-i.invariant.2 in
+    let room = pick_room _ _ _ c.loop-place-test.true _ _ c.if-work-n-ne0.true c.loop-place.invariant.0 in
     (omega arith, omega arith, omega arith, omega arith)
 
-pub overflow_add-next : goal.overflow_add-next
-overflow_add-next c =
-    let room = pick_room _ _ _ c.loop-i-test.true _ _ c.if-work-n-ne0.true c.loop-i.invariant.2 in
-    omega arith
-
-pub loop-i-smaller-then-work-n-ne0 : goal.loop-i-smaller-then-work-n-ne0
-loop-i-smaller-then-work-n-ne0 c = omega arith
-
-pub loop-i-preserved-then-work-n-ne0 : goal.loop-i-preserved-then-work-n-ne0
-loop-i-preserved-then-work-n-ne0 c =
-    let saved = c.save.ensures in
-    let h = c.loop-i-test.true in
-    let inv = c.loop-i.invariant in (
-      omega arith,
-      omega arith,
-      pick_room _ _ _ h _ _ c.if-work-n-ne0.true inv.2,
-      pick_save _ _ _ h _ _ _ _ _ _ c.if-work-n-ne0.true saved inv.3,
-    )
-
-pub loop-i-smaller : goal.loop-i-smaller
-loop-i-smaller c = omega arith
-
-pub loop-i-preserved : goal.loop-i-preserved
-loop-i-preserved c =
-    let h = c.loop-i-test.true in
-    let inv = c.loop-i.invariant in (
-      omega arith,
-      inv.1,
-      subst (Fits-in _ _) (pick_none _ _ _ h c.if-work-n-ne0.false) inv.2,
-      subst (Saves _ _ _ _ _) (pick_none _ _ _ h c.if-work-n-ne0.false) inv.3,
-    )
-
-pub shape_of-journal : goal.shape_of-journal
-shape_of-journal c = c.loop-i.invariant.1
+pub loop-place-preserved : goal.loop-place-preserved
+loop-place-preserved c =
+    let h = c.loop-place-test.true in
+    let inv = c.loop-place.invariant in
+    elim c.if-work-n-ne0.branch [
+      | then-work-n-ne0 w ↦
+          let some = w.if-work-n-ne0.true in
+          rw (w.next-is, w.journal-is) (pick_room _ _ _ h _ _ some inv.0, pick_save _ _ _ h _ _ _ _ _ _ some w.save.ensures inv.1)
+      | else-work-n-ne0 w ↦
+          let none = pick_none _ _ _ h w.if-work-n-ne0.false in
+          rw (w.next-is, w.journal-is) (subst (Fits-in _ _) none inv.0, subst (Saves _ _ _ _ _) none inv.1)
+    ]
 
 pub returns : goal.returns
 unfolding saved
-returns c = subst (Saves _ _ _ _ _) (pick_end _ _ _ c.loop-i-test.false) c.loop-i.invariant.3
+returns c = subst (Saves _ _ _ _ _) (pick_end _ _ _ c.loop-place-test.false) c.loop-place.invariant.1

@@ -1,6 +1,6 @@
--- `recording::commit::save_picked` meets its contract. The measure of its loop is how many places are left. Assumes
+-- `recording::commit::save_picked` meets its contract. The loop's invariant: what is left fits, and saving it gives the whole. Assumes
 -- nothing.
-use Prim.Native.Nat.{ℕ, ◌+◌, ◌-◌, ◌*◌, ◌≤◌}
+use Prim.Native.Nat.{ℕ, ◌+◌, ◌*◌, ◌≤◌}
 use mathlib.Core.Path.{◌≡◌}
 use mathlib.Core.List.{List}
 use lib.ListN.{length}
@@ -18,10 +18,7 @@ Fits-in next room left = next + 3 * length left ≤ room
 abbrev pub Saves : List ℕ → List ℕ → List ℕ → ℕ → List ℕ → List Placed → Type 0
 Saves samples marks journal next whole left = sets journal next (three_words (saved samples marks (places left))) ≡ whole
 
-abbrev pub invariant-loop-i : goal.invariant-loop-i
-invariant-loop-i l = (l.i ≤ l.n) × (length l.journal ≡ length l.initial.journal) × Fits-in l.next (length l.initial.journal) (rest_picked l.work l.n l.i)
+abbrev pub invariant-loop-place : goal.invariant-loop-place
+invariant-loop-place l = Fits-in l.next (length l.initial.journal) (rest_picked l.work l.n l.place)
     × Saves l.samples l.marks l.journal l.next (sets l.initial.journal l.at (three_words (saved l.samples l.marks (places (picked_by l.work l.n)))))
-    (rest_picked l.work l.n l.i)
-
-abbrev pub decreases-loop-i : goal.decreases-loop-i
-decreases-loop-i l = l.n - l.i
+    (rest_picked l.work l.n l.place)

@@ -1,5 +1,5 @@
--- `recording::counts::count_all` meets its contract. The measure of its loop is how many blocks are left. Assumes nothing.
-use Prim.Native.Nat.{◌-◌, ◌≤◌}
+-- `recording::counts::count_all` meets its contract. The loop's invariant: counting what is left gives the whole. Assumes nothing.
+use Prim.Native.Nat.{◌-◌}
 use mathlib.Core.Path.{◌≡◌}
 use lib.ListN.{length}
 use lib.Seq.{sets}
@@ -7,8 +7,4 @@ use Rattle.recording.specs.Counts.{counts_from, counted}
 use Rattle.recording.proofs.counts.count_all.Given as goal
 
 abbrev pub invariant-loop-next : goal.invariant-loop-next
-invariant-loop-next l = (l.next ≤ length l.counts) × (length l.counts ≡ length l.initial.counts)
-    × (sets l.counts l.next (counts_from l.marks l.next (length l.initial.counts - l.next)) ≡ counted l.marks)
-
-abbrev pub decreases-loop-next : goal.decreases-loop-next
-decreases-loop-next l = length l.initial.counts - l.next
+invariant-loop-next l = sets l.counts l.next (counts_from l.marks l.next (length l.initial.counts - l.next)) ≡ counted l.marks

@@ -1,33 +1,13 @@
--- `recording::question::counts_say` meets its contract. The measure of its loop is how many places are left. Assumes nothing.
-use native.Mathlib.Omega.{arith}
-use native.Mathlib.Nat.{add-zero, sub-zero}
-use mathlib.Core.Path.{refl}
-use Rattle.recording.proofs.question.Laws.{all_looked, one_other, one_same}
+-- `recording::question::counts_say` meets its contract: it asks of the stretch taken out what the rule asks element by element. Assumes
+-- nothing.
+use Rattle.std.proofs.Common.{rules, tests, ◌∙◌, eqb}
+use Rattle.std.proofs.lemmas.Iterator.Search.{all_from_yields_List}
+use Rattle.std.proofs.lemmas.Iterator.{YieldsList-from_slice}
+use Rattle.recording.proofs.question.Laws.{all_taken}
 use Rattle.recording.proofs.question.counts_say.Goals as goal
 
-pub loop-i-init : goal.loop-i-init
-loop-i-init c = (omega arith, rw (add-zero, sub-zero) refl)
-
-pub overflow_add-block : goal.overflow_add-block
-overflow_add-block c = omega arith
-
-pub offset_bounds-counts-block : goal.offset_bounds-counts-block
-offset_bounds-counts-block c = omega arith
-
-pub bounds-counts-block : goal.bounds-counts-block
-bounds-counts-block c = omega arith
-
-pub returns-then-counts-block-ne0 : goal.returns-then-counts-block-ne0
-returns-then-counts-block-ne0 c = one_other _ _ _ _ _ _ c.loop-i.invariant.1 c.loop-i-test.true c.if-counts-block-ne0.true
-
-pub overflow_add-i : goal.overflow_add-i
-overflow_add-i c = omega arith
-
-pub loop-i-smaller : goal.loop-i-smaller
-loop-i-smaller c = omega arith
-
-pub loop-i-preserved : goal.loop-i-preserved
-loop-i-preserved c = (omega arith, one_same _ _ _ _ _ _ c.loop-i.invariant.1 c.loop-i-test.true c.if-counts-block-ne0.false)
-
 pub returns : goal.returns
-returns c = all_looked _ _ _ _ _ _ c.loop-i.invariant.1 c.loop-i-test.false
+returns c =
+    all_from_yields_List (λ x. eqb x 0) _ _ _ c.all.ensures.ran (YieldsList-from_slice _ c.iter.ensures.rest)
+    (λ x b q k. search (rules, tests))
+    ∙ all_taken _ _ _ _ c.requires

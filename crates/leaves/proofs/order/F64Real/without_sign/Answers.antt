@@ -1,0 +1,6 @@
+-- `leaves::order::Real::without_sign` at `f64` meets its contract. Assumes nothing.
+use Rattle.leaves.proofs.order.Laws.{magnitude_is}
+use Rattle.leaves.proofs.order.F64Real.without_sign.Goals as goal
+
+pub returns : goal.returns
+returns c = magnitude_is c.args.self c.abs.ensures.value
