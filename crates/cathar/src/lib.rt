@@ -26,6 +26,7 @@ use dequant::passes::dequantize;
 use dequant::cosparse::dequantize_cosparse;
 use inpaint::auto::inpaint_auto;
 use inpaint::gap::inpaint_gap;
+use inpaint::{answer_of, order_of};
 use recording::numbers::{number_of, value_of, verdict_number, verdict_yes};
 use recording::{Answer, Recording};
 
@@ -83,12 +84,18 @@ pub extern "C" fn cathar_read_frames(
     ensures { frames_told result (n.new ∷ missing.new ∷ dropped.new ∷ []) samples.new marks.new
         ≡ told_of (frames_read frames.now samples.old marks.old) }
 {
-    let read = frames::read_frames(frames, samples, marks);
-    let answer = read.answer;
-    *n = value_of(answer);
-    *missing = read.missing;
-    *dropped = read.dropped;
-    number_of(answer)
+    match frames::read_frames(frames, samples, marks) {
+        Ok(read) => {
+            *missing = read.missing;
+            *dropped = read.dropped;
+            tell(Ok(read.samples), n)
+        }
+        Err(why) => {
+            *missing = 0;
+            *dropped = 0;
+            tell(Err(why), n)
+        }
+    }
 }
 
 // Repairs the gap of `len` samples from `start` on, by the model or, where it is longer than 2048, by
@@ -122,7 +129,7 @@ pub extern "C" fn cathar_inpaint_gap(
     };
     let filled = inpaint_gap(&mut recording, start, len, passes, work);
     *order = order_of(filled);
-    tell(named(filled), value)
+    tell(answer_of(filled), value)
 }
 
 // Repairs up to 64 gaps in the order given, each as `cathar_inpaint_gap` does, on what the ones before it left,
@@ -519,11 +526,16 @@ pub extern "C" fn cathar_read_wav(
     ensures { frames_told result (n.new ∷ rate.new ∷ []) samples.new marks.new
         ≡ wav_told_of (wav_read file.now samples.old marks.old) }
 {
-    let read = riff::read::read_wav(file, samples, marks);
-    let answer = read.answer;
-    *n = value_of(answer);
-    *rate = read.rate;
-    number_of(answer)
+    match riff::read::read_wav(file, samples, marks) {
+        Ok(read) => {
+            *rate = read.rate;
+            tell(Ok(read.samples), n)
+        }
+        Err(why) => {
+            *rate = 0;
+            tell(Err(why), n)
+        }
+    }
 }
 
 // Writes samples as a WAV file at this rate in the first bytes of `out`. The number of the refusal, 2, 7 or 21, with

@@ -3,4 +3,4 @@ use Rattle.cathar.proofs.Exports.{begins}
 use Rattle.cathar.proofs.cathar_crackle_begin_old_start.Goals as goal
 
 pub returns : goal.returns
-returns c = begins _ _ _ _ c.begin-answer.ensures c.number_of.ensures
+returns c = begins _ _ _ _ c.begin.ensures c.number_of.ensures

@@ -4,4 +4,4 @@ use Rattle.cathar.proofs.cathar_crackle_end.Goals as goal
 
 pub returns : goal.returns
 returns c =
-    hears _ _ _ _ _ _ c.finish-answer.ensures c.number_of.ensures c.value_of.ensures
+    hears _ _ _ _ _ _ c.finish.ensures c.tell.ensures.0 c.tell.ensures.1

@@ -4,4 +4,4 @@ use Rattle.cathar.proofs.cathar_crackle_piece.Goals as goal
 
 pub returns : goal.returns
 returns c =
-    hears _ _ _ _ _ _ c.piece-answer.ensures c.number_of.ensures c.value_of.ensures
+    hears _ _ _ _ _ _ c.piece.ensures c.tell.ensures.0 c.tell.ensures.1

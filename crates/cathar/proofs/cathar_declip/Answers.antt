@@ -10,4 +10,4 @@ pub returns : goal.returns
 returns c =
     let args = c.args in
     let n = needed (length args.samples.now) in
-    works words _ _ _ _ _ 0 n args.work.now _ c.declip-answer.ensures c.number_of.ensures c.value_of.ensures
+    works words _ _ _ _ _ 0 n args.work.now _ (c.declip.ensures.rule, c.declip.ensures.work) c.tell.ensures.0 c.tell.ensures.1

@@ -4,5 +4,4 @@ use Rattle.cathar.proofs.cathar_declip_proposed.Goals as goal
 
 pub returns : goal.returns
 returns c =
-    let end = c.declip_proposed-answer.ensures in
-    gives _ _ _ _ _ end c.number_of.ensures c.value_of.ensures
+    gives _ _ _ _ _ c.declip_proposed.ensures.rule c.tell.ensures.0 c.tell.ensures.1

@@ -11,5 +11,6 @@ pub returns : goal.returns
 returns c =
     let args = c.args in
     let n = needed (length args.samples.now) args.start args.len in
-    let e = c.inpaint_gap-filled.ensures in
-    (works doubles _ _ _ _ _ nought n args.work.now _ (e.0, e.1) c.number_of.ensures c.value_of.ensures, e.2)
+    let e = c.inpaint_gap-filled.ensures.rule in
+    (works doubles _ _ _ _ _ nought n args.work.now _
+      (rw c.answer_of.ensures (e.0, e.1)) c.tell.ensures.0 c.tell.ensures.1, c.order_of.ensures ∙ e.2)

@@ -5,4 +5,4 @@ use Rattle.cathar.proofs.cathar_inpaint_gaps.Goals as goal
 
 pub returns : goal.returns
 returns c =
-    takes _ _ _ _ _ _ c.inpaint_gaps-answer.ensures c.number_of.ensures
+    takes _ _ _ _ _ _ c.inpaint_gaps.ensures c.number_of.ensures

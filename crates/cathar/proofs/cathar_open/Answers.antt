@@ -3,4 +3,4 @@ use Rattle.cathar.proofs.Exports.{tells}
 use Rattle.cathar.proofs.cathar_open.Goals as goal
 
 pub returns : goal.returns
-returns c = tells _ _ _ _ c.open-answer.ensures c.number_of.ensures
+returns c = tells _ _ _ _ c.open.ensures c.number_of.ensures

@@ -3,4 +3,4 @@ use Rattle.cathar.proofs.Exports.{tells}
 use Rattle.cathar.proofs.cathar_open_received.Goals as goal
 
 pub returns : goal.returns
-returns c = tells _ _ _ _ c.open_received-answer.ensures c.number_of.ensures
+returns c = tells _ _ _ _ c.open_received.ensures c.number_of.ensures

@@ -2,4 +2,4 @@
 use Rattle.cathar.proofs.cathar_read_settings.Goals as goal
 
 pub returns : goal.returns
-returns c = rw (c.number_of.ensures, ← c.read_to-answer.ensures)
+returns c = rw (c.number_of.ensures, ← c.read_to.ensures)

@@ -2,4 +2,4 @@
 use Rattle.cathar.proofs.cathar_read_settings_v1.Goals as goal
 
 pub returns : goal.returns
-returns c = rw (c.number_of.ensures, ← c.read_to_v1-answer.ensures)
+returns c = rw (c.number_of.ensures, ← c.read_to_v1.ensures)

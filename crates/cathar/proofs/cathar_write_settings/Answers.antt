@@ -2,4 +2,4 @@
 use Rattle.cathar.proofs.cathar_write_settings.Goals as goal
 
 pub returns : goal.returns
-returns c = rw (c.number_of.ensures, ← c.write_from-answer.ensures)
+returns c = rw (c.number_of.ensures, ← c.write_from.ensures)

@@ -2,4 +2,4 @@
 use Rattle.cathar.proofs.cathar_write_settings_v1.Goals as goal
 
 pub returns : goal.returns
-returns c = rw (c.number_of.ensures, ← c.write_from_v1-answer.ensures)
+returns c = rw (c.number_of.ensures, ← c.write_from_v1.ensures)

@@ -4,4 +4,4 @@ use Rattle.cathar.proofs.cathar_write_wav.Goals as goal
 
 pub returns : goal.returns
 returns c =
-    writes_wav _ _ _ _ _ c.write_wav-answer.ensures c.number_of.ensures c.value_of.ensures
+    writes_wav _ _ _ _ _ c.write_wav.ensures c.tell.ensures.0 c.tell.ensures.1
