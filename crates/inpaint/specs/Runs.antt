@@ -11,12 +11,12 @@ use Rattle.recording.specs.History.{Call, repair, did, run}
 use Rattle.recording.specs.Answer.{Answer}
 use Rattle.std.specs.Prelude.{Ok, Err}
 use Rattle.inpaint.specs.Gap.{gap_plan}
+use Rattle.inpaint.specs.declared.Stretch as code
 use Rattle.inpaint.specs.Auto.{limit, continues, kept, qualifies, gap_at, gap_length, starts, source_passes, scannable, automatic}
 
 -- a gap, by its start and its length: that of a dropout run, or one that is handed over
-pub record Stretch : Type 0 where
-  pub start : ℕ
-  pub len : ℕ
+abbrev pub Stretch : Type 0
+Stretch = code.Stretch
 
 abbrev pub stretch : ℕ → ℕ → Stretch
 stretch start len = record { start = start; len = len }

@@ -2,107 +2,97 @@
 -- of the runs from here on the whole list;
 -- each run found took a place or more, so that the runs counted are at most as many as the places passed. The measure
 -- is how many places are left. Assumes nothing.
-use Rattle.std.proofs.Common.{◌+◌, ◌<◌, ◌≤◌, length, sym, refl, ◌∙◌, arith}
+use Rattle.std.proofs.Common.{◌≡◌, ◌+◌, ◌<◌, ◌≤◌, cond, eqb, length, sym, refl, ap, ◌∙◌, arith}
 use native.Mathlib.Nat.{sub-zero}
-use Rattle.recording.specs.Recording.{state}
-use Rattle.inpaint.proofs.auto.Laws.{at_most_one, scan_stops, scan_turn}
-use Rattle.inpaint.proofs.auto.Runs.{search_ends, found_within}
+use Rattle.recording.specs.Answers.{number}
+use Rattle.recording.specs.Recording.{Ended, ended}
+use Rattle.inpaint.specs.Gap.{gap_repair}
+use Rattle.recording.specs.Lent.{held}
+use Rattle.inpaint.specs.Filled.{answer_of}
+use Rattle.inpaint.specs.Auto.{refused_number}
+use Rattle.inpaint.proofs.auto.Laws.{accepted_keeps, refused_counts, refused_first, scan_stops, scan_turn}
+use Rattle.inpaint.proofs.auto.Runs.{found_within}
 use Rattle.inpaint.proofs.Orders.{orders_none, orders_turn}
+use Rattle.inpaint.proofs.Scans.{repair_leaves}
 use Rattle.inpaint.proofs.auto.repair_runs.Goals as goal
+use Rattle.inpaint.proofs.auto.repair_runs.Goals.{in-Ok, in-Err}
 
-pub loop-at-init : goal.loop-at-init
-loop-at-init c = (omega arith, omega arith, omega arith, refl, refl, refl, refl, refl, simp sub-zero, refl, simp sub-zero refl)
+pub loop-gap-init : goal.loop-gap-init
+loop-gap-init c =
+    (omega arith, omega arith, omega arith, refl, (refl, refl, refl, refl, refl), simp sub-zero refl, simp sub-zero refl)
 
 pub overflow_add-qualified : goal.overflow_add-qualified
 overflow_add-qualified c =
-    let few : length c.loop-at.samples < 9223372036854775808 = omega (arith, c.well_formed.0.1, c.loop-at.invariant.3) in
-    let run_found : (c.loop-at.at < c.in-At.start + c.in-At.len) × (c.in-At.start + c.in-At.len < length c.loop-at.samples) = found_within _ _ _ _ _ _ (sym c.next_run-found.ensures ∙ c.in-At.is) in
-    omega (arith, run_found, c.loop-at.invariant.1, few)
+    let gap = c.in-Some.gap in
+    let run_found : (c.loop-gap.at < gap.start + gap.len) × (gap.start + gap.len < length c.loop-gap.recording.samples.now) =
+    found_within _ _ _ _ gap.start gap.len (sym c.next_run.ensures ∙ c.in-Some.is) in
+    omega (arith, run_found, c.requires, c.loop-gap.invariant.0, c.loop-gap.invariant.1)
 
 pub overflow_add-repaired : goal.overflow_add-repaired
 overflow_add-repaired c =
-    let few : length c.loop-at.samples < 9223372036854775808 = omega (arith, c.well_formed.0.1, c.loop-at.invariant.3) in
-    let run_found : (c.loop-at.at < c.in-At.start + c.in-At.len) × (c.in-At.start + c.in-At.len < length c.loop-at.samples) = found_within _ _ _ _ _ _ (sym c.next_run-found.ensures ∙ c.in-At.is) in
-    let once = at_most_one c.number_of-number.result _ c.accepted-repaired.ensures in
-    omega (arith, run_found, c.loop-at.invariant.1, c.loop-at.invariant.2, few, once)
+    let gap = c.in-Some.gap in
+    let run_found : (c.loop-gap.at < gap.start + gap.len) × (gap.start + gap.len < length c.loop-gap.recording.samples.now) =
+    found_within _ _ _ _ gap.start gap.len (sym c.next_run.ensures ∙ c.in-Some.is) in
+    omega (arith, run_found, c.requires, c.loop-gap.invariant.0, c.loop-gap.invariant.1, c.loop-gap.invariant.2)
 
 pub overflow_add-at : goal.overflow_add-at
 overflow_add-at c =
-    let few : length c.loop-at.samples < 9223372036854775808 = omega (arith, c.well_formed.0.1, c.loop-at.invariant.3) in
-    let run_found : (c.loop-at.at < c.in-At.start + c.in-At.len) × (c.in-At.start + c.in-At.len < length c.loop-at.samples) = found_within _ _ _ _ _ _ (sym c.next_run-found.ensures ∙ c.in-At.is) in
-    omega (arith, run_found, few)
+    let gap = c.in-Some.gap in
+    let run_found : (c.loop-gap.at < gap.start + gap.len) × (gap.start + gap.len < length c.loop-gap.recording.samples.now) =
+    found_within _ _ _ _ gap.start gap.len (sym c.next_run.ensures ∙ c.in-Some.is) in
+    omega (arith, run_found, c.requires, c.loop-gap.invariant.3)
 
-pub loop-at-smaller : goal.loop-at-smaller
-loop-at-smaller c =
-    let run_found : (c.loop-at.at < c.in-At.start + c.in-At.len) × (c.in-At.start + c.in-At.len < length c.loop-at.samples) = found_within _ _ _ _ _ _ (sym c.next_run-found.ensures ∙ c.in-At.is) in
-    omega (arith, run_found)
+pub loop-gap-smaller : goal.loop-gap-smaller
+loop-gap-smaller c =
+    let gap = c.in-Some.gap in
+    let run_found : (c.loop-gap.at < gap.start + gap.len) × (gap.start + gap.len < length c.loop-gap.recording.samples.now) =
+    found_within _ _ _ _ gap.start gap.len (sym c.next_run.ensures ∙ c.in-Some.is) in
+    omega (arith, run_found, c.loop-gap.invariant.3)
 
-pub loop-at-preserved : goal.loop-at-preserved
-loop-at-preserved c =
-    let run_found : (c.loop-at.at < c.in-At.start + c.in-At.len) × (c.in-At.start + c.in-At.len < length c.loop-at.samples) = found_within _ _ _ _ _ _ (sym c.next_run-found.ensures ∙ c.in-At.is) in
-    let found = sym c.next_run-found.ensures ∙ c.in-At.is in
-    let once = at_most_one c.number_of-number.result _ c.accepted-repaired.ensures in (
-      omega (arith, run_found, c.loop-at.invariant.3),
-      omega (arith, run_found, c.loop-at.invariant.1),
-      omega (arith, c.loop-at.invariant.2, once),
-      c.samples-1.given ∙ c.loop-at.invariant.3,
-      c.marks-1.given ∙ c.loop-at.invariant.4,
-      c.counts-1.given ∙ c.loop-at.invariant.5,
-      c.journal-1.given ∙ c.loop-at.invariant.6,
-      c.work-1.given ∙ c.loop-at.invariant.7,
-      scan_turn _ _ _ _ _ _ _ _ _ (state c.loop-at.samples c.loop-at.marks c.loop-at.counts c.loop-at.journal c.loop-at.used) _ _ _ _ _ _ _ _
-          (omega (arith, run_found, c.loop-at.invariant.1, c.loop-at.invariant.3))
-          found c.inpaint_gap-filled.ensures.0 c.inpaint_gap-filled.ensures.1 c.number_of-number.ensures c.accepted-repaired.ensures
-          c.first_of-refused.ensures c.loop-at.invariant.8,
-      c.orders-1.given ∙ c.loop-at.invariant.9,
-      orders_turn _ _ _ _ _ _ _ (state c.loop-at.samples c.loop-at.marks c.loop-at.counts c.loop-at.journal c.loop-at.used) _ c.loop-at.work _ _ _ _ _ c.loop-at.invariant.3 c.loop-at.invariant.7 found c.inpaint_gap-filled.ensures.0
-          c.inpaint_gap-filled.ensures.2 c.note_order.ensures c.loop-at.invariant.10,
+pub loop-gap-preserved : goal.loop-gap-preserved
+loop-gap-preserved c =
+    let gap = c.in-Some.gap in
+    let i = c.loop-gap.invariant in
+    let s = held c.loop-gap.recording in
+    let found = sym c.next_run.ensures ∙ c.in-Some.is in
+    let run_found : (c.loop-gap.at < gap.start + gap.len) × (gap.start + gap.len < length c.loop-gap.recording.samples.now) =
+    found_within _ _ _ _ gap.start gap.len (sym c.next_run.ensures ∙ c.in-Some.is) in
+    let rule = c.inpaint_gap-filled.ensures.rule in
+    let same = c.inpaint_gap-filled.ensures.memory in
+    let answer = answer_of c.inpaint_gap-filled.result in
+    let k = refused_number c.loop-gap.refused in
+    let ends : ended answer (held c.inpaint_gap-filled.new.recording) ≡ gap_repair gap.start gap.len 3 (length c.loop-gap.work) s = rule.0 in
+    let count : length c.inpaint_gap-filled.new.recording.samples.now ≡ length s.samples =
+    ap (λ (e : Ended). length e.after.samples) ends ∙ (repair_leaves gap.start gap.len 3 (length c.loop-gap.work) s).count in
+    let once : c.match-filled.repaired ≡ c.loop-gap.repaired + cond (eqb (number answer) 0) 1 0 =
+    elim c.match-filled.branch [
+      | in-Ok w ↦ rw (w.in-Ok.is, w.repaired-is) refl
+      | in-Err w ↦ rw (w.in-Err.is, w.repaired-is) (refused_counts _ _)
+    ] in
+    let first : refused_number c.match-filled.refused ≡ cond (eqb k 0) (number answer) k =
+    elim c.match-filled.branch [
+      | in-Ok w ↦ rw (w.in-Ok.is, w.refused-is) (accepted_keeps k 0)
+      | in-Err w ↦ rw (w.in-Err.is, w.refused-is, w.or-refused.ensures) (refused_first c.loop-gap.refused _)
+    ] in
+    let most : c.match-filled.repaired ≤ c.loop-gap.repaired + 1 =
+    elim c.match-filled.branch [ in-Ok w ↦ omega (arith, w.repaired-is) | in-Err w ↦ omega (arith, w.repaired-is) ] in (
+      omega (arith, run_found, i.3),
+      omega (arith, run_found, i.1),
+      omega (arith, i.2, most),
+      count ∙ i.3,
+      (same.0 ∙ i.4.0, same.1 ∙ i.4.1, same.2 ∙ i.4.2, same.3 ∙ i.4.3, same.4 ∙ i.4.4),
+      scan_turn _ _ _ gap.start gap.len _ _ _ _ _ _ s _ c.loop-gap.work _ answer _ (omega (arith, run_found, i.1, i.3)) found ends rule.1
+          once first i.5,
+      orders_turn _ _ _ gap.start gap.len _ _ s _ c.loop-gap.work answer _ _ _ _ i.3 c.loop-gap.auto.work found ends rule.2
+          c.note_order.ensures i.6,
     )
 
-pub shape_of-samples-after-loop-at : goal.shape_of-samples-after-loop-at
-shape_of-samples-after-loop-at c = c.loop-at.invariant.3
+pub returns-clause-rule : goal.returns-clause-rule
+returns-clause-rule c =
+    let ends = sym c.next_run.ensures ∙ c.in_default.is in
+    sym (scan_stops _ _ _ _ _ ends) ∙ c.loop-gap.invariant.5
 
-pub shape_of-marks-after-loop-at : goal.shape_of-marks-after-loop-at
-shape_of-marks-after-loop-at c = c.loop-at.invariant.4
-
-pub shape_of-counts-after-loop-at : goal.shape_of-counts-after-loop-at
-shape_of-counts-after-loop-at c = c.loop-at.invariant.5
-
-pub shape_of-journal-after-loop-at : goal.shape_of-journal-after-loop-at
-shape_of-journal-after-loop-at c = c.loop-at.invariant.6
-
-pub shape_of-work-after-loop-at : goal.shape_of-work-after-loop-at
-shape_of-work-after-loop-at c = c.loop-at.invariant.7
-
-pub shape_of-orders-after-loop-at : goal.shape_of-orders-after-loop-at
-shape_of-orders-after-loop-at c = c.loop-at.invariant.9
-
-pub returns-after-loop-at : goal.returns-after-loop-at
-returns-after-loop-at c =
-    let at = c.loop-at in
-    let past : length at.samples ≤ at.at = omega (arith, c.loop-at-test.false, at.invariant.3) in
-    let ends = sym (search_ends _ _ _ _ _ _ past refl) in
-    (sym (scan_stops _ _ _ _ _ ends) ∙ at.invariant.8, orders_none _ _ _ _ _ (state c.loop-at.samples c.loop-at.marks c.loop-at.counts c.loop-at.journal c.loop-at.used) _ _ at.invariant.3 ends at.invariant.10)
-
-pub shape_of-samples-in_default : goal.shape_of-samples-in_default
-shape_of-samples-in_default c = c.loop-at.invariant.3
-
-pub shape_of-marks-in_default : goal.shape_of-marks-in_default
-shape_of-marks-in_default c = c.loop-at.invariant.4
-
-pub shape_of-counts-in_default : goal.shape_of-counts-in_default
-shape_of-counts-in_default c = c.loop-at.invariant.5
-
-pub shape_of-journal-in_default : goal.shape_of-journal-in_default
-shape_of-journal-in_default c = c.loop-at.invariant.6
-
-pub shape_of-work-in_default : goal.shape_of-work-in_default
-shape_of-work-in_default c = c.loop-at.invariant.7
-
-pub shape_of-orders-in_default : goal.shape_of-orders-in_default
-shape_of-orders-in_default c = c.loop-at.invariant.9
-
-pub returns-in_default : goal.returns-in_default
-returns-in_default c =
-    let ends = sym c.next_run-found.ensures ∙ c.in_default.is in
-    (sym (scan_stops _ _ _ _ _ ends) ∙ c.loop-at.invariant.8, orders_none _ _ _ _ _ (state c.loop-at.samples c.loop-at.marks c.loop-at.counts c.loop-at.journal c.loop-at.used) _ _ c.loop-at.invariant.3 ends c.loop-at.invariant.10)
+pub returns-clause-orders : goal.returns-clause-orders
+returns-clause-orders c =
+    let ends = sym c.next_run.ensures ∙ c.in_default.is in
+    orders_none _ _ _ _ _ (held c.loop-gap.recording) _ _ c.loop-gap.invariant.3 ends c.loop-gap.invariant.6

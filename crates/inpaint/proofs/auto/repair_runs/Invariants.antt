@@ -3,26 +3,26 @@
 -- each run found took a place or more, so that the runs counted are at most as many as the places passed. The measure
 -- is how many places are left. Assumes nothing.
 use Rattle.std.proofs.Common.{◌≡◌, ◌-◌, ◌≤◌, length}
-use Rattle.recording.specs.Recording.{state}
-use Rattle.inpaint.specs.Auto.{scan, scan_from}
+use Rattle.recording.specs.Lent.{held, SameMemory}
+use Rattle.inpaint.specs.Auto.{scan, refused_number, scan_from}
 use Rattle.inpaint.specs.Runs.{runs_among, runs_of}
 use Rattle.inpaint.specs.Order.{orders_over}
 use Rattle.inpaint.proofs.auto.repair_runs.Given as goal
 
-abbrev pub invariant-loop-at : goal.invariant-loop-at
-invariant-loop-at l = (l.at ≤ l.n)
+abbrev pub invariant-loop-gap : goal.invariant-loop-gap
+invariant-loop-gap l =
+    let s = held l.recording in
+    let t = held l.initial.recording in
+    let n = length t.samples in
+    (l.at ≤ n)
     × (l.qualified ≤ l.at)
     × (l.repaired ≤ l.qualified)
-    × (length l.samples ≡ length l.initial.samples)
-    × (length l.marks ≡ length l.initial.marks)
-    × (length l.counts ≡ length l.initial.counts)
-    × (length l.journal ≡ length l.initial.journal)
-    × (length l.work ≡ length l.initial.work)
-    × (scan_from l.most l.held l.at (l.n - l.qualified) (scan l.qualified l.repaired l.refused (state l.samples l.marks l.counts l.journal l.used) l.work)
-    ≡ scan_from l.most l.held 0 l.n (scan 0 0 0 (state l.initial.samples l.initial.marks l.initial.counts l.initial.journal l.initial.used) l.initial.work))
-    × (length l.orders ≡ length l.initial.orders)
-    × (orders_over (length l.initial.work) (runs_among l.samples l.most l.held l.at l.at (l.n - l.at)) (state l.samples l.marks l.counts l.journal l.used) l.orders
-    ≡ orders_over (length l.initial.work) (runs_of l.initial.samples l.most l.held) (state l.initial.samples l.initial.marks l.initial.counts l.initial.journal l.initial.used) l.initial.orders)
+    × (length s.samples ≡ n)
+    × SameMemory l.initial.recording l.recording
+    × (scan_from l.most l.held l.at (n - l.qualified) (scan l.qualified l.repaired (refused_number l.refused) s l.work)
+    ≡ scan_from l.most l.held 0 n (scan 0 0 0 t l.initial.work))
+    × (orders_over (length l.initial.work) (runs_among s.samples l.most l.held l.at l.at (n - l.at)) s l.orders
+    ≡ orders_over (length l.initial.work) (runs_of t.samples l.most l.held) t l.initial.orders)
 
-abbrev pub decreases-loop-at : goal.decreases-loop-at
-decreases-loop-at l = l.n - l.at
+abbrev pub decreases-loop-gap : goal.decreases-loop-gap
+decreases-loop-gap l = length l.initial.recording.samples.now - l.at
