@@ -8,12 +8,11 @@ use borrow.Author.Tests.{ltb-false, lt-ltb, le-ltb, eq-eqb, ne_eqb}
 use lib.Dec.{ltb, eqb}
 use lib.ListN.{length, get_or, drop, length-map, drop_of_length-le}
 use lib.Seq.{sets, drop-cons}
-use lib.Ieee.{Float, binary32, of_bits, ne}
+use lib.Ieee.{Float, binary32, of_bits, is_nan}
 use Rattle.leaves.specs.Arithmetic.{float}
 use Rattle.leaves.proofs.Choice.{neither}
 use Rattle.leaves.proofs.Literals.{nought_word}
 use Rattle.leaves.proofs.Parts.{sets_both}
-use Rattle.leaves.proofs.words.Laws.{nan_test}
 use Rattle.recording.specs.Recording.{most_samples, readable}
 use Rattle.recording.specs.declared.Reason.{Reason}
 use Rattle.recording.specs.declared.Reason.TheVariants.{TooMany, Setting, Workspace, Pieces}
@@ -38,11 +37,11 @@ module _ (start : Start) (total : ℕ) (sensitivity : Float) where
   announced_many h = rw (lt-ltb _ _ h) refl
 
   module _ (few : total ≤ most_samples) where
-    pub announced_nan : ne sensitivity sensitivity ≡ true → Err Setting ≡ announced start total sensitivity
+    pub announced_nan : is_nan sensitivity ≡ true → Err Setting ≡ announced start total sensitivity
     unfolding announced
-    announced_nan h = rw (le-ltb _ _ few, nan_test sensitivity, h) refl
+    announced_nan h = rw (le-ltb _ _ few, h) refl
 
-    pub announced_begun : (factor : Float) → ne sensitivity sensitivity ≡ false → factor ≡ factor_for sensitivity
+    pub announced_begun : (factor : Float) → is_nan sensitivity ≡ false → factor ≡ factor_for sensitivity
         → Ok
         (record {
           start = start;
@@ -56,7 +55,7 @@ module _ (start : Start) (total : ℕ) (sensitivity : Float) where
         })
         ≡ announced start total sensitivity
     unfolding announced begun old_floor
-    announced_begun factor h e = rw (le-ltb _ _ few, nan_test sensitivity, h, e, millionth, nought_word) refl
+    announced_begun factor h e = rw (le-ltb _ _ few, h, e, millionth, nought_word) refl
 
 -- ---- A sample
 

@@ -59,7 +59,7 @@ pub fn announce(start: Start, total: usize, sensitivity: f32) -> Result<Detector
     if MOST_SAMPLES < total {
         return Err(Reason::TooMany);
     }
-    if sensitivity != sensitivity {
+    if sensitivity.is_nan() {
         return Err(Reason::Setting);
     }
     Ok(Detector {

@@ -2,7 +2,7 @@
 use Rattle.std.proofs.Common.{◌≡◌, ℕ, List, length, sym, subst}
 use lib.Seq.{sets}
 use Rattle.std.specs.Prelude.{Ok, Err}
-use Rattle.recording.specs.Recording.{State, state, Ended, ended, change, span, ranged, entered, carried}
+use Rattle.recording.specs.Recording.{State, state, ended, change, span, ranged, entered, carried}
 use Rattle.recording.specs.Answer.{Answer}
 use Rattle.recording.specs.Inner.{filled}
 use Rattle.recording.specs.declared.Reason.{Reason}

@@ -24,7 +24,7 @@ use Rattle.inpaint.specs.Runs.{Stretch, stretch, runs_among, runs_of, gap_calls}
 use Rattle.inpaint.specs.Order.{fill_order, order_beside, gap_order, noted, orders_over, scan_orders}
 use Rattle.inpaint.specs.Consequences.{GapOrderAtMost, OrderOfEveryCount, GapHasNoSayInOrder, with_words}
 use Rattle.inpaint.specs.Consequences.{ListAsLong, RefusedScanKeepsList, order_there, OrdersAtRuns, OrdersElsewhere}
-use Rattle.std.specs.Prelude.{Option, Some, None}
+use Rattle.std.specs.Prelude.{Some, None}
 use Rattle.inpaint.proofs.auto.Runs.{found_run}
 use Rattle.inpaint.proofs.window.Laws.{gap_right}
 use Rattle.inpaint.proofs.gap.Laws.{model_order}

@@ -6,17 +6,15 @@ use native.Mathlib.Nat.{sub-zero}
 use lib.Seq.{length-sets}
 use lib.Ieee.{Float}
 use Rattle.leaves.specs.Arithmetic.{nought}
-use Rattle.recording.specs.Answers.{number, reason_number}
+use Rattle.recording.specs.Answers.{number}
 use Rattle.recording.specs.Recording.{State, Ended, places, put, span, Plan, refuse, change}
 use Rattle.recording.specs.Recording.{fitting, ranged, entered, committed, carried, performed, unless_refused}
 use Rattle.recording.specs.Recording.{entry_size, clears, work_after}
 use Rattle.recording.specs.History.{run, did}
 use Rattle.recording.specs.Consequences.{Among}
-use Rattle.recording.specs.declared.Reason.{Reason}
 use Rattle.recording.specs.Answer.{Answer}
 use Rattle.std.specs.Prelude.{Ok, Err}
 use Rattle.leaves.proofs.Choice.{picks, truth, EitherWay}
-use Rattle.recording.proofs.Single.{above_zero}
 use Rattle.recording.proofs.Put.{length_put, put_elsewhere}
 use Rattle.recording.proofs.Runs.{length_same, run_met}
 use Rattle.inpaint.specs.Gap.{needed, gap_plan, gap_repair}

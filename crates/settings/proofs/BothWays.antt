@@ -12,19 +12,17 @@ use borrow.Author.Tests.{le-ltb}
 use Rattle.leaves.specs.Arithmetic.{float}
 use Rattle.leaves.proofs.Stores.{stored_over}
 use Rattle.wire.specs.Wire.{word_at, Below, bytes_to, words_to}
-use Rattle.std.specs.Prelude.{Ok}
+use Rattle.std.specs.Prelude.{Result, Ok, Err}
 use Rattle.settings.specs.declared.SettingsV1.{SettingsV1}
+use Rattle.recording.specs.declared.Reason.{Reason}
 use Rattle.settings.specs.declared.Settings.{Settings}
-use Rattle.settings.specs.declared.KeptV1.{KeptV1}
-use Rattle.settings.specs.declared.KeptV1.TheVariants.{KnownV1, TurnedAwayV1}
-use Rattle.settings.specs.declared.Kept.{Kept}
-use Rattle.settings.specs.declared.Kept.TheVariants.{Known, TurnedAway}
 use Rattle.settings.specs.Settings.{parts_v1, parts, words_v1, words, settings_v1, settings, allowed_v1, allowed, block_of, block_bytes, Left, left}
 use Rattle.settings.specs.Settings.{stored, read_v1, read, read_to_v1, read_to, write_v1, write, write_from_v1, write_from}
 use Rattle.settings.specs.Consequences.{HoldsV1, Holds, CallsReadBack, CallsWriteBack}
 use Rattle.settings.proofs.Patterns.{words_are_kept}
 use Rattle.settings.proofs.Storing.{no_refusal, good_block, Accepted, accepted}
-use Rattle.settings.proofs.Consequences.{length_v1, length_words, blocks_are_as_long, written_is_read_v1, written_is_read}
+use Rattle.settings.specs.Counts.{six_words, seven_words}
+use Rattle.settings.proofs.Consequences.{blocks_are_as_long, written_is_read_v1, written_is_read}
 use Rattle.settings.proofs.Consequences.{again_v1, again}
 
 -- ---- What words stand for is what a variable can hold
@@ -66,12 +64,12 @@ writes : (ws room : List ℕ) → length ws ≡ parts → write_from ws room ≡
 unfolding write_from write
 writes ws room count = rw (le-ltb (length ws) parts (omega (arith, count))) refl
 
-reads_v1 : (block area : List ℕ) (s : SettingsV1) → parts_v1 ≤ length area → read_v1 block ≡ KnownV1 s
+reads_v1 : (block area : List ℕ) (s : SettingsV1) → parts_v1 ≤ length area → read_v1 block ≡ Ok s
     → read_to_v1 block area ≡ left (Ok parts_v1) (sets area 0 (words_v1 s))
 unfolding read_to_v1
 reads_v1 block area s room h = rw (le-ltb (length area) parts_v1 room, h) refl
 
-reads : (block area : List ℕ) (s : Settings) → parts ≤ length area → read block ≡ Known s
+reads : (block area : List ℕ) (s : Settings) → parts ≤ length area → read block ≡ Ok s
     → read_to block area ≡ left (Ok parts) (sets area 0 (words s))
 unfolding read_to
 reads block area s room h = rw (le-ltb (length area) parts room, h) refl
@@ -91,7 +89,7 @@ read_back_v1 ws room area m count below place h =
     so = writes_v1 ws room count
 
     a : Accepted 1 parts_v1 (words_v1 s) room (allowed_v1 s) m
-    a = accepted 1 parts_v1 (words_v1 s) room (allowed_v1 s) m (length_v1 s) (sym (ap (λ (l : Left). l.answer) so) ∙ h)
+    a = accepted 1 parts_v1 (words_v1 s) room (allowed_v1 s) m (six_words s) (sym (ap (λ (l : Left). l.answer) so) ∙ h)
 
     block_is : take m (write_from_v1 ws room).lent ≡ block_of 1 (words_v1 s)
     block_is =
@@ -115,7 +113,7 @@ read_back ws room area m count below place h =
     so = writes ws room count
 
     a : Accepted 2 parts (words s) room (allowed s) m
-    a = accepted 2 parts (words s) room (allowed s) m (length_words s) (sym (ap (λ (l : Left). l.answer) so) ∙ h)
+    a = accepted 2 parts (words s) room (allowed s) m (seven_words s) (sym (ap (λ (l : Left). l.answer) so) ∙ h)
 
     block_is : take m (write_from ws room).lent ≡ block_of 2 (words s)
     block_is =
@@ -131,21 +129,21 @@ calls_read_back = (read_back_v1, read_back)
 
 -- what a reader told
 told_v1 : (block area : List ℕ) (m : ℕ) → parts_v1 ≤ length area → (read_to_v1 block area).answer ≡ Ok m
-    → (s : SettingsV1) × (read_v1 block ≡ KnownV1 s)
+    → (s : SettingsV1) × (read_v1 block ≡ Ok s)
 unfolding read_to_v1
 told_v1 block area m room h = go (read_v1 block) refl
   where
-    go : (k : KeptV1) → read_v1 block ≡ k → (s : SettingsV1) × (read_v1 block ≡ KnownV1 s)
-    go (KnownV1 s) e = (s, e)
-    go (TurnedAwayV1 why) e = no_refusal (rw (le-ltb (length area) parts_v1 room, e) at h)
+    go : (k : Result SettingsV1 Reason) → read_v1 block ≡ k → (s : SettingsV1) × (read_v1 block ≡ Ok s)
+    go (Ok s) e = (s, e)
+    go (Err why) e = no_refusal (rw (le-ltb (length area) parts_v1 room, e) at h)
 
-told : (block area : List ℕ) (m : ℕ) → parts ≤ length area → (read_to block area).answer ≡ Ok m → (s : Settings) × (read block ≡ Known s)
+told : (block area : List ℕ) (m : ℕ) → parts ≤ length area → (read_to block area).answer ≡ Ok m → (s : Settings) × (read block ≡ Ok s)
 unfolding read_to
 told block area m room h = go (read block) refl
   where
-    go : (k : Kept) → read block ≡ k → (s : Settings) × (read block ≡ Known s)
-    go (Known s) e = (s, e)
-    go (TurnedAway why) e = no_refusal (rw (le-ltb (length area) parts room, e) at h)
+    go : (k : Result Settings Reason) → read block ≡ k → (s : Settings) × (read block ≡ Ok s)
+    go (Ok s) e = (s, e)
+    go (Err why) e = no_refusal (rw (le-ltb (length area) parts room, e) at h)
 
 write_back_v1 : (block area room : List ℕ) (m : ℕ) → Below bytes_to block → length area ≡ parts_v1 → block_bytes parts_v1 ≤ length room
     → (read_to_v1 block area).answer ≡ Ok m
@@ -157,11 +155,11 @@ write_back_v1 block area room m below count enough h =
     let ws = words_v1 s in
     let kept = again_v1 block s below found.1 in
     let lent_is : (read_to_v1 block area).lent ≡ ws =
-    ap (λ (l : Left). l.lent) (reads_v1 block area s place found.1) ∙ stored_over area ws (length_v1 s ∙ sym count) in
+    ap (λ (l : Left). l.lent) (reads_v1 block area s place found.1) ∙ stored_over area ws (six_words s ∙ sym count) in
     ap (λ (l : List ℕ). write_from_v1 l room) lent_is
-    ∙ writes_v1 ws room (length_v1 s)
+    ∙ writes_v1 ws room (six_words s)
     ∙ ap (λ (t : SettingsV1). stored 1 (words_v1 t) (allowed_v1 t) room) kept.back
-    ∙ sym (good_block 1 parts_v1 ws room (allowed_v1 s) (length_v1 s) enough kept.good)
+    ∙ sym (good_block 1 parts_v1 ws room (allowed_v1 s) (six_words s) enough kept.good)
     ∙ ap (λ (l : List ℕ). left (Ok (block_bytes parts_v1)) (sets room 0 l)) kept.same
 
 write_back : (block area room : List ℕ) (m : ℕ) → Below bytes_to block → length area ≡ parts → block_bytes parts ≤ length room
@@ -174,11 +172,11 @@ write_back block area room m below count enough version h =
     let ws = words s in
     let kept = again block s below version found.1 in
     let lent_is : (read_to block area).lent ≡ ws =
-    ap (λ (l : Left). l.lent) (reads block area s place found.1) ∙ stored_over area ws (length_words s ∙ sym count) in
+    ap (λ (l : Left). l.lent) (reads block area s place found.1) ∙ stored_over area ws (seven_words s ∙ sym count) in
     ap (λ (l : List ℕ). write_from l room) lent_is
-    ∙ writes ws room (length_words s)
+    ∙ writes ws room (seven_words s)
     ∙ ap (λ (t : Settings). stored 2 (words t) (allowed t) room) kept.back
-    ∙ sym (good_block 2 parts ws room (allowed s) (length_words s) enough kept.good)
+    ∙ sym (good_block 2 parts ws room (allowed s) (seven_words s) enough kept.good)
     ∙ ap (λ (l : List ℕ). left (Ok (block_bytes parts)) (sets room 0 l)) kept.same
 
 pub calls_write_back : CallsWriteBack

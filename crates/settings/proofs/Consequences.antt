@@ -12,16 +12,13 @@ use Rattle.leaves.proofs.Choice.{truth, EitherWay}
 use Rattle.wire.specs.Wire.{word_at, Below, bytes_to}
 use Rattle.wire.proofs.Laws.{length_decoded, decoded_below}
 use Rattle.recording.specs.declared.Reason.{Reason}
-use Rattle.recording.specs.declared.Reason.TheVariants.{Stored}
 use Rattle.inpaint.specs.Auto.{held_run}
 use Rattle.settings.specs.declared.SettingsV1.{SettingsV1}
 use Rattle.settings.specs.declared.Settings.{Settings}
-use Rattle.settings.specs.declared.KeptV1.{KeptV1}
-use Rattle.settings.specs.declared.KeptV1.TheVariants.{KnownV1, TurnedAwayV1}
-use Rattle.settings.specs.declared.Kept as new
-use Rattle.settings.specs.declared.Kept.TheVariants.{Known, TurnedAway}
+use Rattle.std.specs.Prelude.{Result, Ok, Err, is_ok}
 use Rattle.settings.specs.Settings.{parts_v1, parts, words_v1, words, settings_v1, settings, allowed_v1, allowed, version_bytes, block_of, formed, words_in}
 use Rattle.settings.specs.Settings.{of_first, of_second, read_v1, with_held_run, read}
+use Rattle.settings.specs.Counts.{six_words, seven_words}
 use Rattle.settings.specs.Consequences.{BlocksAreAsLong, WrittenIsReadV1, WrittenIsRead, ReadIsWrittenV1, ReadIsWritten}
 use Rattle.settings.specs.Consequences.{AcceptedAreAllowed, JustOneBlock, FirstWithHeldRun, FirstAlone}
 use Rattle.settings.proofs.Patterns.{settings_back_v1, settings_back, words_below_v1, words_below, words_are_kept}
@@ -31,52 +28,38 @@ use Rattle.settings.proofs.Keeping.{is_known, Kept, tells}
 -- ---- What was accepted
 
 -- it is not turned away
-no_refusal_v1 : {A : Type 0} {s : SettingsV1} {why : Reason} → TurnedAwayV1 why ≡ KnownV1 s → A
-no_refusal_v1 both =
-    let none : ◌≡◌ {A = ℕ} 0 1 = cc in
-    absurd (omega arith)
-
-no_refusal : {A : Type 0} {s : Settings} {why : Reason} → TurnedAway why ≡ Known s → A
-no_refusal both =
-    let none : ◌≡◌ {A = ℕ} 0 1 = cc in
-    absurd (omega arith)
+no_refusal : {A S : Type 0} {s : S} {why : Reason} → ◌≡◌ {A = Result S Reason} (Err why) (Ok s) → A
+no_refusal both = let never = eqb-true 0 1 (ap is_ok both) in absurd (omega arith)
 
 -- the settings of an acceptance, or else others
-abbrev kept_v1 : SettingsV1 → KeptV1 → SettingsV1
-kept_v1 other (KnownV1 s) = s
-kept_v1 other (TurnedAwayV1 why) = other
-
-abbrev kept : Settings → new.Kept → Settings
-kept other (Known s) = s
-kept other (TurnedAway why) = other
+abbrev kept : Settings → Result Settings Reason → Settings
+kept other (Ok s) = s
+kept other (Err why) = other
 
 -- of a block of version 1 the form, and what its words stand for; and of one of version 2
 abbrev FirstKept : List ℕ → SettingsV1 → Type 0
-FirstKept = Kept SettingsV1 KeptV1 parts_v1 settings_v1 allowed_v1 KnownV1 (TurnedAwayV1 Stored)
+FirstKept = Kept SettingsV1 parts_v1 settings_v1 allowed_v1
 
 abbrev SecondKept : List ℕ → Settings → Type 0
-SecondKept = Kept Settings new.Kept parts settings allowed Known (TurnedAway Stored)
+SecondKept = Kept Settings parts settings allowed
 
 first_known : (block : List ℕ) → formed parts_v1 block ≡ true → allowed_v1 (settings_v1 (words_in parts_v1 block)) ≡ true
-    → of_first block ≡ KnownV1 (settings_v1 (words_in parts_v1 block))
+    → of_first block ≡ Ok (settings_v1 (words_in parts_v1 block))
 unfolding of_first
-first_known block form good = is_known SettingsV1 KeptV1 parts_v1 settings_v1 allowed_v1 KnownV1 (TurnedAwayV1 Stored) block form good
+first_known block form good = is_known SettingsV1 parts_v1 settings_v1 allowed_v1 block form good
 
-first_kept : (block : List ℕ) (s : SettingsV1) → of_first block ≡ KnownV1 s → FirstKept block s
+first_kept : (block : List ℕ) (s : SettingsV1) → of_first block ≡ Ok s → FirstKept block s
 unfolding of_first
-first_kept block s h =
-    tells SettingsV1 KeptV1 parts_v1 settings_v1 allowed_v1 KnownV1 (TurnedAwayV1 Stored) block (λ t e. no_refusal_v1 e)
-    (λ t u e. ap (kept_v1 t) e) s h
+first_kept block s h = tells SettingsV1 parts_v1 settings_v1 allowed_v1 block s h
 
 second_known : (block : List ℕ) → formed parts block ≡ true → allowed (settings (words_in parts block)) ≡ true
-    → of_second block ≡ Known (settings (words_in parts block))
+    → of_second block ≡ Ok (settings (words_in parts block))
 unfolding of_second
-second_known block form good = is_known Settings new.Kept parts settings allowed Known (TurnedAway Stored) block form good
+second_known block form good = is_known Settings parts settings allowed block form good
 
-second_kept : (block : List ℕ) (s : Settings) → of_second block ≡ Known s → SecondKept block s
+second_kept : (block : List ℕ) (s : Settings) → of_second block ≡ Ok s → SecondKept block s
 unfolding of_second
-second_kept block s h =
-    tells Settings new.Kept parts settings allowed Known (TurnedAway Stored) block (λ t e. no_refusal e) (λ t u e. ap (kept t) e) s h
+second_kept block s h = tells Settings parts settings allowed block s h
 
 -- ---- The readers, version by version
 
@@ -103,26 +86,30 @@ unfolding read_v1
 first_alone block long other = rw (le-ltb (length block) version_bytes long, ne_eqb (word_at block 0) 1 other) refl
 
 -- an accepted block has a version that is known, and is one of it
-accepted_v1 : (block : List ℕ) (s : SettingsV1) → read_v1 block ≡ KnownV1 s → (word_at block 0 ≡ 1) × (of_first block ≡ KnownV1 s)
+accepted_v1 : (block : List ℕ) (s : SettingsV1) → read_v1 block ≡ Ok s → (word_at block 0 ≡ 1) × (of_first block ≡ Ok s)
 unfolding read_v1
 accepted_v1 block s h = go (truth (ltb (length block) version_bytes)) (truth (eqb (word_at block 0) 1))
   where
     go : EitherWay (ltb (length block) version_bytes) → EitherWay (eqb (word_at block 0) 1)
-        → (word_at block 0 ≡ 1) × (of_first block ≡ KnownV1 s)
-    go (inl short) v = no_refusal_v1 (rw short at h)
+        → (word_at block 0 ≡ 1) × (of_first block ≡ Ok s)
+    go (inl short) v = no_refusal (rw short at h)
     go (inr long) (inl v) = (eqb-true (word_at block 0) 1 v, rw (long, v) at h)
-    go (inr long) (inr v) = no_refusal_v1 (rw (long, v) at h)
+    go (inr long) (inr v) = no_refusal (rw (long, v) at h)
 
 -- the settings of version 1 with a run length beside them come from settings of version 1
-record Beside (k : KeptV1) (s : Settings) : Type 0 where
-  first : k ≡ KnownV1 s.first
+abbrev first_of : Result Settings Reason → Result SettingsV1 Reason
+first_of (Ok s) = Ok s.first
+first_of (Err why) = Err why
+
+record Beside (k : Result SettingsV1 Reason) (s : Settings) : Type 0 where
+  first : k ≡ Ok s.first
   sixteen : s.held ≡ held_run
 
-beside : (k : KeptV1) (s : Settings) → with_held_run k ≡ Known s → Beside k s
-beside (KnownV1 t) s h =
+beside : (k : Result SettingsV1 Reason) (s : Settings) → with_held_run k ≡ Ok s → Beside k s
+beside (Ok t) s h =
     let same = ap (kept s) h in
-    record { first = ap (λ (r : Settings). KnownV1 r.first) same; sixteen = ap (λ (r : Settings). r.held) (sym same) }
-beside (TurnedAwayV1 why) s h = no_refusal h
+    record { first = ap (λ (r : Settings). first_of (Ok r)) same; sixteen = ap (λ (r : Settings). r.held) (sym same) }
+beside (Err why) s h = no_refusal h
 
 record OfFirst (block : List ℕ) (s : Settings) : Type 0 where
   version : word_at block 0 ≡ 1
@@ -130,9 +117,9 @@ record OfFirst (block : List ℕ) (s : Settings) : Type 0 where
 
 record OfSecond (block : List ℕ) (s : Settings) : Type 0 where
   version : word_at block 0 ≡ 2
-  from : of_second block ≡ Known s
+  from : of_second block ≡ Ok s
 
-accepted : (block : List ℕ) (s : Settings) → read block ≡ Known s → OfFirst block s ⊎ OfSecond block s
+accepted : (block : List ℕ) (s : Settings) → read block ≡ Ok s → OfFirst block s ⊎ OfSecond block s
 unfolding read
 accepted block s h =
     go (truth (ltb (length block) version_bytes)) (truth (eqb (word_at block 0) 1)) (truth (eqb (word_at block 0) 2))
@@ -141,64 +128,56 @@ accepted block s h =
         → OfFirst block s ⊎ OfSecond block s
     go (inl short) v w = no_refusal (rw short at h)
     go (inr long) (inl v) w =
-        let is : with_held_run (of_first block) ≡ Known s = rw (long, v) at h in
+        let is : with_held_run (of_first block) ≡ Ok s = rw (long, v) at h in
         inl (record { version = eqb-true (word_at block 0) 1 v; from = beside (of_first block) s is })
     go (inr long) (inr v) (inl w) = inr (record { version = eqb-true (word_at block 0) 2 w; from = rw (long, v, w) at h })
     go (inr long) (inr v) (inr w) = no_refusal (rw (long, v, w) at h)
 
 -- ---- Both ways
 
-pub length_v1 : (s : SettingsV1) → length (words_v1 s) ≡ parts_v1
-unfolding words_v1
-length_v1 s = refl
-
-pub length_words : (s : Settings) → length (words s) ≡ parts
-unfolding words words_v1
-length_words s = refl
-
 pub blocks_are_as_long : BlocksAreAsLong
 blocks_are_as_long = (
-  λ version s. length_block version (words_v1 s) ∙ (let n = length_v1 s in omega (arith, n)),
-  λ version s. length_block version (words s) ∙ (let n = length_words s in omega (arith, n)),
+  λ version s. length_block version (words_v1 s) ∙ (let n = six_words s in omega (arith, n)),
+  λ version s. length_block version (words s) ∙ (let n = seven_words s in omega (arith, n)),
 )
 
 pub written_is_read_v1 : WrittenIsReadV1
 written_is_read_v1 s holds good =
     reads_first_v1 block (omega (arith, blocks_are_as_long.0 1 s)) there.version_is
     ∙ first_known block form (ap allowed_v1 same ∙ good)
-    ∙ ap KnownV1 same
+    ∙ ap Ok same
   where
     block : List ℕ
     block = block_of 1 (words_v1 s)
 
     there : Laid 1 (words_v1 s)
-    there = laid 1 (words_v1 s) (omega arith) (words_below_v1 s holds) (omega (arith, length_v1 s))
+    there = laid 1 (words_v1 s) (omega arith) (words_below_v1 s holds) (omega (arith, six_words s))
 
     form : formed parts_v1 block ≡ true
-    form = ap (λ (n : ℕ). formed n block) (sym (length_v1 s)) ∙ there.form
+    form = ap (λ (n : ℕ). formed n block) (sym (six_words s)) ∙ there.form
 
     same : settings_v1 (words_in parts_v1 block) ≡ s
     same =
-        ap settings_v1 (ap (λ (n : ℕ). words_in n block) (sym (length_v1 s)) ∙ there.words_are)
+        ap settings_v1 (ap (λ (n : ℕ). words_in n block) (sym (six_words s)) ∙ there.words_are)
         ∙ settings_back_v1 s holds
 
 pub written_is_read : WrittenIsRead
 written_is_read s holds good =
     reads_second block (omega (arith, blocks_are_as_long.1 2 s)) there.version_is
     ∙ second_known block form (ap allowed same ∙ good)
-    ∙ ap Known same
+    ∙ ap Ok same
   where
     block : List ℕ
     block = block_of 2 (words s)
 
     there : Laid 2 (words s)
-    there = laid 2 (words s) (omega arith) (words_below s holds) (omega (arith, length_words s))
+    there = laid 2 (words s) (omega arith) (words_below s holds) (omega (arith, seven_words s))
 
     form : formed parts block ≡ true
-    form = ap (λ (n : ℕ). formed n block) (sym (length_words s)) ∙ there.form
+    form = ap (λ (n : ℕ). formed n block) (sym (seven_words s)) ∙ there.form
 
     same : settings (words_in parts block) ≡ s
-    same = ap settings (ap (λ (n : ℕ). words_in n block) (sym (length_words s)) ∙ there.words_are) ∙ settings_back s holds
+    same = ap settings (ap (λ (n : ℕ). words_in n block) (sym (seven_words s)) ∙ there.words_are) ∙ settings_back s holds
 
 -- a block of either version, written again: its words stand for its settings, which are allowed, and its bytes are those of the block
 pub record AgainV1 (block : List ℕ) (s : SettingsV1) : Type 0 where
@@ -206,7 +185,7 @@ pub record AgainV1 (block : List ℕ) (s : SettingsV1) : Type 0 where
   pub good : allowed_v1 s ≡ true
   pub same : block_of 1 (words_v1 s) ≡ block
 
-first_again : (block : List ℕ) (s : SettingsV1) → Below bytes_to block → word_at block 0 ≡ 1 → of_first block ≡ KnownV1 s → AgainV1 block s
+first_again : (block : List ℕ) (s : SettingsV1) → Below bytes_to block → word_at block 0 ≡ 1 → of_first block ≡ Ok s → AgainV1 block s
 first_again block s below v h =
     let f = first_kept block s h in
     let from = version_bytes + 4 + 12 * parts_v1 in
@@ -225,7 +204,7 @@ pub record Again (block : List ℕ) (s : Settings) : Type 0 where
   pub good : allowed s ≡ true
   pub same : block_of 2 (words s) ≡ block
 
-second_again : (block : List ℕ) (s : Settings) → Below bytes_to block → word_at block 0 ≡ 2 → of_second block ≡ Known s → Again block s
+second_again : (block : List ℕ) (s : Settings) → Below bytes_to block → word_at block 0 ≡ 2 → of_second block ≡ Ok s → Again block s
 second_again block s below v h =
     let f = second_kept block s h in
     let from = version_bytes + 4 + 12 * parts in
@@ -239,12 +218,12 @@ second_again block s below v h =
       same = ap (block_of 2) words_are ∙ ap (λ (k : ℕ). block_of k ws) (sym v) ∙ (has_form parts block f.form).again below;
     }
 
-pub again_v1 : (block : List ℕ) (s : SettingsV1) → Below bytes_to block → read_v1 block ≡ KnownV1 s → AgainV1 block s
+pub again_v1 : (block : List ℕ) (s : SettingsV1) → Below bytes_to block → read_v1 block ≡ Ok s → AgainV1 block s
 again_v1 block s below h =
     let a = accepted_v1 block s h in
     first_again block s below a.0 a.1
 
-pub again : (block : List ℕ) (s : Settings) → Below bytes_to block → word_at block 0 ≡ 2 → read block ≡ Known s → Again block s
+pub again : (block : List ℕ) (s : Settings) → Below bytes_to block → word_at block 0 ≡ 2 → read block ≡ Ok s → Again block s
 again block s below v h = go (accepted block s h)
   where
     go : OfFirst block s ⊎ OfSecond block s → Again block s

@@ -1,36 +1,36 @@
--- What a block of n settings keeps, for both versions: S are the settings and K what a reader gives of them. A block that is malformed, or has a
--- setting that is not allowed, is turned away, and of another the words stand for the settings. Assumes nothing.
+-- What a block of n settings keeps, for both versions: S are the settings. A block that is malformed, or has a setting that is not allowed, is
+-- turned away, and of another the words stand for the settings. Assumes nothing.
 use Prim.Native.Nat.{ℕ, ◌+◌, ◌*◌, ◌≤◌}
 use native.Mathlib.Omega.{arith}
 use mathlib.Core.Path.{◌≡◌, refl, sym, ap, ◌∙◌}
-use mathlib.Core.Bool.{Bool, true, false, not}
+use mathlib.Core.Bool.{Bool, true, false}
 use mathlib.Core.List.{List}
 use mathlib.Core.Logic.{inl, inr}
 use lib.ListN.{length}
 use lib.Seq.{sets}
-use Rattle.std.specs.Prelude.{if◌then◌else◌}
 use Rattle.leaves.proofs.Choice.{truth, EitherWay}
 use Rattle.leaves.proofs.Stores.{stored_over}
 use Rattle.wire.specs.Wire.{decoded}
 use Rattle.wire.proofs.Laws.{length_decoded}
 use Rattle.contents.specs.Contents.{table_bytes}
-use Rattle.settings.specs.Settings.{version_bytes, formed, words_in}
+use Rattle.std.specs.Prelude.{Result, Ok, Err, is_ok}
+use Rattle.recording.specs.declared.Reason.{Reason}
+use Rattle.recording.specs.declared.Reason.TheVariants.{Stored}
+use Rattle.std.proofs.Common.{eqb-true}
+use Rattle.settings.specs.Settings.{version_bytes, formed, words_in, kept_in}
 use Rattle.settings.proofs.Block.{has_form}
 
--- the rule of a version
-abbrev pub keeps : (S K : Type 0) → ℕ → (List ℕ → S) → (S → Bool) → (S → K) → K → List ℕ → K
-keeps S K n of rule known away block =
-    if not (formed n block) then away else
-    if not (rule (of (words_in n block))) then away else
-    known (of (words_in n block))
+module _ (S : Type 0) (n : ℕ) (of : List ℕ → S) (rule : S → Bool) (block : List ℕ) where
+  -- 18
+  abbrev away : Result S Reason
+  away = Err Stored
 
-module _ (S K : Type 0) (n : ℕ) (of : List ℕ → S) (rule : S → Bool) (known : S → K) (away : K) (block : List ℕ) where
+  abbrev known : S → Result S Reason
+  known s = Ok s
+
   -- ---- As the code tests it
 
   module _ (r : Bool) (tested : r ≡ formed n block) where
-    pub malformed : r ≡ false → away ≡ keeps S K n of rule known away block
-    malformed off = rw (sym tested ∙ off) refl
-
     module _ (on : r ≡ true) where
       -- the bodies lie within it
       pub within : (from : ℕ) → from ≡ version_bytes + table_bytes n → from + 4 * n ≤ length block
@@ -51,15 +51,15 @@ module _ (S K : Type 0) (n : ℕ) (of : List ℕ → S) (rule : S → Bool) (kno
         good_is : good ≡ rule (of (words_in n block))
         good_is = judged ∙ ap rule found_is
 
-        pub not_allowed : good ≡ false → away ≡ keeps S K n of rule known away block
+        pub not_allowed : good ≡ false → away ≡ kept_in n of rule block
         not_allowed off = rw (sym tested ∙ on, sym good_is ∙ off) refl
 
-        pub all_allowed : good ≡ true → known found ≡ keeps S K n of rule known away block
+        pub all_allowed : good ≡ true → known found ≡ kept_in n of rule block
         all_allowed so = ap known found_is ∙ rw (sym tested ∙ on, sym good_is ∙ so) refl
 
   -- ---- What was kept
 
-  pub is_known : formed n block ≡ true → rule (of (words_in n block)) ≡ true → keeps S K n of rule known away block ≡ known (of (words_in n block))
+  pub is_known : formed n block ≡ true → rule (of (words_in n block)) ≡ true → kept_in n of rule block ≡ known (of (words_in n block))
   is_known form good = rw (form, good) refl
 
   pub record Kept (s : S) : Type 0 where
@@ -67,12 +67,17 @@ module _ (S K : Type 0) (n : ℕ) (of : List ℕ → S) (rule : S → Bool) (kno
     pub good : rule (of (words_in n block)) ≡ true
     pub those : of (words_in n block) ≡ s
 
-  -- where settings are told from what turns a block away, and from others
-  pub tells : ((s : S) → away ≡ known s → ⊥) → ((s t : S) → known s ≡ known t → s ≡ t) → (s : S) → keeps S K n of rule known away block ≡ known s → Kept s
-  tells apart same s h = go (truth (formed n block)) (truth (rule (of (words_in n block))))
+  pub tells : (s : S) → kept_in n of rule block ≡ known s → Kept s
+  tells s h = go (truth (formed n block)) (truth (rule (of (words_in n block))))
     where
+      none : {A : Type 0} → away ≡ known s → A
+      none e = let never = eqb-true 0 1 (ap is_ok e) in absurd (omega arith)
+
+      those : Result S Reason → S
+      those (Ok t) = t
+      those (Err why) = s
+
       go : EitherWay (formed n block) → EitherWay (rule (of (words_in n block))) → Kept s
-      go (inl form) (inl good) =
-          record { form = form; good = good; those = same (of (words_in n block)) s (sym (is_known form good) ∙ h) }
-      go (inl form) (inr bad) = absurd (apart s (rw (form, bad) at h))
-      go (inr off) good = absurd (apart s (rw off at h))
+      go (inl form) (inl good) = record { form = form; good = good; those = ap those (sym (is_known form good) ∙ h) }
+      go (inl form) (inr bad) = none (rw (form, bad) at h)
+      go (inr off) good = none (rw off at h)

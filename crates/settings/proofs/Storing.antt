@@ -6,7 +6,7 @@ use mathlib.Core.Path.{◌≡◌, refl, sym, ap, ◌∙◌}
 use mathlib.Core.Bool.{Bool, true, false}
 use mathlib.Core.List.{List}
 use mathlib.Core.Logic.{inl, inr}
-use lib.ListN.{length, replicate}
+use lib.ListN.{length}
 use lib.Seq.{sets}
 use lib.Dec.{ltb}
 use borrow.Author.Tests.{lt-ltb, le-ltb, ltb-true, ltb-false}
@@ -16,7 +16,7 @@ use Rattle.recording.specs.Answers.{value}
 use Rattle.recording.specs.declared.Reason.{Reason}
 use Rattle.recording.specs.declared.Reason.TheVariants.{Workspace, Stored}
 use Rattle.std.specs.Prelude.{Ok, Err}
-use Rattle.settings.specs.Settings.{parts, block_of, block_bytes, Left, left, stored}
+use Rattle.settings.specs.Settings.{block_of, block_bytes, Left, left, stored}
 
 module _ (version n : ℕ) (ws room : List ℕ) (rule : Bool) (count : length ws ≡ n) where
   pub short_room : length room < block_bytes n → left (Err Workspace) room ≡ stored version ws rule room
@@ -35,12 +35,6 @@ module _ (version n : ℕ) (ws room : List ℕ) (rule : Bool) (count : length ws
     module _ (blank list : List ℕ) (size : length blank ≡ n) (kept : list ≡ sets blank 0 ws) where
       list_is : list ≡ ws
       list_is = kept ∙ stored_over blank ws (count ∙ sym size)
-
-      pub room_for_it : n ≤ parts → (lens : List ℕ) → lens ≡ replicate n 4
-          → (length list ≤ parts) × (block_bytes (length list) ≤ length room) × (lens ≡ replicate (length list) 4)
-      room_for_it few lens e =
-          let all : length list ≡ n = ap length list_is ∙ count in
-          (omega (arith, all), omega (arith, all, enough), e ∙ ap (λ (k : ℕ). replicate k 4) (sym all))
 
       pub written : good ≡ true → (after : List ℕ) → after ≡ sets room 0 (block_of version list)
           → left (Ok (block_bytes n)) after ≡ stored version ws rule room

@@ -7,11 +7,9 @@ use Rattle.std.specs.Float.{binary32}
 use Rattle.std.specs.Float.Ieee.{fits}
 use Rattle.wire.specs.Wire.{word_at, Below, bytes_to, words_to}
 use Rattle.recording.specs.declared.Reason.TheVariants.{Version}
-use Rattle.std.specs.Prelude.{Ok}
+use Rattle.std.specs.Prelude.{Ok, Err}
 use Rattle.settings.specs.declared.SettingsV1.{SettingsV1}
 use Rattle.settings.specs.declared.Settings.{Settings}
-use Rattle.settings.specs.declared.KeptV1.TheVariants.{KnownV1, TurnedAwayV1}
-use Rattle.settings.specs.declared.Kept.TheVariants.{Known}
 use Rattle.settings.specs.Settings.{parts_v1, parts, words_v1, words, settings_v1, settings, allowed_v1, allowed, version_bytes, block_of, block_bytes}
 use Rattle.settings.specs.Settings.{read_v1, with_held_run, read, left, read_to_v1, read_to, write_from_v1, write_from}
 
@@ -39,30 +37,30 @@ BlocksAreAsLong =
 
 -- reading what was written gives the settings back, of version 1 and of version 2
 abbrev pub WrittenIsReadV1 : Type 0
-WrittenIsReadV1 = (s : SettingsV1) → HoldsV1 s → allowed_v1 s ≡ true → read_v1 (block_of 1 (words_v1 s)) ≡ KnownV1 s
+WrittenIsReadV1 = (s : SettingsV1) → HoldsV1 s → allowed_v1 s ≡ true → read_v1 (block_of 1 (words_v1 s)) ≡ Ok s
 
 abbrev pub WrittenIsRead : Type 0
-WrittenIsRead = (s : Settings) → Holds s → allowed s ≡ true → read (block_of 2 (words s)) ≡ Known s
+WrittenIsRead = (s : Settings) → Holds s → allowed s ≡ true → read (block_of 2 (words s)) ≡ Ok s
 
 -- an accepted block, written again in its version, gives the same bytes
 abbrev pub ReadIsWrittenV1 : Type 0
-ReadIsWrittenV1 = (block : List ℕ) (s : SettingsV1) → Below bytes_to block → read_v1 block ≡ KnownV1 s → block_of 1 (words_v1 s) ≡ block
+ReadIsWrittenV1 = (block : List ℕ) (s : SettingsV1) → Below bytes_to block → read_v1 block ≡ Ok s → block_of 1 (words_v1 s) ≡ block
 
 abbrev pub ReadIsWritten : Type 0
 ReadIsWritten =
-    (block : List ℕ) (s : Settings) → Below bytes_to block → read block ≡ Known s
+    (block : List ℕ) (s : Settings) → Below bytes_to block → read block ≡ Ok s
     → (word_at block 0 ≡ 1 → block_of 1 (words_v1 s.first) ≡ block)
     × (word_at block 0 ≡ 2 → block_of 2 (words s) ≡ block)
 
 -- what is accepted is of version 1 or 2, and its settings are allowed
 abbrev pub AcceptedAreAllowed : Type 0
 AcceptedAreAllowed =
-    (block : List ℕ) (s : Settings) → read block ≡ Known s → ((word_at block 0 ≡ 1) ⊎ (word_at block 0 ≡ 2)) × (allowed s ≡ true)
+    (block : List ℕ) (s : Settings) → read block ≡ Ok s → ((word_at block 0 ≡ 1) ⊎ (word_at block 0 ≡ 2)) × (allowed s ≡ true)
 
 -- so "there is just one block for each version and list of settings"
 abbrev pub JustOneBlock : Type 0
 JustOneBlock =
-    (block other : List ℕ) (s : Settings) → Below bytes_to block → Below bytes_to other → read block ≡ Known s → read other ≡ Known s
+    (block other : List ℕ) (s : Settings) → Below bytes_to block → Below bytes_to other → read block ≡ Ok s → read other ≡ Ok s
     → word_at block 0 ≡ word_at other 0 → block ≡ other
 
 -- the words of an interface come back as they were given, where the settings are allowed: none of them is a NaN
@@ -80,7 +78,7 @@ FirstWithHeldRun = (block : List ℕ) → word_at block 0 ≡ 1 → read block �
 -- the version 1 reader accepts no block of another version
 abbrev pub FirstAlone : Type 0
 FirstAlone =
-    (block : List ℕ) → version_bytes ≤ length block → (word_at block 0 ≡ 1 → ⊥) → read_v1 block ≡ TurnedAwayV1 Version
+    (block : List ℕ) → version_bytes ≤ length block → (word_at block 0 ≡ 1 → ⊥) → read_v1 block ≡ Err Version
 
 -- ---- Of the calls that take and give words
 

@@ -1,13 +1,11 @@
 -- Blocks by hand: the words of one of either version, place by place, and what the two readers give for blocks that are whole, cut, made
 -- longer or changed, one statement for all, which the checker computes.
-use Rattle.std.specs.Prelude.{ℕ, ◌≡◌, refl, List, [], ◌∷◌, ◌++◌, map, take}
+use Rattle.std.specs.Prelude.{ℕ, ◌≡◌, refl, List, [], ◌∷◌, ◌++◌, map, take, Result, Ok, Err}
 use Rattle.std.specs.Float.Ieee.{lt, is_nan}
 use Rattle.recording.specs.Answers.{reason_number}
 use Rattle.wire.specs.Wire.{encoded}
-use Rattle.settings.specs.declared.KeptV1.{KeptV1}
-use Rattle.settings.specs.declared.KeptV1.TheVariants.{KnownV1, TurnedAwayV1}
-use Rattle.settings.specs.declared.Kept.{Kept}
-use Rattle.settings.specs.declared.Kept.TheVariants.{Known, TurnedAway}
+use Rattle.recording.specs.declared.Reason.{Reason}
+use Rattle.settings.specs.declared.Settings.{Settings}
 use Rattle.settings.specs.Settings.{block_of, read_v1, read}
 
 -- threshold 3/4, sensitivity 1/2, strength 1/4, 8 bits, 1 ms, 48,000 a second; and a held run of 16 words
@@ -34,13 +32,9 @@ unfolding block_of encoded
 lowest_first = refl
 
 -- what a reader gives: 0 for settings, and else the number of the refusal
-abbrev pub number_v1 : KeptV1 → ℕ
-number_v1 (KnownV1 s) = 0
-number_v1 (TurnedAwayV1 why) = reason_number why
-
-abbrev pub number : Kept → ℕ
-number (Known s) = 0
-number (TurnedAway why) = reason_number why
+abbrev pub number : {S : Type 0} → Result S Reason → ℕ
+number (Ok s) = 0
+number (Err why) = reason_number why
 
 -- a block, and what the version 1 reader and the new one give
 pub record Row : Type 0 where
@@ -92,15 +86,15 @@ rows =
     ∷ row (block_of 2 (six ++ (4097 ∷ []))) 17 18
     ∷ []
 
-pub rows_hold : (map (λ (r : Row). number_v1 (read_v1 r.block)) rows ≡ map (λ (r : Row). r.old) rows)
+pub rows_hold : (map (λ (r : Row). number (read_v1 r.block)) rows ≡ map (λ (r : Row). r.old) rows)
     × (map (λ (r : Row). number (read r.block)) rows ≡ map (λ (r : Row). r.new) rows)
 unfolding read_v1 read block_of encoded lt is_nan
 rows_hold = (refl, refl)
 
 -- the version 1 block through the new reader: its six, and 16
-abbrev pub held_of : Kept → ℕ
-held_of (Known s) = s.held
-held_of (TurnedAway why) = 0
+abbrev pub held_of : Result Settings Reason → ℕ
+held_of (Ok s) = s.held
+held_of (Err why) = 0
 
 pub given_sixteen : held_of (read (block_of 1 six)) ≡ 16
 unfolding read block_of encoded lt is_nan

@@ -1,3 +1,4 @@
 pub mod Settings
+pub mod Counts
 pub mod Consequences
 pub mod Examples

@@ -8,19 +8,16 @@ use Rattle.leaves.specs.Arithmetic.{float}
 use Rattle.std.specs.Prelude.{if◌then◌else◌}
 use Rattle.wire.specs.Wire.{word_at, decoded, bytes_of}
 use Rattle.contents.specs.Contents.{table_bytes, filed, lengths_in, lengths_from, laid_out}
+use Rattle.recording.specs.declared.Reason.{Reason}
 use Rattle.recording.specs.declared.Reason.TheVariants.{Workspace, Version, Stored}
 use Rattle.recording.specs.Answer.{Answer}
-use Rattle.std.specs.Prelude.{Ok, Err}
+use Rattle.std.specs.Prelude.{Result, Ok, Err}
 use Rattle.inpaint.specs.Auto as scan
 use Rattle.declip.specs.Declip as declip
 use Rattle.decrackle.specs.Decrackle as decrackle
 use Rattle.dequant.specs.Dequant as dequant
 use Rattle.settings.specs.declared.SettingsV1.{SettingsV1}
 use Rattle.settings.specs.declared.Settings.{Settings}
-use Rattle.settings.specs.declared.KeptV1.{KeptV1}
-use Rattle.settings.specs.declared.KeptV1.TheVariants.{KnownV1, TurnedAwayV1}
-use Rattle.settings.specs.declared.Kept.{Kept}
-use Rattle.settings.specs.declared.Kept.TheVariants.{Known, TurnedAway}
 
 -- ---- The settings
 
@@ -108,44 +105,49 @@ words_in n block = decoded block (version_bytes + table_bytes n) n
 
 -- ---- Reading: "17, unknown version; 18, malformed, a missing version included, or a setting not allowed .., in that order"
 
+-- what a block of n settings keeps: the settings that its words stand for, where they are allowed
+abbrev pub kept_in : {S : Type 0} → ℕ → (List ℕ → S) → (S → Bool) → List ℕ → Result S Reason
+kept_in n of rule block =
+    if not (formed n block) then Err Stored else
+    if not (rule (of (words_in n block))) then Err Stored else
+    Ok (of (words_in n block))
+
 -- a block of version 1
-unfoldable pub of_first : List ℕ → KeptV1
+unfoldable pub of_first : List ℕ → Result SettingsV1 Reason
 unfolding formed settings_v1 decoded allowed_v1
-of_first block =
-    if not (formed parts_v1 block) then TurnedAwayV1 Stored else
-    if not (allowed_v1 (settings_v1 (words_in parts_v1 block))) then TurnedAwayV1 Stored else
-    KnownV1 (settings_v1 (words_in parts_v1 block))
+of_first block = kept_in parts_v1 settings_v1 allowed_v1 block
 
 -- a block of version 2
-unfoldable pub of_second : List ℕ → Kept
+unfoldable pub of_second : List ℕ → Result Settings Reason
 unfolding formed settings decoded allowed
-of_second block =
-    if not (formed parts block) then TurnedAway Stored else
-    if not (allowed (settings (words_in parts block))) then TurnedAway Stored else
-    Known (settings (words_in parts block))
+of_second block = kept_in parts settings allowed block
+
+-- what a reader gives of a block that has a version, and of any other
+abbrev pub with_version : {S : Type 0} → List ℕ → Result S Reason → Result S Reason
+with_version block rest = if ltb (length block) version_bytes then Err Stored else rest
 
 -- "A version 1 reader turns a version 2 block away as such and shows none of it." Where there is no version, there is none that could be
 -- unknown.
-unfoldable pub read_v1 : List ℕ → KeptV1
+unfoldable pub read_v1 : List ℕ → Result SettingsV1 Reason
 unfolding word_at of_first
 read_v1 block =
-    if ltb (length block) version_bytes then TurnedAwayV1 Stored else
+    with_version block (
     if eqb (word_at block 0) 1 then of_first block else
-    TurnedAwayV1 Version
+    Err Version)
 
 -- "The new reader gives a version 1 block the run length 16."
-abbrev pub with_held_run : KeptV1 → Kept
-with_held_run (KnownV1 s) = Known (record { first = s; held = scan.held_run })
-with_held_run (TurnedAwayV1 why) = TurnedAway why
+abbrev pub with_held_run : Result SettingsV1 Reason → Result Settings Reason
+with_held_run (Ok s) = Ok (record { first = s; held = scan.held_run })
+with_held_run (Err why) = Err why
 
 -- it knows both versions
-unfoldable pub read : List ℕ → Kept
+unfoldable pub read : List ℕ → Result Settings Reason
 unfolding word_at of_first of_second
 read block =
-    if ltb (length block) version_bytes then TurnedAway Stored else
+    with_version block (
     if eqb (word_at block 0) 1 then with_held_run (of_first block) else
     if eqb (word_at block 0) 2 then of_second block else
-    TurnedAway Version
+    Err Version)
 
 -- ---- Writing, with room for a block; and settings as words, as the interface has them: "Where a reader's area for settings, a writer's
 -- settings or its room for the block is too short: 6, before all else; longer ones are used as far as needed."
@@ -173,30 +175,30 @@ unfoldable pub write : Settings → List ℕ → Left
 unfolding words allowed block_of
 write s room = stored 2 (words s) (allowed s) room
 
--- a reader's area
+-- a reader's area, for what it gives, n settings that are these words
+abbrev pub laid_in : {S : Type 0} → ℕ → (S → List ℕ) → Result S Reason → List ℕ → Left
+laid_in n words_are (Ok s) area = left (Ok n) (sets area 0 (words_are s))
+laid_in n words_are (Err why) area = left (Err why) area
+
+abbrev pub read_into : {S : Type 0} → ℕ → (S → List ℕ) → Result S Reason → List ℕ → Left
+read_into n words_are kept area = if ltb (length area) n then left (Err Workspace) area else laid_in n words_are kept area
+
 unfoldable pub read_to_v1 : List ℕ → List ℕ → Left
 unfolding read_v1 words_v1
-read_to_v1 block area =
-    if ltb (length area) parts_v1 then left (Err Workspace) area else
-    elim (read_v1 block) [
-      | KnownV1 s ↦ left (Ok parts_v1) (sets area 0 (words_v1 s))
-      | TurnedAwayV1 why ↦ left (Err why) area
-    ]
+read_to_v1 block area = read_into parts_v1 words_v1 (read_v1 block) area
 
 unfoldable pub read_to : List ℕ → List ℕ → Left
 unfolding read words
-read_to block area =
-    if ltb (length area) parts then left (Err Workspace) area else
-    elim (read block) [
-      | Known s ↦ left (Ok parts) (sets area 0 (words s))
-      | TurnedAway why ↦ left (Err why) area
-    ]
+read_to block area = read_into parts words (read block) area
 
--- a writer's settings
+-- a writer's settings, n of them, where the writer leaves this
+abbrev pub from_words : ℕ → List ℕ → List ℕ → Left → Left
+from_words n ws room rest = if ltb (length ws) n then left (Err Workspace) room else rest
+
 unfoldable pub write_from_v1 : List ℕ → List ℕ → Left
 unfolding settings_v1 write_v1
-write_from_v1 ws room = if ltb (length ws) parts_v1 then left (Err Workspace) room else write_v1 (settings_v1 ws) room
+write_from_v1 ws room = from_words parts_v1 ws room (write_v1 (settings_v1 ws) room)
 
 unfoldable pub write_from : List ℕ → List ℕ → Left
 unfolding settings write
-write_from ws room = if ltb (length ws) parts then left (Err Workspace) room else write (settings ws) room
+write_from ws room = from_words parts ws room (write (settings ws) room)

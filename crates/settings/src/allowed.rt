@@ -6,29 +6,21 @@ use super::{Settings, SettingsV1};
 use declip::threshold_allowed;
 use inpaint::auto::{held_allowed, settings_allowed};
 
-// Whether the settings of version 1 are allowed. Of sensitivity and strength only a NaN is not, which alone
-// differs from itself; bits may be any.
+// Whether the settings of version 1 are allowed. Of sensitivity and strength only a NaN is not; bits may be any.
+#[tactic(auto, unfolding(crate::specs::Settings::allowed_v1))]
 pub fn allowed_v1(settings: SettingsV1) -> bool
     ensures { result ≡ allowed_v1 settings }
 {
-    if !threshold_allowed(settings.threshold) {
-        return false;
-    }
-    if settings.sensitivity != settings.sensitivity {
-        return false;
-    }
-    if settings.strength != settings.strength {
-        return false;
-    }
-    settings_allowed(settings.rate, settings.longest)
+    threshold_allowed(settings.threshold)
+        && !settings.sensitivity.is_nan()
+        && !settings.strength.is_nan()
+        && settings_allowed(settings.rate, settings.longest)
 }
 
 // Whether those of version 2 are, which has the held run's length beside them.
+#[tactic(auto, unfolding(crate::specs::Settings::allowed))]
 pub fn allowed(settings: Settings) -> bool
     ensures { result ≡ allowed settings }
 {
-    if !allowed_v1(settings.first) {
-        return false;
-    }
-    held_allowed(settings.held)
+    allowed_v1(settings.first) && held_allowed(settings.held)
 }

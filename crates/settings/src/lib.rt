@@ -4,10 +4,9 @@
 
 pub mod allowed;
 pub mod read;
+pub mod stored;
 pub mod words;
 pub mod write;
-
-use recording::Reason;
 
 // How many settings a block of version 1 has, and one of version 2.
 pub const SETTINGS_V1: usize = 6;
@@ -48,18 +47,4 @@ pub struct SettingsV1 {
 pub struct Settings {
     pub first: SettingsV1,
     pub held: u32,
-}
-
-// What a version 1 reader gives: settings, or why the block is turned away.
-#[derive(Clone, Copy)]
-pub enum KeptV1 {
-    KnownV1(SettingsV1),
-    TurnedAwayV1(Reason),
-}
-
-// What the new reader gives, likewise.
-#[derive(Clone, Copy)]
-pub enum Kept {
-    Known(Settings),
-    TurnedAway(Reason),
 }

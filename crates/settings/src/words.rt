@@ -20,6 +20,7 @@ pub fn store_v1(area: &mut [u32], settings: SettingsV1)
 }
 
 // Stores those of version 2: the held run's length behind the others.
+#[tactic(auto, unfolding(crate::specs::Settings::words, crate::specs::Settings::words_v1))]
 pub fn store(area: &mut [u32], settings: Settings)
     requires { parts ≤ length area.old }
     ensures { area.new ≡ sets area.old 0 (words settings) }
@@ -44,6 +45,7 @@ pub fn settings_v1(words: &[u32]) -> SettingsV1
 }
 
 // Those of version 2.
+#[tactic(auto, unfolding(crate::specs::Settings::settings))]
 pub fn settings(words: &[u32]) -> Settings
     requires { parts ≤ length words.now }
     ensures { result ≡ settings words.now }

@@ -5,7 +5,7 @@ use mathlib.Core.Bool.{true, false, not, ◌||◌}
 use mathlib.Core.List.{List, [], ◌∷◌}
 use Prim.Native.Nat.{ℕ, zero, suc, ◌+◌, ◌≤◌, ◌<◌}
 use native.Mathlib.Omega.{arith}
-use borrow.Author.Tests.{lt-ltb, le-ltb, eq-eqb, ne_eqb, eqb-true, not-false}
+use borrow.Author.Tests.{eqb-true, not-false}
 use lib.ListN.{length, get_or, set, drop, drop_of_length-le}
 use lib.Seq.{sets}
 use lib.Dec.{ltb, eqb}
@@ -25,25 +25,6 @@ use Rattle.splice.specs.Several.{spans, AnswerLists, answer_lists, lengths_wrong
 use Rattle.splice.specs.Several.{in_turn, gaps_repair}
 
 -- ---- The lists
-
-module _ (starts lens numbers values orders : ℕ) where
-  pub too_many : 64 < starts → true ≡ lengths_wrong starts lens numbers values orders
-  too_many h = rw (lt-ltb 64 starts h) refl
-
-  module _ (few : starts ≤ 64) where
-    pub lens_differ : (lens ≡ starts → ⊥) → true ≡ lengths_wrong starts lens numbers values orders
-    lens_differ h = rw (le-ltb 64 starts few, ne_eqb lens starts h) refl
-
-    module _ (l : lens ≡ starts) where
-      pub numbers_differ : (numbers ≡ starts → ⊥) → true ≡ lengths_wrong starts lens numbers values orders
-      numbers_differ h = rw (le-ltb 64 starts few, eq-eqb lens starts l, ne_eqb numbers starts h) refl
-
-      module _ (n : numbers ≡ starts) where
-        pub values_differ : (values ≡ starts → ⊥) → true ≡ lengths_wrong starts lens numbers values orders
-        values_differ h = rw (le-ltb 64 starts few, eq-eqb lens starts l, eq-eqb numbers starts n, ne_eqb values starts h) refl
-
-        pub orders_tell : values ≡ starts → not (eqb orders starts) ≡ lengths_wrong starts lens numbers values orders
-        orders_tell v = rw (le-ltb 64 starts few, eq-eqb lens starts l, eq-eqb numbers starts n, eq-eqb values starts v) refl
 
 -- lists that are not turned away are as long as the starts
 pub record AsLong (starts lens numbers values orders : ℕ) : Type 0 where

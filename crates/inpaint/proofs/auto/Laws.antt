@@ -1,5 +1,5 @@
 -- The scan for dropouts: its settings, its limit and its refusals, and the scan run by run. Assumes nothing.
-use Rattle.std.proofs.Common.{◌≡◌, ℕ, zero, suc, ◌+◌, ◌-◌, ◌*◌, ◌/◌, ◌<◌, ◌≤◌, min, Bool, true, false, cond, not, ◌&&◌, T, eqb, leb, List, length, replicate, pos, sym, refl, ap, ◌∙◌, subst, inl, inr, true≢false, le-div_iff_mul-le, add-zero, arith, ltb-false, le-ltb, lt-ltb, eq-eqb, ne_eqb, le-leb, leb-true}
+use Rattle.std.proofs.Common.{◌≡◌, ℕ, zero, suc, ◌+◌, ◌-◌, ◌*◌, ◌/◌, ◌<◌, ◌≤◌, min, Bool, true, false, cond, not, ◌&&◌, T, eqb, leb, List, length, replicate, pos, sym, refl, ap, ◌∙◌, subst, inl, inr, true≢false, le-div_iff_mul-le, add-zero, arith, ltb-false, le-ltb, lt-ltb, ne_eqb, le-leb, leb-true}
 use mathlib.Core.Bool.{false≢true}
 use lib.Seq.{sets}
 use lib.Ieee.{Float, nan, inf, fin, binary32, up, down, neg, div, mul, lt, eq, ne, to_unsigned, of_bits, of_int}
@@ -82,20 +82,6 @@ limit_between rate ms r h = rw (le-leb rate 16777216 r, plus_infinity) (between 
 
 pub limit_beyond : (rate : ℕ) (ms : Float) → rate ≤ 16777216 → lt ms unbounded ≡ false → false ≡ allowed rate ms
 limit_beyond rate ms r h = rw (le-leb rate 16777216 r) (beyond ms (rw plus_infinity at h))
-
--- how many words are held, from the least to the most
-pub held_few : (held : ℕ) → held < 2 → false ≡ held_allowed held
-held_few held h = rw (lt-leb 2 held h) refl
-
-pub held_most : (held : ℕ) → 2 ≤ held → leb held 4096 ≡ held_allowed held
-held_most held h = rw (le-leb 2 held h) refl
-
--- both settings together
-pub first_fails : (a b p : Bool) → a ≡ p → a ≡ false → false ≡ p && b
-first_fails a b p e h = rw (← e, h) refl
-
-pub second_decides : (a b p : Bool) → a ≡ p → a ≡ true → b ≡ p && b
-second_decides a b p e h = rw (← e, h) refl
 
 -- ---- a float cut to a whole number
 

@@ -1,10 +1,9 @@
 -- Dropout runs: what the code's tests tell of a word and of a run, the search for a run place by place, and what a run that is found is. Assumes
 -- nothing.
-use Rattle.std.proofs.Common.{◌≡◌, ℕ, zero, suc, ◌+◌, ◌-◌, ◌<◌, ◌≤◌, Bool, true, false, not, ◌&&◌, ◌||◌, eqb, ltb, leb, ◌⊎◌, List, length, get_or, sym, refl, ap, ◌∙◌, subst, inl, inr, true≢false, arith, ltb-true, le-ltb, lt-ltb, eq-eqb, ne_eqb, eqb-true, le-leb, leb-true}
+use Rattle.std.proofs.Common.{◌≡◌, ℕ, zero, suc, ◌+◌, ◌-◌, ◌<◌, ◌≤◌, Bool, true, false, not, ◌&&◌, ◌||◌, eqb, ltb, leb, ◌⊎◌, List, length, get_or, sym, refl, ap, ◌∙◌, subst, inl, inr, true≢false, arith, ltb-true, eq-eqb, ne_eqb, eqb-true, leb-true}
 use mathlib.Core.Bool.{and-false, or-false}
 use native.Mathlib.Decide.{ℕ_discrete}
 use lib.Ieee.{Float, binary32, eq, ne, is_nan, of_bits}
-use borrow.Author.Tests.{lt-leb}
 use Rattle.leaves.specs.Arithmetic.{nought, float}
 use Rattle.leaves.specs.Floats.{in_range}
 use Rattle.leaves.proofs.words.Laws.{nan_test, one_nan}
@@ -77,15 +76,6 @@ module _ (v w : ℕ) where
   unfolding continues
   continues_held h e = rw (h, eq-eqb v w e) refl
 
--- ---- where a run begins
-
-module _ (samples : List ℕ) (from i : ℕ) where
-  pub begins_first : i ≡ from → true ≡ run_begins samples from i
-  begins_first e = rw (eq-eqb i from e) refl
-
-  pub begins_after : (b : Bool) → (i ≡ from → ⊥) → b ≡ continues_at samples i → not b ≡ run_begins samples from i
-  begins_after b n e = rw (ne_eqb i from n, e) refl
-
 -- ---- whether a run is long enough, and its gap allowed
 
 module _ (held w len : ℕ) where
@@ -137,16 +127,6 @@ kind_of held w len h = go (truth (zero_or_nan w)) (truth (holdable w))
           enough = leb-true held len (enough_held held w len z k ∙ h);
         }
     go (inr z) (inr k) = both h (sym (enough_other held w len z k))
-
-module _ (n most start len : ℕ) where
-  pub gap_long : most < len → false ≡ gap_allowed n most start len
-  gap_long h = rw (lt-leb len most h) refl
-
-  pub gap_first : len ≤ most → start ≡ 0 → false ≡ gap_allowed n most start len
-  gap_first a h = rw (le-leb len most a, le-ltb 0 start (omega arith)) refl
-
-  pub gap_end : len ≤ most → (start ≡ 0 → ⊥) → ltb (start + len) n ≡ gap_allowed n most start len
-  gap_end a h = rw (le-leb len most a, lt-ltb 0 start (omega arith)) refl
 
 module _ (n most held w i len : ℕ) where
   pub qualifies_short : long_enough held w len ≡ false → false ≡ qualifies n most held w i len

@@ -12,7 +12,6 @@ use Rattle.model.specs.Model.{most_window, order_for, filled, solved, doubles_fo
 use Rattle.model.specs.Order.{model_order}
 use Rattle.model.specs.Areas.{area, Only, Laid, results_at}
 use Rattle.recording.specs.Recording.{State, Ended, ended, span, ranged}
-use Rattle.recording.specs.declared.Reason.{Reason}
 use Rattle.recording.specs.declared.Reason.TheVariants.{Result}
 use Rattle.recording.specs.Answer.{Answer}
 use Rattle.std.specs.Prelude.{Ok, Err}

@@ -1,6 +1,6 @@
 -- The repair of one gap, line by line of its plan: the tests that failed before, the test that holds, and what the plan
 -- is then; and what each way out leaves in the workspace. Assumes nothing.
-use Rattle.std.proofs.Common.{◌≡◌, ℕ, ◌+◌, ◌<◌, ◌≤◌, Bool, true, false, ltb, List, length, replicate, sym, refl, ap, ◌∙◌, inl, inr, arith, le-ltb, lt-ltb}
+use Rattle.std.proofs.Common.{◌≡◌, ℕ, ◌+◌, ◌<◌, ◌≤◌, Bool, true, false, ltb, List, length, replicate, sym, refl, ap, ◌∙◌, inl, inr, le-ltb, lt-ltb}
 use lib.Seq.{sets}
 use lib.Ieee.{Float, binary64, of_bits}
 use Rattle.leaves.specs.Arithmetic.{nought}

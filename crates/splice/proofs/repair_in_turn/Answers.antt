@@ -1,6 +1,6 @@
 -- `splice::repair_in_turn` meets its contract. The loop's invariant: the spans from here on, with their answers stored from here
 -- on, give the whole. Assumes nothing.
-use Prim.Native.Nat.{◌≤◌, ◌<◌}
+use Prim.Native.Nat.{◌≤◌}
 use mathlib.Core.Path.{refl, ap, ◌∙◌}
 use Rattle.recording.specs.Answers.{number, value}
 use native.Mathlib.Omega.{arith}

@@ -10,7 +10,7 @@ use Rattle.inpaint.specs.Gap.{gap_repair}
 use Rattle.recording.specs.Lent.{held}
 use Rattle.inpaint.specs.Filled.{answer_of}
 use Rattle.inpaint.specs.Auto.{refused_number}
-use Rattle.inpaint.proofs.auto.Laws.{accepted_counts, accepted_keeps, refused_counts, refused_first, scan_stops, scan_turn}
+use Rattle.inpaint.proofs.auto.Laws.{accepted_keeps, refused_counts, refused_first, scan_stops, scan_turn}
 use Rattle.inpaint.proofs.auto.Runs.{found_within}
 use Rattle.inpaint.proofs.Orders.{orders_none, orders_turn}
 use Rattle.inpaint.proofs.Scans.{repair_leaves}

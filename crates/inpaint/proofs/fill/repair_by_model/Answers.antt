@@ -7,7 +7,7 @@ use Rattle.recording.specs.Recording.{ranged, span}
 use Rattle.recording.specs.Lent.{held}
 use Rattle.recording.proofs.commit.Laws.{carried_out}
 use Rattle.inpaint.proofs.Entered.{entry_refused, entry_written}
-use Rattle.inpaint.proofs.fill.Laws.{length_model, Modelled, widen_room, laid, modelled, modelled_order, small_order, fill_count}
+use Rattle.inpaint.proofs.fill.Laws.{length_model, Modelled, widen_room, laid, modelled, modelled_order, small_order}
 use Rattle.inpaint.proofs.fill.Laws.{model_written, handed_on, by_model_order}
 use Rattle.inpaint.proofs.fill.repair_by_model.Goals as goal
 

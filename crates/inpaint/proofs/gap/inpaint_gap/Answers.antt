@@ -1,7 +1,6 @@
 -- `inpaint::gap::inpaint_gap` meets its contract: each way out is a line of the plan, leaves the workspace as the rule says,
 -- and has the order beside it. Assumes nothing.
 use Rattle.std.proofs.Common.{◌≡◌, ◌≤◌, false, length, sym, refl, ap, ◌∙◌, arith}
-use Rattle.std.specs.Prelude.{Err}
 use Rattle.std.proofs.lemmas.Result.{err_from_is_err_and}
 use Rattle.leaves.specs.Arithmetic.{nought}
 use Rattle.recording.specs.Recording.{work_after}

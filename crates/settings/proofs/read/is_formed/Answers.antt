@@ -1,5 +1,4 @@
--- `settings::read::is_formed` meets its contract. The loop's invariant: the lengths that are left decide. The measure is how many these
--- are. Assumes nothing.
+-- `settings::read::is_formed` meets its contract: each turn looks at one length more. Assumes nothing.
 use Prim.Native.Nat.{ℕ, suc, ◌+◌, ◌≤◌, ◌<◌}
 use native.Mathlib.Omega.{arith}
 use mathlib.Core.Path.{◌≡◌, refl, sym, ap, ◌∙◌}
@@ -7,11 +6,11 @@ use mathlib.Core.Bool.{Bool, true, false}
 use mathlib.Core.List.{List, ◌∷◌}
 use lib.ListN.{length, get_or, drop, drop_of_length-le}
 use lib.Seq.{drop-cons}
-use borrow.Author.Tests.{eq-eqb, ne_eqb, not-true, not-false}
+use borrow.Author.Tests.{eq-eqb, ne_eqb}
 use Rattle.contents.specs.Contents.{table_bytes, lengths_in, laid_out}
 use Rattle.contents.proofs.Rows.{length_lengths, laid_out_lem}
 use Rattle.settings.specs.Settings.{version_bytes, one_word_each, formed}
-use Rattle.std.proofs.Common.{ap, not}
+use Rattle.std.proofs.Common.{ap}
 use Rattle.settings.proofs.read.is_formed.Goals as goal
 
 module _ (n : ℕ) (block : List ℕ) (r : Bool) (tested : r ≡ laid_out version_bytes n block) where
@@ -56,29 +55,25 @@ none_left : (n k : ℕ) (block : List ℕ) → n ≤ k → length (lengths_in ve
 none_left n k block h = let count = length_lengths block (version_bytes + 4) n in omega (arith, count)
 
 pub returns-then-not-is_laid_out : goal.returns-then-not-is_laid_out
-returns-then-not-is_laid_out c = no_table _ _ _ c.is_laid_out.ensures (not-true _ (ap not c.if-not-is_laid_out.true))
+returns-then-not-is_laid_out c = no_table _ _ _ c.is_laid_out.ensures c.if-not-is_laid_out.true
 
 pub loop-k-init : goal.loop-k-init
 loop-k-init c =
-    let on = not-false _ (ap not c.if-not-is_laid_out.false) in
-    (omega arith, sym c.is_laid_out.ensures ∙ on, a_table _ _ _ c.is_laid_out.ensures on)
+    let on = c.if-not-is_laid_out.false in
+    (sym c.is_laid_out.ensures ∙ on, a_table _ _ _ c.is_laid_out.ensures on)
 
 pub length_of-requires : goal.length_of-requires
-length_of-requires c = (c.loop-k-test.true, has_table _ _ c.loop-k.invariant.1)
+length_of-requires c = (c.loop-k-test.true, has_table _ _ c.loop-k.invariant.0)
 
 pub returns-then-length_of-ne4 : goal.returns-then-length_of-ne4
 returns-then-length_of-ne4 c =
-    another_length _ _ _ _ (some_left _ _ _ c.loop-k-test.true) c.length_of.ensures c.loop-k.invariant.2 c.if-length_of-ne4.true
-
-pub loop-k-smaller : goal.loop-k-smaller
-loop-k-smaller c = omega arith
+    another_length _ _ _ _ (some_left _ _ _ c.loop-k-test.true) c.length_of.ensures c.loop-k.invariant.1 c.if-length_of-ne4.true
 
 pub loop-k-preserved : goal.loop-k-preserved
 loop-k-preserved c = (
-  omega arith,
-  c.loop-k.invariant.1,
-  one_word _ _ _ _ (some_left _ _ _ c.loop-k-test.true) c.length_of.ensures c.loop-k.invariant.2 c.if-length_of-ne4.false,
+  c.loop-k.invariant.0,
+  one_word _ _ _ _ (some_left _ _ _ c.loop-k-test.true) c.length_of.ensures c.loop-k.invariant.1 c.if-length_of-ne4.false,
 )
 
 pub returns : goal.returns
-returns c = all_looked_at _ _ _ (none_left _ _ _ c.loop-k-test.false) c.loop-k.invariant.2
+returns c = all_looked_at _ _ _ (none_left _ _ _ c.loop-k-test.false) c.loop-k.invariant.1

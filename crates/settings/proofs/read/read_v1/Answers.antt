@@ -6,22 +6,23 @@ use lib.ListN.{length}
 use borrow.Author.Tests.{lt-ltb, le-ltb, eq-eqb, ne_eqb}
 use Rattle.wire.specs.Wire.{word_at}
 use Rattle.recording.specs.declared.Reason.TheVariants.{Version, Stored}
-use Rattle.settings.specs.declared.KeptV1.{KeptV1}
-use Rattle.settings.specs.declared.KeptV1.TheVariants.{TurnedAwayV1}
-use Rattle.settings.specs.Settings.{version_bytes, of_first, read_v1}
+use Rattle.recording.specs.declared.Reason.{Reason}
+use Rattle.std.specs.Prelude.{Result, Err}
+use Rattle.settings.specs.declared.SettingsV1.{SettingsV1}
+use Rattle.settings.specs.Settings.{parts_v1, settings_v1, allowed_v1, kept_in, version_bytes, of_first, read_v1}
 use Rattle.settings.proofs.read.read_v1.Goals as goal
 
-no_version : (block : List ℕ) → length block < version_bytes → TurnedAwayV1 Stored ≡ read_v1 block
+no_version : (block : List ℕ) → length block < version_bytes → Err Stored ≡ read_v1 block
 unfolding read_v1
 no_version block short = rw (lt-ltb (length block) version_bytes short) refl
 
 module _ (block : List ℕ) (long : version_bytes ≤ length block) (version : ℕ) (is : version ≡ word_at block 0) where
-  another : (version ≡ 1 → ⊥) → TurnedAwayV1 Version ≡ read_v1 block
+  another : (version ≡ 1 → ⊥) → Err Version ≡ read_v1 block
   unfolding read_v1
   another other = rw (le-ltb (length block) version_bytes long, ← is, ne_eqb version 1 other) refl
 
-  the_first : version ≡ 1 → (k : KeptV1) → k ≡ of_first block → k ≡ read_v1 block
-  unfolding read_v1
+  the_first : version ≡ 1 → (k : Result SettingsV1 Reason) → k ≡ kept_in parts_v1 settings_v1 allowed_v1 block → k ≡ read_v1 block
+  unfolding read_v1 of_first
   the_first same k e = e ∙ rw (le-ltb (length block) version_bytes long, ← is, eq-eqb version 1 same) refl
 
 pub returns-then-block-lt-VERSION_BYTES : goal.returns-then-block-lt-VERSION_BYTES
@@ -31,4 +32,4 @@ pub returns-then-word_at-ne-FIRST_VERSION : goal.returns-then-word_at-ne-FIRST_V
 returns-then-word_at-ne-FIRST_VERSION c = another _ c.if-block-lt-VERSION_BYTES.false _ c.word_at.ensures c.if-word_at-ne-FIRST_VERSION.true
 
 pub returns : goal.returns
-returns c = the_first _ c.if-block-lt-VERSION_BYTES.false _ c.word_at.ensures c.if-word_at-ne-FIRST_VERSION.false _ c.of_first.ensures
+returns c = the_first _ c.if-block-lt-VERSION_BYTES.false _ c.word_at.ensures c.if-word_at-ne-FIRST_VERSION.false _ c.of_block.ensures

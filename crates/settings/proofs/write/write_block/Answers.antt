@@ -1,9 +1,8 @@
--- `settings::write::write_block` meets its contract. The loop's invariant: storing the words that are left gives the whole. The measure is
--- how many these are. Assumes nothing.
+-- `settings::write::write_block` meets its contract: each turn stores one word more. Assumes nothing.
 use Prim.Native.Nat.{ℕ, suc, ◌+◌, ◌*◌, ◌≤◌, ◌<◌}
 use native.Mathlib.Omega.{arith}
-use native.Mathlib.Nat.{add-zero, zero-add}
-use mathlib.Core.Path.{◌≡◌, refl, sym, ap, subst, ◌∙◌}
+use native.Mathlib.Nat.{zero-add}
+use mathlib.Core.Path.{◌≡◌, sym, ap, subst, ◌∙◌}
 use mathlib.Core.List.{List, ◌∷◌, ◌++◌, map, flatten, append_assoc}
 use lib.ListN.{length, get_or, drop, drop_of_length-le, replicate, length-append, length-replicate}
 use lib.Seq.{sets, length-sets, drop-cons}
@@ -107,28 +106,10 @@ write_table-requires c =
     table_fits c.args.words.now c.args.lens.now c.requires.0 c.requires.2 c.store_word.new.bytes
     (subst (λ (n : ℕ). block_bytes (length c.args.words.now) ≤ n) (sym long) c.requires.1)
 
-pub loop-k-init : goal.loop-k-init
-loop-k-init c = (omega arith, refl, simp add-zero refl)
-
-pub loop-k-smaller : goal.loop-k-smaller
-loop-k-smaller c = omega arith
-
 pub loop-k-preserved : goal.loop-k-preserved
-loop-k-preserved c =
-    let more = c.loop-k-test.true in
-    let stored = c.store_word-in-loop-k.ensures in (
-      omega arith,
-      as_long c.loop-k.room _ (bytes_of (get_or c.args.words.now c.loop-k.k 0)) _ stored ∙ c.loop-k.invariant.1,
-      one_more _ _ _ _ _ _ more stored c.loop-k.invariant.2,
-    )
-
-pub shape_of-room : goal.shape_of-room
-shape_of-room c =
-    c.loop-k.invariant.1
-    ∙ as_long _ _ (encoded (table version_bytes c.args.lens.now)) version_bytes c.write_table.ensures
-    ∙ as_long c.args.room.now _ (bytes_of c.args.version) 0 c.store_word.ensures
+loop-k-preserved c = one_more _ _ _ _ _ _ c.loop-k-test.true c.store_word-in-loop-k.ensures c.loop-k.invariant
 
 pub returns : goal.returns
 returns c =
     whole _ _ c.requires.0 c.requires.2 _ _ _ _ _ _ c.store_word.ensures c.write_table.ensures c.bodies_at-bodies.ensures
-    (all_stored _ _ _ _ _ c.loop-k-test.false c.loop-k.invariant.2)
+    (all_stored _ _ _ _ _ c.loop-k-test.false c.loop-k.invariant)
