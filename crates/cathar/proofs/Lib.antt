@@ -1,4 +1,3 @@
-pub mod Exports
 pub mod Refusals
 pub mod Spans
 pub mod Alone

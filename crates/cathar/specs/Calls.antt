@@ -7,7 +7,7 @@ use Rattle.std.specs.Prelude.{ℕ, List, [], ◌∷◌, length, Float}
 use Rattle.leaves.specs.Arithmetic.{nought}
 use Rattle.recording.specs.Answers.{number, value, verdict_number, verdict_yes}
 use Rattle.recording.specs.Recording.{State, Ended, opened, opened_received, undone, work_after}
-use Rattle.recording.specs.declared.Verdict.{Verdict}
+use Rattle.recording.specs.Answer.{Verdict}
 use Rattle.inpaint.specs.Gap.{needed, gap_repair}
 use Rattle.inpaint.specs.Auto.{automatic}
 use Rattle.riff.specs.Wav.{Heard, Written}

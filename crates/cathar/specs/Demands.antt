@@ -9,8 +9,8 @@ use Rattle.recording.specs.Question.{marks_say, span_verdict}
 use Rattle.recording.specs.History as single
 use Rattle.recording.specs.Consequences.{Among, MadeOf, AllName, closings, returned}
 use Rattle.std.specs.Prelude.{Ok, Err}
-use Rattle.recording.specs.declared.Verdict.{Verdict}
-use Rattle.recording.specs.declared.Verdict.TheVariants.{Yes, No}
+use Rattle.recording.specs.Answer.{Verdict}
+use Rattle.std.specs.Prelude.{Ok, true}
 use Rattle.inpaint.specs.Gap.{gap_plan}
 use Rattle.inpaint.specs.Auto.{scannable}
 use Rattle.inpaint.specs.Runs.{single_calls, scan_calls, run_answers, first_refusal}
@@ -204,7 +204,7 @@ AnswerIsEachMark =
     AfterAny
     (λ raw cs.
     let s = after cs raw in
-    (start len : ℕ) → start + len ≤ length s.marks → measured_throughout s start len ≡ (if marks_say s.marks start len then Yes else No))
+    (start len : ℕ) → start + len ≤ length s.marks → measured_throughout s start len ≡ Ok (marks_say s.marks start len))
 
 -- so, whatever calls were made since the recording opened, a yes means that every sample of the span has its raw word, and was received
 abbrev pub YesIsRaw : Type 0
@@ -212,7 +212,7 @@ YesIsRaw =
     AfterAny
     (λ raw cs.
     let s = after cs raw in
-    (start len : ℕ) → measured_throughout s start len ≡ Yes
+    (start len : ℕ) → measured_throughout s start len ≡ Ok true
     → (i : ℕ) → start ≤ i → i < start + len → (get_or s.samples i 0 ≡ get_or raw.samples i 0) × (get_or raw.marks i 0 ≡ measured))
 
 -- ---- The journal

@@ -22,8 +22,8 @@ ghost use Rattle.riff.specs.Wav.{wav_read, wav_written};
 ghost use Rattle.settings.specs.Settings.{read_to, read_to_v1, write_from, write_from_v1};
 
 use decrackle::Start;
-use dequant::passes::dequantize;
 use dequant::cosparse::dequantize_cosparse;
+use dequant::passes::dequantize;
 use inpaint::auto::inpaint_auto;
 use inpaint::gap::inpaint_gap;
 use inpaint::{answer_of, order_of};
