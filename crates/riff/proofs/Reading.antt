@@ -1,5 +1,5 @@
 -- The reader of a WAV file: what its tests say of a file, one law for each way out, and the ways in which the reading ends. Assumes nothing.
-use Rattle.std.proofs.Common.{◌≡◌, ℕ, suc, ◌+◌, ◌-◌, ◌*◌, ◌/◌, ◌%◌, ◌<◌, ◌≤◌, Bool, true, false, ◌&&◌, ◌||◌, eqb, ltb, leb, ◌⊎◌, List, map, length, set, replicate, sym, refl, ap, ◌∙◌, inl, inr, arith, ltb-false, ltb-true, le-ltb, lt-ltb, eq-eqb, ne_eqb, eqb-true, leb-true}
+use Rattle.std.proofs.Common.{◌≡◌, ℕ, suc, ◌+◌, ◌-◌, ◌*◌, ◌/◌, ◌%◌, ◌<◌, ◌≤◌, Bool, true, false, ◌&&◌, ◌||◌, eqb, ltb, leb, ◌⊎◌, List, map, length, set, replicate, sym, refl, ap, ◌∙◌, inl, inr, arith, ltb-false, ltb-true, le-ltb, lt-ltb, ne_eqb, eqb-true, leb-true}
 use mathlib.Core.Bool.{and-false}
 use lib.Seq.{sets}
 use Rattle.leaves.proofs.Choice.{truth, both_hold, neither, EitherWay}
@@ -11,13 +11,12 @@ use Rattle.recording.specs.Marks.{measured}
 use Rattle.recording.specs.declared.Reason.{Reason}
 use Rattle.recording.specs.declared.Reason.TheVariants.{TooMany, Wave, Coding, Output}
 use Rattle.recording.specs.Answer.{Answer}
-use Rattle.std.specs.Prelude.{Ok, Err}
+use Rattle.std.specs.Prelude.{Result, Ok, Err, is_ok}
 use Rattle.recording.proofs.Answers.{never_both}
-use Rattle.riff.specs.declared.Sound.TheVariants.{Stands, NoWave}
 use Rattle.riff.specs.Values.{sample_word}
 use Rattle.riff.specs.Chunks.{riff_name, wave_name, fmt_name, data_name, head_bytes, name_at, size_at, named, end_from}
-use Rattle.riff.specs.Wav.{first_chunk, whole, first_named, fmt_bytes, format_at, data_at, fmt_before_data, is_wave, tag_at, channels_at, rate_at, bits_at}
-use Rattle.riff.specs.Wav.{pcm, mono_pcm, values_at, Heard, heard, unheard, wav_read}
+use Rattle.riff.specs.Wav.{first_chunk, whole, first_named, fmt_bytes, format_at, data_at, fmt_before_data, is_wave, rate_at}
+use Rattle.riff.specs.Wav.{mono_pcm, values_at, Heard, heard, unheard, wav_read}
 use Rattle.riff.specs.Inner.{sound_in}
 use Rattle.riff.proofs.Walk.{never_back, Found, first_found}
 
@@ -31,32 +30,6 @@ module _ (file : List ℕ) where
       let past : eqb (end_from file first_chunk) (length file) ≡ false =
       ne_eqb _ _ (λ (e : end_from file first_chunk ≡ length file). omega (arith, never_back file first_chunk)) in
       rw (past, and-false) refl
-
-  module _ (first : ℕ) (of-first : first ≡ word_at file 0) where
-    pub other_riff : (first ≡ riff_name → ⊥) → false ≡ whole file
-    unfolding whole
-    other_riff other = rw (← of-first, ne_eqb first riff_name other) refl
-
-    module _ (riff : first ≡ riff_name) (size : ℕ) (of_size : size ≡ word_at file 4) (long : first_chunk ≤ length file) where
-      pub other_size : (size ≡ length file - 8 → ⊥) → false ≡ whole file
-      unfolding whole
-      other_size other =
-          let differs : eqb (length file) (8 + size) ≡ false = ne_eqb _ _ (λ (e : length file ≡ 8 + size). other (omega arith)) in
-          rw (← of-first, eq-eqb first riff_name riff, ← of_size, differs) refl
-
-      module _ (same : size ≡ length file - 8) (third : ℕ) (of-third : third ≡ word_at file 8) where
-        sized : eqb (length file) (8 + size) ≡ true
-        sized = eq-eqb (length file) (8 + size) (omega arith)
-
-        pub other_wave : (third ≡ wave_name → ⊥) → false ≡ whole file
-        unfolding whole
-        other_wave other =
-            rw (← of-first, eq-eqb first riff_name riff, ← of_size, sized, ← of-third, ne_eqb third wave_name other) refl
-
-        pub fills : (filled : Bool) → third ≡ wave_name → filled ≡ eqb (end_from file first_chunk) (length file) → filled ≡ whole file
-        unfolding whole
-        fills filled wave e =
-            rw (e, ← of-first, eq-eqb first riff_name riff, ← of_size, sized, ← of-third, eq-eqb third wave_name wave) refl
 
   -- the walk of a whole file ends with it
   pub walk_of_whole : whole file ≡ true → end_from file first_chunk ≡ length file
@@ -111,82 +84,46 @@ placed file h =
       data_within = named_within file data_name 0 parts.0 there;
     }
 
+-- ---- What finding them gives
+
+-- places or a refusal, and their parts
+abbrev sound : ℕ → ℕ → Result (ℕ × ℕ) Reason
+sound format data' = Ok (format, data')
+
+abbrev no_sound : Reason → Result (ℕ × ℕ) Reason
+no_sound why = Err why
+
+abbrev why_none : Result (ℕ × ℕ) Reason → Reason
+why_none (Ok p) = Wave
+why_none (Err why) = why
+
+abbrev first_place : Result (ℕ × ℕ) Reason → ℕ
+first_place (Ok p) = p.0
+first_place (Err why) = 0
+
+abbrev second_place : Result (ℕ × ℕ) Reason → ℕ
+second_place (Ok p) = p.1
+second_place (Err why) = 0
+
+never_sound : {A : Type 0} {why : Reason} {format data' : ℕ} → no_sound why ≡ sound format data' → A
+never_sound e = let none = eqb-true 0 1 (ap is_ok e) in absurd (omega arith)
+
+same_sound : {format data' f d : ℕ} → sound format data' ≡ sound f d → (format ≡ f) × (data' ≡ d)
+same_sound e = (ap first_place e, ap second_place e)
+
 -- what is found stands so
-pub stands_placed : (file : List ℕ) (format data' : ℕ) → sound_in file ≡ Stands format data' → Placed file format data'
+pub stands_placed : (file : List ℕ) (format data' : ℕ) → Ok (format, data') ≡ sound_in file → Placed file format data'
 unfolding sound_in
 stands_placed file format data' e = go (truth (is_wave file))
   where
     go : EitherWay (is_wave file) → Placed file format data'
     go (inl h) =
-        let same : Stands (format_at file) (data_at file) ≡ Stands format data' = sym (rw h refl) ∙ e in
-        let f : format_at file ≡ format = cc in
-        let d : data_at file ≡ data' = cc in
-        rw (← f, ← d) (placed file h)
+        let same : sound (format_at file) (data_at file) ≡ sound format data' = sym (e ∙ rw h refl) in
+        let both = same_sound same in
+        rw (← both.0, ← both.1) (placed file h)
     go (inr h) =
-        let never : NoWave ≡ Stands format data' = sym (rw h refl) ∙ e in
-        let none : ◌≡◌ {A = ℕ} 0 1 = cc in
-        absurd (omega arith)
-
--- ---- What finding them gives
-
-module _ (file : List ℕ) where
-  no_wave : is_wave file ≡ false → NoWave ≡ sound_in file
-  unfolding sound_in
-  no_wave h = rw h refl
-
-  pub not_whole : whole file ≡ false → NoWave ≡ sound_in file
-  unfolding is_wave
-  not_whole h = no_wave (rw h refl)
-
-  module _ (all : whole file ≡ true) (format data' : ℕ) (of_format : format ≡ format_at file) (of_data : data' ≡ data_at file) where
-    pub data_first : data' ≤ format → NoWave ≡ sound_in file
-    unfolding is_wave
-    data_first h =
-        let order : ltb (format_at file) (data_at file) ≡ false = le-ltb (format_at file) (data_at file) (omega arith) in
-        no_wave (rw (all, order) refl)
-
-    module _ (behind : format < data') where
-      in_order : ltb (format_at file) (data_at file) ≡ true
-      in_order = lt-ltb (format_at file) (data_at file) (omega arith)
-
-      pub no_data : length file ≤ data' → NoWave ≡ sound_in file
-      unfolding is_wave
-      no_data h =
-          let none : ltb (data_at file) (length file) ≡ false = le-ltb (data_at file) (length file) (omega arith) in
-          no_wave (rw (all, in_order, none) refl)
-
-      module _ (there : data' < length file) (size : ℕ) (of_size : size ≡ size_at file data') where
-        has_data : ltb (data_at file) (length file) ≡ true
-        has_data = lt-ltb (data_at file) (length file) (omega arith)
-
-        so_long : size_at file (data_at file) ≡ size
-        so_long = ap (size_at file) (sym of_data) ∙ sym of_size
-
-        pub odd_data : (size % 2 ≡ 0 → ⊥) → NoWave ≡ sound_in file
-        unfolding is_wave
-        odd_data h =
-            let odd : eqb (size % 2) 0 ≡ false = ne_eqb _ _ h in
-            no_wave (rw (all, in_order, has_data, so_long, odd) refl)
-
-        pub stands : size % 2 ≡ 0 → Stands format data' ≡ sound_in file
-        unfolding sound_in is_wave
-        stands h = rw (all, in_order, has_data, so_long, eq-eqb (size % 2) 0 h, of_format, of_data) refl
-
--- ---- Mono 16-bit PCM
-
-module _ (file : List ℕ) (i tag : ℕ) (of-tag : tag ≡ tag_at file i) where
-  pub other_tag : (tag ≡ pcm → ⊥) → false ≡ mono_pcm file i
-  unfolding mono_pcm
-  other_tag other = rw (← of-tag, ne_eqb tag pcm other) refl
-
-  module _ (is-pcm : tag ≡ pcm) (channels : ℕ) (of-channels : channels ≡ channels_at file i) where
-    pub other_channels : (channels ≡ 1 → ⊥) → false ≡ mono_pcm file i
-    unfolding mono_pcm
-    other_channels other = rw (← of-tag, eq-eqb tag pcm is-pcm, ← of-channels, ne_eqb channels 1 other) refl
-
-    pub by_bits : (bits : ℕ) → channels ≡ 1 → bits ≡ bits_at file i → eqb bits 16 ≡ mono_pcm file i
-    unfolding mono_pcm
-    by_bits bits mono e = rw (← of-tag, eq-eqb tag pcm is-pcm, ← of-channels, eq-eqb channels 1 mono, e) refl
+        let never : no_sound Wave ≡ sound format data' = sym (e ∙ rw h refl) in
+        never_sound never
 
 -- ---- Samples are stored
 
@@ -213,27 +150,23 @@ samples_all file samples rest from count i end all =
 
 -- ---- The lines of the rule
 
--- a refusal, as the code has it
-pub away_so : (why : Reason) (a : Answer) (rate : ℕ) (samples marks : List ℕ) (call : Heard) → (a ≡ Err why) × (rate ≡ 0)
-    → unheard why samples marks ≡ call → heard a rate samples marks ≡ call
-away_so why a rate samples marks call e rest = rw (e.0, e.1) rest
-
 module _ (file samples marks : List ℕ) where
   -- 19
   away_wave : is_wave file ≡ false → unheard Wave samples marks ≡ wav_read file samples marks
   unfolding wav_read
   away_wave h = rw h refl
 
-  pub read_no_wave : sound_in file ≡ NoWave → unheard Wave samples marks ≡ wav_read file samples marks
+  pub read_no_sound : (why : Reason) → Err why ≡ sound_in file → unheard why samples marks ≡ wav_read file samples marks
   unfolding sound_in
-  read_no_wave e = go (truth (is_wave file))
+  read_no_sound why e = go (truth (is_wave file))
     where
-      go : EitherWay (is_wave file) → unheard Wave samples marks ≡ wav_read file samples marks
-      go (inr h) = away_wave h
+      go : EitherWay (is_wave file) → unheard why samples marks ≡ wav_read file samples marks
+      go (inr h) =
+          let same : no_sound why ≡ no_sound Wave = e ∙ rw h refl in
+          rw (ap why_none same) (away_wave h)
       go (inl h) =
-          let never : Stands (format_at file) (data_at file) ≡ NoWave = sym (rw h refl) ∙ e in
-          let none : ◌≡◌ {A = ℕ} 0 1 = cc in
-          absurd (omega arith)
+          let never : no_sound why ≡ sound (format_at file) (data_at file) = e ∙ rw h refl in
+          never_sound never
 
   -- 20
   module _ (wave : is_wave file ≡ true) where
@@ -262,7 +195,7 @@ module _ (file samples marks : List ℕ) where
         done_reading h = rw (wave, mono, so_many, le-ltb most_samples n few, h) refl
 
 -- the same, by where format and data were found
-module _ (file samples marks : List ℕ) (format data' : ℕ) (found : sound_in file ≡ Stands format data') where
+module _ (file samples marks : List ℕ) (format data' : ℕ) (found : Ok (format, data') ≡ sound_in file) where
   at_place : Placed file format data'
   at_place = stands_placed file format data' found
 

@@ -8,7 +8,8 @@ use Rattle.recording.specs.Marks.{measured}
 use Rattle.recording.specs.declared.Reason.{Reason}
 use Rattle.recording.specs.declared.Reason.TheVariants.{TooMany, Wave, Coding, Output}
 use Rattle.recording.specs.Answer.{Answer}
-use Rattle.std.specs.Prelude.{Ok, Err}
+use Rattle.std.specs.Prelude.{Result, Ok, Err}
+use Rattle.riff.specs.declared.WavRead.{WavRead}
 use Rattle.riff.specs.Values.{sample_word, value_of}
 use Rattle.riff.specs.Chunks.{riff_name, wave_name, fmt_name, data_name, head_bytes, size_at, named, beginnings, ending, chunks_from, end_from, first_of}
 
@@ -89,6 +90,15 @@ pub record Heard : Type 0 where
 
 abbrev pub heard : Answer → ℕ → List ℕ → List ℕ → Heard
 heard a rate samples marks = record { answer = a; rate = rate; samples = samples; marks = marks }
+
+-- the answer that the reader gives, and the rate, which is 0 where it refuses
+abbrev pub answer_of : Result WavRead Reason → Answer
+answer_of (Ok r) = Ok r.samples
+answer_of (Err why) = Err why
+
+abbrev pub rate_of : Result WavRead Reason → ℕ
+rate_of (Ok r) = r.rate
+rate_of (Err why) = 0
 
 -- "The output is then unwritten."
 abbrev pub unheard : Reason → List ℕ → List ℕ → Heard

@@ -20,12 +20,13 @@ pub fn chunks_fill(file: &[u8]) -> bool
     ensures { result ≡ (end_from file.now first_chunk == length file.now) }
 {
     let mut at = FIRST_CHUNK;
+    // No count of turns is known before the walk, since each chunk says how far it is to the next.
     while HEAD_BYTES <= file.len() - at {
         let taken = padded(word_at(file, at + 4));
         if file.len() - at - HEAD_BYTES < taken {
             return false;
         }
-        at = at + HEAD_BYTES + taken;
+        at += HEAD_BYTES + taken;
     }
     at == file.len()
 }
@@ -35,10 +36,7 @@ fn is_named(file: &[u8], i: usize, name: u32, fewest: u32) -> bool
     requires { i + head_bytes ≤ length file.now }
     ensures { result ≡ named file.now name fewest i }
 {
-    if word_at(file, i) != name {
-        return false;
-    }
-    fewest <= word_at(file, i + 4)
+    word_at(file, i) == name && fewest <= word_at(file, i + 4)
 }
 
 // Where the first chunk of this name with at least so many bytes begins, or the file's length where there is
@@ -48,11 +46,12 @@ pub fn first_named(file: &[u8], name: u32, fewest: u32) -> usize
     ensures { result ≡ first_named name fewest file.now }
 {
     let mut at = FIRST_CHUNK;
+    // As above, each chunk says how far it is to the next.
     while at < file.len() {
         if is_named(file, at, name, fewest) {
             return at;
         }
-        at = at + HEAD_BYTES + padded(word_at(file, at + 4));
+        at += HEAD_BYTES + padded(word_at(file, at + 4));
     }
     at
 }

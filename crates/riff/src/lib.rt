@@ -6,8 +6,6 @@ pub mod read;
 pub mod value;
 pub mod write;
 
-use recording::Answer;
-
 // The names of chunks, and of the file, as the words that their four letters are.
 const RIFF: u32 = 0x4646_4952;
 
@@ -30,17 +28,9 @@ const PCM: u16 = 1;
 
 const SAMPLE_BITS: u16 = 16;
 
-// Where the format and the data of a file begin, or that it is no whole WAVE file with the one before the other
-// and data of an even length.
-#[derive(Clone, Copy)]
-enum Sound {
-    Stands(usize, usize),
-    NoWave,
-}
-
-// How the reading of a file ends: with the number of samples or a refusal, and with the rate.
+// What was read of a file: so many samples, and their rate.
 #[derive(Clone, Copy)]
 pub struct WavRead {
-    pub answer: Answer,
+    pub samples: usize,
     pub rate: u32,
 }

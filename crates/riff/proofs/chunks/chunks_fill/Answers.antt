@@ -8,18 +8,18 @@ use Rattle.riff.proofs.chunks.chunks_fill.Goals as goal
 -- a chunk whose head is there, with what its padded body takes
 module _ (file : List ℕ) (at size taken whole : ℕ) (there : at + head_bytes ≤ length file) (of_size : size ≡ size_at file at)
     (of-body : taken ≡ padded size) (rest : end_from file at ≡ whole) where
-  next : at + head_bytes + taken ≡ next_at file at
-  next = ap (λ (n : ℕ). at + head_bytes + n) (of-body ∙ ap padded of_size)
+  next : at + (head_bytes + taken) ≡ next_at file at
+  next = omega (arith, of-body ∙ ap padded of_size)
 
   -- it is passed
-  passed : end_from file (at + head_bytes + taken) ≡ whole
+  passed : end_from file (at + (head_bytes + taken)) ≡ whole
   passed = ap (end_from file) next ∙ sym (end_more file at there) ∙ rest
 
   -- it runs past the end of the file
   runs_past : length file - at - head_bytes < taken → false ≡ eqb whole (length file)
   runs_past h =
       sym (ne_eqb whole (length file) (λ (e : whole ≡ length file).
-      omega (arith, never_back file (at + head_bytes + taken), passed)))
+      omega (arith, never_back file (at + (head_bytes + taken)), passed)))
 
 -- no head is left
 ended : (file : List ℕ) (at whole : ℕ) → length file - at < head_bytes → at ≤ length file → end_from file at ≡ whole
@@ -30,34 +30,10 @@ ended file at whole h within rest =
 pub loop-at-init : goal.loop-at-init
 loop-at-init c = (omega arith, refl)
 
-pub overflow_sub-file : goal.overflow_sub-file
-overflow_sub-file c = omega arith
-
-pub overflow_add-at : goal.overflow_add-at
-overflow_add-at c = omega arith
-
-pub word_at-requires : goal.word_at-requires
-word_at-requires c = omega arith
-
-pub overflow_sub-file-in-loop-at : goal.overflow_sub-file-in-loop-at
-overflow_sub-file-in-loop-at c = omega arith
-
-pub overflow_sub-file-in-loop-at-2 : goal.overflow_sub-file-in-loop-at-2
-overflow_sub-file-in-loop-at-2 c = omega arith
-
 pub returns-then-file-at : goal.returns-then-file-at
 returns-then-file-at c =
     runs_past _ c.loop-at.at _ _ _ (omega arith) c.word_at.ensures c.padded-taken.ensures c.loop-at.invariant.1
     c.if-file-at.true
-
-pub overflow_add-at-in-loop-at : goal.overflow_add-at-in-loop-at
-overflow_add-at-in-loop-at c = omega arith
-
-pub overflow_add-at-in-loop-at-2 : goal.overflow_add-at-in-loop-at-2
-overflow_add-at-in-loop-at-2 c = omega arith
-
-pub loop-at-smaller : goal.loop-at-smaller
-loop-at-smaller c = omega arith
 
 pub loop-at-preserved : goal.loop-at-preserved
 loop-at-preserved c = (

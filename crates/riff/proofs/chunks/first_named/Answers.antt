@@ -20,16 +20,16 @@ module _ (file : List ℕ) (test : ℕ → Bool) (at whole : ℕ) (ends : end_fr
 
   -- or passes it, with what its padded body takes
   module _ (size taken : ℕ) (of_size : size ≡ size_at file at) (of-body : taken ≡ padded size) where
-    next : at + head_bytes + taken ≡ next_at file at
-    next = ap (λ (n : ℕ). at + head_bytes + n) (of-body ∙ ap padded of_size)
+    next : at + (head_bytes + taken) ≡ next_at file at
+    next = omega (arith, of-body ∙ ap padded of_size)
 
-    within : at + head_bytes + taken ≤ length file
+    within : at + (head_bytes + taken) ≤ length file
     within = omega (arith, next, next_within file at ends there)
 
-    ends_later : end_from file (at + head_bytes + taken) ≡ length file
+    ends_later : end_from file (at + (head_bytes + taken)) ≡ length file
     ends_later = ap (end_from file) next ∙ sym (end_more file at there) ∙ ends
 
-    passes : test at ≡ false → first_of test (length file) (chunks_from file (at + head_bytes + taken)) ≡ whole
+    passes : test at ≡ false → first_of test (length file) (chunks_from file (at + (head_bytes + taken))) ≡ whole
     passes no' =
         ap (λ (i : ℕ). first_of test (length file) (chunks_from file i)) next
         ∙ sym (ap (first_of test (length file)) (chunks_more file at there)
@@ -59,16 +59,6 @@ returns-then-is_named c =
     c.loop-at-test.true c.loop-at.invariant.2
     (sym c.is_named.ensures ∙ c.if-is_named.true)
 
-pub overflow_add-at : goal.overflow_add-at
-overflow_add-at c =
-    let head_at : c.loop-at.at + head_bytes ≤ length c.args.file.now = head_there c.args.file.now c.loop-at.at c.loop-at.invariant.1 c.loop-at-test.true in
-    omega (arith, head_at)
-
-pub overflow_add-at-in-loop-at : goal.overflow_add-at-in-loop-at
-overflow_add-at-in-loop-at c =
-    let head_at : c.loop-at.at + head_bytes ≤ length c.args.file.now = head_there c.args.file.now c.loop-at.at c.loop-at.invariant.1 c.loop-at-test.true in
-    omega (arith, head_at)
-
 pub word_at-requires : goal.word_at-requires
 word_at-requires c =
     let head_at : c.loop-at.at + head_bytes ≤ length c.args.file.now = head_there c.args.file.now c.loop-at.at c.loop-at.invariant.1 c.loop-at-test.true in
@@ -76,17 +66,11 @@ word_at-requires c =
 
 -- and the next chunk begins within the file
 next-at : (c : goal.After-padded)
-    → c.loop-at.at + head_bytes + c.padded.result ≤ length c.args.file.now
+    → c.loop-at.at + (head_bytes + c.padded.result) ≤ length c.args.file.now
 next-at c =
     let a = c.args in
     within a.file.now (named a.file.now a.name a.fewest) c.loop-at.at _ c.loop-at.invariant.1
     c.loop-at-test.true c.loop-at.invariant.2 _ _ c.word_at.ensures c.padded.ensures
-
-pub overflow_add-at-in-loop-at-2 : goal.overflow_add-at-in-loop-at-2
-overflow_add-at-in-loop-at-2 c = omega (arith, next-at c)
-
-pub loop-at-smaller : goal.loop-at-smaller
-loop-at-smaller c = omega (arith, next-at c)
 
 pub loop-at-preserved : goal.loop-at-preserved
 loop-at-preserved c =

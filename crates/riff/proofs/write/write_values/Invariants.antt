@@ -1,6 +1,5 @@
--- `riff::write::write_values` meets its contract. The loop's invariant: storing the values that are left gives the whole. The measure is
--- how many samples are left. Assumes nothing.
-use Rattle.std.proofs.Common.{◌≡◌, ℕ, ◌+◌, ◌-◌, ◌*◌, ◌≤◌, List, map, length, drop}
+-- `riff::write::write_values` meets its contract. The loop's invariant: storing the values that are left gives the whole. Assumes nothing.
+use Rattle.std.proofs.Common.{◌≡◌, ◌+◌, ◌*◌, List, ℕ, map, drop}
 use lib.Seq.{sets}
 use Rattle.wire.specs.Wire.{encoded_halves}
 use Rattle.riff.specs.Values.{value_of}
@@ -11,7 +10,4 @@ abbrev pub bytes_of : List ℕ → List ℕ
 bytes_of samples = encoded_halves (map value_of samples)
 
 abbrev pub invariant-loop-i : goal.invariant-loop-i
-invariant-loop-i l = (l.i ≤ length l.samples) × (length l.out ≡ length l.initial.out) × (sets l.out (44 + 2 * l.i) (bytes_of (drop l.i l.samples)) ≡ sets l.initial.out 44 (bytes_of l.samples))
-
-abbrev pub decreases-loop-i : goal.decreases-loop-i
-decreases-loop-i l = length l.samples - l.i
+invariant-loop-i l = sets l.out (44 + 2 * l.i) (bytes_of (drop l.i l.samples)) ≡ sets l.initial.out 44 (bytes_of l.samples)
