@@ -1,6 +1,7 @@
 -- What the plan of a gap does not depend on, that its repair is lawful, what a dropout run is, what a
 -- scan comes to, what it never lacks, which runs it always had, how far a gap's repair reaches, and what a scan tells of its models.
 pub mod Plans
+mod Entered
 pub mod Lawful
 pub mod Dropouts
 pub mod Scans

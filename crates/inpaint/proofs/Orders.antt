@@ -24,7 +24,8 @@ use Rattle.inpaint.specs.Runs.{Stretch, stretch, runs_among, runs_of, gap_calls}
 use Rattle.inpaint.specs.Order.{fill_order, order_beside, gap_order, noted, orders_over, scan_orders}
 use Rattle.inpaint.specs.Consequences.{GapOrderAtMost, OrderOfEveryCount, GapHasNoSayInOrder, with_words}
 use Rattle.inpaint.specs.Consequences.{ListAsLong, RefusedScanKeepsList, order_there, OrdersAtRuns, OrdersElsewhere}
-use Rattle.inpaint.specs.declared.Run.TheVariants.{At, Nowhere}
+use Rattle.std.specs.Prelude.{Option, Some, None}
+use Rattle.inpaint.specs.Auto.{stretch}
 use Rattle.inpaint.proofs.auto.Runs.{found_run}
 use Rattle.inpaint.proofs.window.Laws.{gap_right}
 use Rattle.inpaint.proofs.gap.Laws.{model_order}
@@ -36,7 +37,7 @@ use Rattle.inpaint.proofs.Rooms.{InTurn, all_in_turn}
 
 -- no run is left
 pub orders_none : (most held i n room : ℕ) (s : State) (orders whole : List ℕ) → length s.samples ≡ n
-    → next_run s.samples most held i ≡ Nowhere → orders_over room (runs_among s.samples most held i i (n - i)) s orders ≡ whole
+    → next_run s.samples most held i ≡ None → orders_over room (runs_among s.samples most held i i (n - i)) s orders ≡ whole
     → orders ≡ whole
 unfolding orders_over
 orders_none most held i n room s orders whole count ends rest =
@@ -47,7 +48,7 @@ orders_none most held i n room s orders whole count ends rest =
 
 -- one turn: a run is found and repaired and its order noted, and then what is left gives the same whole
 module _ (most held i start len n room : ℕ) (s t : State) (w : List Float) (a : Answer) (order : ℕ) (orders left whole : List ℕ)
-    (count : length s.samples ≡ n) (space : length w ≡ room) (found : next_run s.samples most held i ≡ At start len)
+    (count : length s.samples ≡ n) (space : length w ≡ room) (found : next_run s.samples most held i ≡ Some (stretch start len))
     (ends : ended a t ≡ gap_repair start len source_passes (length w) s) (eo : order ≡ gap_order start len source_passes (length w) s)
     (el : left ≡ noted (stretch start len) a order orders)
   where

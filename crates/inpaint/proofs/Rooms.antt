@@ -23,8 +23,10 @@ use Rattle.inpaint.specs.Gap.{gap_wrong, needed, gap_plan, gap_repair}
 use Rattle.inpaint.specs.Auto.{limit, zero_or_nan, run_at, next_run, source_passes, scannable}
 use Rattle.inpaint.specs.Runs.{Stretch, runs_among, runs_of, gap_calls, answers}
 use Rattle.inpaint.specs.Consequences.{AcceptedNamesTheGap, NeededAtMost, EachNumber, OwnAnswers, dense_places, dense_words, DenseSuffices, WideSuffices}
-use Rattle.inpaint.specs.declared.Run.{Run}
-use Rattle.inpaint.specs.declared.Run.TheVariants.{At, Nowhere}
+use Rattle.inpaint.specs.declared.Stretch.{Stretch}
+use Rattle.recording.proofs.Answers.{never_both}
+use Rattle.std.specs.Prelude.{Option, Some, None}
+use Rattle.inpaint.specs.Auto.{stretch}
 use Rattle.inpaint.proofs.auto.Laws.{scannable_unfit, accepted_held}
 use Rattle.inpaint.proofs.auto.Runs.{OfZeros, OfHeld, Found, found_run, Fit, fits}
 use Rattle.inpaint.proofs.window.Laws.{right_gap, context_least, context_most, needed_within}
@@ -170,13 +172,13 @@ runs_in_turn samples most held (suc k) i h = go (next_run samples most held i) r
     n : ℕ
     n = length samples
 
-    go : (t : Run) → next_run samples most held i ≡ t
+    go : (t : Option Stretch) → next_run samples most held i ≡ t
         → ((j : ℕ) → n ≤ j + k → InTurn samples most held j (runs_among samples most held j j (n - j)))
         → InTurn samples most held i (runs_among samples most held i i (n - i))
-    go Nowhere e later = rw (none_among samples most held i i (n - i) e) tt
-    go (At start len) e later =
-        let f = found_run samples most held i start len e in
-        rw (runs_behind samples most held i start len f) (f, later (start + len) (omega (arith, f.on, (fits f).ends)))
+    go None e later = rw (none_among samples most held i i (n - i) e) tt
+    go (Some r) e later =
+        let f = found_run samples most held i r.start r.len e in
+        rw (runs_behind samples most held i r.start r.len f) (f, later (r.start + r.len) (omega (arith, f.on, (fits f).ends)))
 
 -- and so all runs of a recording
 pub all_in_turn : (samples : List ℕ) (most held : ℕ) → InTurn samples most held 0 (runs_of samples most held)
@@ -368,9 +370,7 @@ scannable_fits rate ms held s h = go (fitting s) refl
     go : (a : Answer) → a ≡ fitting s → Fits s
     go (Ok m) e = accepted_fits s m (sym e)
     go (Err why) e =
-        let both : Err why ≡ Ok 0 = scannable_unfit rate ms held s (Err why) e why refl ∙ h in
-        let none : ◌≡◌ {A = ℕ} 0 1 = cc in
-        absurd (omega arith)
+        never_both (sym h ∙ sym (scannable_unfit rate ms held s (Err why) e why refl))
 
 pub own_answers : OwnAnswers
 own_answers rate ms held work s h = all_numbers P I (limit ms rate) held (length work) s step (refl, scannable_fits rate ms held s h)

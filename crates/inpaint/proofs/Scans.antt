@@ -26,8 +26,9 @@ use Rattle.inpaint.specs.Auto.{Scan, scan, source_passes, repair_at, scan_from, 
 use Rattle.inpaint.specs.Runs.{Stretch, stretch, runs_among, runs_of, single_calls, gap_calls, answers, acceptances, first_refusal}
 use Rattle.inpaint.specs.Runs.{ScanIsItsRuns, ScanCountsItsRuns}
 use Rattle.inpaint.specs.Consequences.{ScanLawful, ListLawful, RefusedScan}
-use Rattle.inpaint.specs.declared.Run.{Run}
-use Rattle.inpaint.specs.declared.Run.TheVariants.{At, Nowhere}
+use Rattle.inpaint.specs.declared.Stretch.{Stretch}
+use Rattle.std.specs.Prelude.{Option, Some, None}
+use Rattle.inpaint.specs.Auto.{stretch}
 use Rattle.inpaint.proofs.auto.Laws.{scan_stops, scan_takes}
 use Rattle.inpaint.proofs.auto.Runs.{Found, found_run, Fit, fits}
 use Rattle.inpaint.proofs.auto.Laws.{automatic_refused, automatic_scanned}
@@ -133,7 +134,7 @@ runs_skip samples most held from (suc k) i n m e none =
     ∙ ap (λ (j : ℕ). runs_among samples most held from j m) (omega arith)
 
 -- where it answers with nothing, there are none
-pub none_among : (samples : List ℕ) (most held from i n : ℕ) → next_among samples most held from i n ≡ Nowhere
+pub none_among : (samples : List ℕ) (most held from i n : ℕ) → next_among samples most held from i n ≡ None
     → runs_among samples most held from i n ≡ []
 unfolding next_among runs_among
 none_among samples most held from i zero h = refl
@@ -141,11 +142,11 @@ none_among samples most held from i (suc n) h =
     go (truth (starts samples most held from i)) (none_among samples most held from (i + 1) n)
   where
     go : EitherWay (starts samples most held from i)
-        → (next_among samples most held from (i + 1) n ≡ Nowhere → runs_among samples most held from (i + 1) n ≡ [])
+        → (next_among samples most held from (i + 1) n ≡ None → runs_among samples most held from (i + 1) n ≡ [])
         → runs_among samples most held from i (suc n) ≡ []
     go (inl t) later =
-        let step : next_among samples most held from i (suc n) ≡ At (gap_at samples i) (gap_length samples i) = rw t refl in
-        let wrong : At (gap_at samples i) (gap_length samples i) ≡ Nowhere = sym step ∙ h in
+        let step : next_among samples most held from i (suc n) ≡ Some (stretch (gap_at samples i) (gap_length samples i)) = rw t refl in
+        let wrong : Some (stretch (gap_at samples i) (gap_length samples i)) ≡ None = sym step ∙ h in
         let none : ◌≡◌ {A = ℕ} 0 1 = cc in
         absurd (omega arith)
     go (inr t) later =
@@ -265,7 +266,7 @@ ends_none : (most held i k : ℕ) (c : Scan) → scan_from most held i k c ≡ c
 ends_none most held i k c stops none = stops ∙ ap (λ (rs : List Stretch). over rs c) (sym none)
 
 -- a run is left
-ends_more : (most held i k : ℕ) (c : Scan) (start len : ℕ) → next_run c.after.samples most held i ≡ At start len
+ends_more : (most held i k : ℕ) (c : Scan) (start len : ℕ) → next_run c.after.samples most held i ≡ Some (stretch start len)
     → Ends most held (start + len) k (repair_at c start len) → Ends most held i (suc k) c
 ends_more most held i k c start len h rest =
     scan_takes most held i k start len c h
@@ -296,16 +297,16 @@ ends most held zero i c h =
     ends_none most held i 0 c refl (ap (runs_among c.after.samples most held i i) none)
 ends most held (suc k) i c h = go (next_run c.after.samples most held i) refl (ends most held k)
   where
-    go : (r : Run) → next_run c.after.samples most held i ≡ r
+    go : (r : Option Stretch) → next_run c.after.samples most held i ≡ r
         → ((j : ℕ) (d : Scan) → length d.after.samples ≤ j + k → Ends most held j k d) → Ends most held i (suc k) c
-    go Nowhere e later =
+    go None e later =
         ends_none most held i (suc k) c (scan_stops most held i (suc k) c e)
         (none_among c.after.samples most held i i (length c.after.samples - i) e)
-    go (At start len) e later =
-        let f = found_run c.after.samples most held i start len e in
-        let left = repair_leaves start len source_passes (length c.work) c.after in
-        ends_more most held i k c start len e
-        (later (start + len) (repair_at c start len) (omega (arith, left.count, f.on, (fits f).ends)))
+    go (Some r) e later =
+        let f = found_run c.after.samples most held i r.start r.len e in
+        let left = repair_leaves r.start r.len source_passes (length c.work) c.after in
+        ends_more most held i k c r.start r.len e
+        (later (r.start + r.len) (repair_at c r.start r.len) (omega (arith, left.count, f.on, (fits f).ends)))
 
 -- the scan of a whole call
 whole : (rate : ℕ) (ms : Float) (held : ℕ) (work : List Float) (s : State) → scannable rate ms held s ≡ Ok 0

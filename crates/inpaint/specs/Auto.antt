@@ -11,10 +11,10 @@ use Rattle.std.specs.Prelude.{if◌then◌else◌}
 use Rattle.recording.specs.Runs.{run_length}
 use Rattle.recording.specs.declared.Reason.TheVariants.{Setting}
 use Rattle.recording.specs.Answer.{Answer}
-use Rattle.std.specs.Prelude.{Ok, Err}
+use Rattle.recording.specs.declared.Reason.{Reason}
+use Rattle.std.specs.Prelude.{Ok, Err, Option, Some, None}
 use Rattle.inpaint.specs.Gap.{needed, gap_repair}
-use Rattle.inpaint.specs.declared.Run.{Run}
-use Rattle.inpaint.specs.declared.Run.TheVariants.{At, Nowhere}
+use Rattle.inpaint.specs.declared.Stretch.{Stretch}
 
 -- ---- The settings
 
@@ -103,16 +103,20 @@ starts samples most held from i = run_begins samples from i && qualifies (length
 -- ---- The search
 
 -- "The search answers with the first run from a place on that meets every condition, or with nothing if none exists": by the start and the
--- length of its gap. Of the places from `from` on, among the n from i on.
-unfoldable pub next_among : List ℕ → ℕ → ℕ → ℕ → ℕ → ℕ → Run
+-- length of its gap
+abbrev pub stretch : ℕ → ℕ → Stretch
+stretch start len = record { start = start; len = len }
+
+-- of the places from `from` on, among the n from i on
+unfoldable pub next_among : List ℕ → ℕ → ℕ → ℕ → ℕ → ℕ → Option Stretch
 unfolding run_length continues qualifies kept
-next_among samples most held from i zero = Nowhere
+next_among samples most held from i zero = None
 next_among samples most held from i (suc n) =
     let on = next_among samples most held from (i + 1) n in
-    if starts samples most held from i then At (gap_at samples i) (gap_length samples i) else on
+    if starts samples most held from i then Some (stretch (gap_at samples i) (gap_length samples i)) else on
 
 -- among all of them
-abbrev pub next_run : List ℕ → ℕ → ℕ → ℕ → Run
+abbrev pub next_run : List ℕ → ℕ → ℕ → ℕ → Option Stretch
 next_run samples most held from = next_among samples most held from from (length samples - from)
 
 -- ---- The scan
@@ -128,6 +132,11 @@ pub record Scan : Type 0 where
 
 abbrev pub scan : ℕ → ℕ → ℕ → State → List Float → Scan
 scan q r k s w = record { qualified = q; repaired = r; refused = k; after = s; work = w }
+
+-- the number of the first refusal, or 0 where there is none
+abbrev pub refused_number : Option Reason → ℕ
+refused_number None = 0
+refused_number (Some why) = reason_number why
 
 -- the source asks for three passes at each run; every count gives the same (`EveryCount` of Consequences.antt)
 abbrev pub source_passes : ℕ
@@ -148,8 +157,8 @@ unfolding next_among gap_repair needed
 scan_from most held i zero c = c
 scan_from most held i (suc n) c =
     elim (next_run c.after.samples most held i) [
-      | Nowhere ↦ c
-      | At start len ↦ scan_from most held (start + len) n (repair_at c start len)
+      | None ↦ c
+      | Some g ↦ scan_from most held (g.start + g.len) n (repair_at c g.start g.len)
     ]
 
 -- refusals 1, 14 and 2 to 4, which "are tested once"; or else an acceptance

@@ -1,4 +1,5 @@
 pub mod Gap
+pub mod Filled
 pub mod Auto
 pub mod Runs
 pub mod Order

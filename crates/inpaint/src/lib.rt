@@ -8,29 +8,27 @@ pub mod gap;
 mod line;
 mod window;
 
-use recording::Answer;
+use recording::Reason;
 
-// What the repair of a gap returns: its answer and, beside it, the highest order that its model used, which is
-// 0 for a straight line and for every refusal.
+// What the repair of a gap gives where it is accepted: how many samples it named and, beside it, the highest
+// order that its model used, which is 0 for a straight line.
 #[derive(Clone, Copy)]
-pub struct GapAnswer {
-    pub answer: Answer,
+pub struct Filled {
+    pub named: usize,
     pub order: u32,
 }
 
-// What the search for a dropout run answers: a run, by the start and the length of its gap, or that there is
-// none.
+// A gap, by its start and its length: that of a dropout run.
 #[derive(Clone, Copy)]
-pub enum Run {
-    At(usize, usize),
-    Nowhere,
+pub struct Stretch {
+    pub start: usize,
+    pub len: usize,
 }
 
-// What the automatic scan returns: runs qualified, runs repaired, and the number of the first refusal,
-// or 0.
+// What the automatic scan returns: runs qualified, runs repaired, and the first refusal, if there is one.
 #[derive(Clone, Copy)]
 pub struct Scanned {
     pub qualified: usize,
     pub repaired: usize,
-    pub refused: u32,
+    pub refused: Option<Reason>,
 }

@@ -3,15 +3,16 @@
 ghost use Rattle.std.specs.Prelude.{◌≡◌, ◌+◌, ◌<◌, ◌≤◌, length, to_bits};
 ghost use Rattle.std.specs.Float.{binary32};
 ghost use Rattle.recording.specs.Recording.{ended, most_samples, change, span, ranged, carried};
-ghost use Rattle.recording.specs.Lent.{left, lent, given};
+ghost use Rattle.recording.specs.Lent.{held, SameMemory};
 ghost use Rattle.recording.specs.Marks.{gap_by_line};
 ghost use Rattle.recording.specs.Inner.{Fits};
+ghost use Rattle.inpaint.specs.Filled.{answer_of, order_of};
 ghost use Rattle.inpaint.specs.Gap.{left_of, right_of, line_at, line_from, line};
 
+use super::Filled;
 use leaves::words::{count_as_f32, f32_of_word, in_range, word_of_f32};
-use recording::commit::enter_span;
-use recording::marks::GAP_BY_LINE;
-use recording::{Answer, Reason};
+use recording::marks::Mark;
+use recording::{Answer, Reason, Recording};
 
 // The sample before place `start`, or 0 where there is none.
 fn left_of(samples: &[u32], start: usize) -> f32
@@ -50,12 +51,10 @@ fn check_line(left: f32, right: f32, len: usize, start: usize) -> Answer
     requires { start + len ≤ most_samples }
     ensures { result ≡ ranged (span start (line_from left right len 0 len)) }
 {
-    let mut i: usize = 0;
-    while i < len {
+    for i in 0..len {
         if !in_range(line_word(left, right, len, i)) {
             return Err(Reason::Result(start + i));
         }
-        i += 1;
     }
     Ok(0)
 }
@@ -66,41 +65,25 @@ fn line_fill(gap: &mut [u32], left: f32, right: f32)
     ensures { gap.new ≡ line_from left right (length gap.old) 0 (length gap.old) }
 {
     let len = gap.len();
-    let mut i: usize = 0;
-    while i < len {
+    for i in 0..len {
         gap[i] = line_word(left, right, len, i);
-        i += 1;
     }
 }
 
-// The repair of a gap by straight line, from refusal 8 on.
-pub fn repair_by_line(
-    samples: &mut [u32],
-    marks: &mut [u8],
-    counts: &mut [u16],
-    journal: &mut [u32],
-    used: &mut usize,
-    start: usize,
-    len: usize,
-) -> Answer
-    requires { Fits (given samples marks counts journal used) × (start + len ≤ length samples.old) }
-    ensures { ended result (left samples marks counts journal used)
-        ≡ carried (lent samples marks counts journal used) (change gap_by_line (span start (line samples.old start len))) }
+// The repair of a gap by straight line, from refusal 8 on. No model stands beside it.
+pub fn repair_by_line(recording: &mut Recording, start: usize, len: usize) -> Result<Filled, Reason>
+    requires { Fits (held recording.old) × (start + len ≤ length recording.old.samples.now) }
+    ensures memory { SameMemory recording.old recording.new }
+    ensures rule { ended (answer_of result) (held recording.new)
+        ≡ carried (held recording.old) (change gap_by_line (span start (line recording.old.samples.now start len))) }
+    ensures order { order_of result ≡ 0 }
 {
     let end = start + len;
+    let samples = &mut *recording.samples;
     let left = left_of(samples, start);
     let right = right_of(samples, end);
     check_line(left, right, len, start)?;
-    enter_span(
-        samples,
-        marks,
-        counts,
-        journal,
-        used,
-        start,
-        len,
-        GAP_BY_LINE,
-    )?;
-    line_fill(&mut samples[start..end], left, right);
-    entered
+    let named = recording.enter_span(start, len, Mark::GapByLine)?;
+    line_fill(&mut recording.samples[start..end], left, right);
+    Ok(Filled { named, order: 0 })
 }

@@ -5,7 +5,6 @@ ghost use Rattle.model.specs.Model.{order_for};
 ghost use Rattle.inpaint.specs.Gap.{gap_wrong, context, from, to, window, needed, all_readable};
 ghost use Rattle.inpaint.specs.Inner.{Within};
 
-use leaves::counts::{difference_or_zero, smaller_of};
 use model::fill::doubles_for;
 use recording::Answer;
 use recording::read::check_words;
@@ -25,13 +24,7 @@ const LEAST_CONTEXT: usize = 1024;
 pub fn gap_wrong(n: usize, start: usize, len: usize) -> bool
     ensures { result ≡ gap_wrong n start len }
 {
-    if len == 0 {
-        return true;
-    }
-    if n <= start {
-        return true;
-    }
-    n - start < len
+    len == 0 || n <= start || n - start < len
 }
 
 // The order of the model for a gap.
@@ -41,7 +34,7 @@ pub fn order_for(len: usize) -> usize
     if len <= AR_ORDER {
         AR_ORDER
     } else {
-        smaller_of(len, MAX_ORDER)
+        len.min(MAX_ORDER)
     }
 }
 
@@ -65,7 +58,7 @@ pub fn window_from(start: usize, len: usize) -> usize
     requires { len ≤ most_samples }
     ensures { result ≡ from start len }
 {
-    difference_or_zero(start, context_of(len))
+    start.saturating_sub(context_of(len))
 }
 
 // Where it ends.
@@ -73,7 +66,7 @@ pub fn window_to(n: usize, start: usize, len: usize) -> usize
     requires { (n ≤ most_samples) × (start + len ≤ n) }
     ensures { result ≡ to n start len }
 {
-    smaller_of(n, start + len + context_of(len))
+    n.min(start + len + context_of(len))
 }
 
 // The window, as a part of the caller's samples.

@@ -23,8 +23,9 @@ use Rattle.inpaint.specs.Gap.{needed, gap_repair}
 use Rattle.inpaint.specs.Auto.{allowed, held_allowed, limit, next_run, Scan, scan, repair_at, scan_from, scannable, automatic}
 use Rattle.inpaint.specs.Runs.{stretch}
 use Rattle.inpaint.specs.Order.{noted}
-use Rattle.inpaint.specs.declared.Run.{Run}
-use Rattle.inpaint.specs.declared.Run.TheVariants.{At, Nowhere}
+use Rattle.inpaint.specs.declared.Stretch.{Stretch}
+use Rattle.std.specs.Prelude.{Option, Some, None}
+use Rattle.inpaint.specs.Auto.{stretch}
 use Rattle.inpaint.proofs.auto.Runs.{both}
 
 -- ---- the number of a call
@@ -180,15 +181,15 @@ repaired_so c start len e =
     (work_after nought (needed (length c.after.samples) start len) e.answer c.work)
 
 -- what the scan does with what the search answers
-abbrev goes_on : ℕ → ℕ → ℕ → Scan → Run → Scan
-goes_on most held n c r = elim r [ Nowhere ↦ c | At start len ↦ scan_from most held (start + len) n (repair_at c start len) ]
+abbrev goes_on : ℕ → ℕ → ℕ → Scan → Option Stretch → Scan
+goes_on most held n c r = elim r [ None ↦ c | Some g ↦ scan_from most held (g.start + g.len) n (repair_at c g.start g.len) ]
 
-pub scan_stops : (most held i n : ℕ) (c : Scan) → next_run c.after.samples most held i ≡ Nowhere → scan_from most held i n c ≡ c
+pub scan_stops : (most held i n : ℕ) (c : Scan) → next_run c.after.samples most held i ≡ None → scan_from most held i n c ≡ c
 unfolding scan_from
 scan_stops most held i zero c h = refl
 scan_stops most held i (suc n) c h = ap (goes_on most held n c) h
 
-pub scan_takes : (most held i n start len : ℕ) (c : Scan) → next_run c.after.samples most held i ≡ At start len
+pub scan_takes : (most held i n start len : ℕ) (c : Scan) → next_run c.after.samples most held i ≡ Some (stretch start len)
     → scan_from most held i (suc n) c ≡ scan_from most held (start + len) n (repair_at c start len)
 unfolding scan_from
 scan_takes most held i n start len c h = ap (goes_on most held n c) h
@@ -197,7 +198,7 @@ scan_takes most held i n start len c h = ap (goes_on most held n c) h
 pub scan_turn : (most held i start len n q r k : ℕ) (s t : State) (w v : List Float) (a : Answer) (number' done first : ℕ)
     (whole : Scan)
     → q < n
-    → next_run s.samples most held i ≡ At start len
+    → next_run s.samples most held i ≡ Some (stretch start len)
     → ended a t ≡ gap_repair start len 3 (length w) s
     → v ≡ work_after nought (needed (length s.samples) start len) a w
     → number' ≡ number a

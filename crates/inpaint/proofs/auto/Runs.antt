@@ -10,11 +10,13 @@ use Rattle.leaves.specs.Floats.{in_range}
 use Rattle.leaves.proofs.words.Laws.{nan_test, one_nan}
 use Rattle.std.specs.Prelude.{if◌then◌else◌}
 use Rattle.recording.specs.Runs.{run_length}
+use Rattle.recording.proofs.Runs.{run_within}
 use Rattle.leaves.proofs.Choice.{truth, EitherWay, both_hold}
 use Rattle.inpaint.specs.Auto.{zero_or_nan, holdable, continues, continues_at, run_begins, run_at, long_enough, kept}
 use Rattle.inpaint.specs.Auto.{gap_at, gap_length, gap_allowed, qualifies, starts, next_among, next_run}
-use Rattle.inpaint.specs.declared.Run.{Run}
-use Rattle.inpaint.specs.declared.Run.TheVariants.{At, Nowhere}
+use Rattle.inpaint.specs.declared.Stretch.{Stretch}
+use Rattle.std.specs.Prelude.{Option, Some, None}
+use Rattle.inpaint.specs.Auto.{stretch}
 
 -- A test cannot have given both answers.
 pub both : {A : Type 0} {b : Bool} → b ≡ true → b ≡ false → A
@@ -175,28 +177,25 @@ at_most_kept w = elim (truth (holdable w)) [ inl h ↦ omega (arith, kept_held w
 pub keeps_one : (w k : ℕ) → k ≡ kept w → k ≤ 1
 keeps_one w k e = omega (arith, at_most_kept w)
 
--- a run that reaches the end does not qualify
-touching : (n most held w i len : ℕ) → 1 ≤ len → n ≤ i + len → qualifies n most held w i len ≡ false
-unfolding qualifies
-touching n most held w i len some reach =
-    let past : n ≤ i + kept w + (len - kept w) = omega (arith, at_most_kept w) in
-    rw (le-ltb (i + kept w + (len - kept w)) n past, and-false, and-false) refl
-
 -- ---- the search, place by place
 
 -- how many places from i on continue a run
 abbrev pub more : List ℕ → ℕ → ℕ
 more samples i = run_length (continues_at samples) i (length samples - i)
 
+-- a run is within its recording
+pub run_fits : (samples : List ℕ) (i : ℕ) → i < length samples → i + run_at samples i ≤ length samples
+run_fits samples i h = omega (arith, run_within (continues_at samples) (i + 1) (length samples - (i + 1)))
+
 -- the search of the places from `from` on, as it goes on at place i
-abbrev pub searched : List ℕ → ℕ → ℕ → ℕ → ℕ → Run
+abbrev pub searched : List ℕ → ℕ → ℕ → ℕ → ℕ → Option Stretch
 searched samples most held from i = next_among samples most held from i (length samples - i)
 
-module _ (samples : List ℕ) (most held from i : ℕ) (whole : Run) (within : i < length samples)
+module _ (samples : List ℕ) (most held from i : ℕ) (whole : Option Stretch) (within : i < length samples)
     (search : searched samples most held from i ≡ whole) where
   -- what the search does at place i
   at_place : searched samples most held from i
-      ≡ (if starts samples most held from i then At (gap_at samples i) (gap_length samples i) else searched samples most held from (i + 1))
+      ≡ (if starts samples most held from i then Some (stretch (gap_at samples i) (gap_length samples i)) else searched samples most held from (i + 1))
   unfolding next_among
   at_place =
       let left : length samples - i ≡ suc (length samples - (i + 1)) = omega arith in
@@ -209,34 +208,26 @@ module _ (samples : List ℕ) (most held from i : ℕ) (whole : Run) (within : i
   pub search_passes : (b : Bool) → b ≡ run_begins samples from i → b ≡ false → searched samples most held from (i + 1) ≡ whole
   search_passes b e h = passed (rw (← e, h) refl)
 
-  -- one does, and ends before place `end`
-  module _ (end : ℕ) (ends : end ≡ i + 1 + more samples (i + 1)) where
-    run : run_at samples i ≡ end - i
-    run = omega (arith, ends)
-
+  -- one does, of so many samples
+  module _ (len : ℕ) (long : len ≡ run_at samples i) where
     -- it does not qualify
-    pub search_fails : (q : Bool) → q ≡ qualifies (length samples) most held (get_or samples i 0) i (end - i) → q ≡ false
+    pub search_fails : (q : Bool) → q ≡ qualifies (length samples) most held (get_or samples i 0) i len → q ≡ false
         → searched samples most held from (i + 1) ≡ whole
     search_fails q e h =
-        let no : qualifies (length samples) most held (get_or samples i 0) i (run_at samples i) ≡ false = rw (run, ← e, h) refl in
+        let no : qualifies (length samples) most held (get_or samples i 0) i (run_at samples i) ≡ false = rw (← long, ← e, h) refl in
         passed (rw (no, and-false) refl)
-
-    -- it touches the recording's end
-    pub search_touches : length samples ≤ end → searched samples most held from (i + 1) ≡ whole
-    search_touches h =
-        search_fails _ refl (touching (length samples) most held (get_or samples i 0) i (end - i) (omega (arith, ends)) (omega (arith, ends)))
 
     -- it qualifies
     pub search_finds : (b q : Bool) (k : ℕ) → b ≡ run_begins samples from i → b ≡ true
-        → q ≡ qualifies (length samples) most held (get_or samples i 0) i (end - i) → q ≡ true → k ≡ kept (get_or samples i 0)
-        → At (i + k) (end - i - k) ≡ whole
+        → q ≡ qualifies (length samples) most held (get_or samples i 0) i len → q ≡ true → k ≡ kept (get_or samples i 0)
+        → Some (stretch (i + k) (len - k)) ≡ whole
     search_finds b q k e h f t g =
-        let yes : qualifies (length samples) most held (get_or samples i 0) i (run_at samples i) ≡ true = rw (run, ← f, t) refl in
-        sym (at_place ∙ rw (← e, h, yes, run, ← g) refl) ∙ search
+        let yes : qualifies (length samples) most held (get_or samples i 0) i (run_at samples i) ≡ true = rw (← long, ← f, t) refl in
+        sym (at_place ∙ rw (← e, h, yes, ← long, ← g) refl) ∙ search
 
 -- past the end nothing is found
-pub search_ends : (samples : List ℕ) (most held from i : ℕ) (whole : Run) → length samples ≤ i → searched samples most held from i ≡ whole
-    → Nowhere ≡ whole
+pub search_ends : (samples : List ℕ) (most held from i : ℕ) (whole : Option Stretch) → length samples ≤ i → searched samples most held from i ≡ whole
+    → None ≡ whole
 unfolding next_among
 search_ends samples most held from i whole h e =
     let left : length samples - i ≡ 0 = omega arith in
@@ -287,14 +278,13 @@ found_later samples most held from i start len t f =
         elim (ℕ_discrete j i) [ yes e ↦ ap (starts samples most held from) e ∙ t | no n ↦ f.none_before j (omega arith) b ]
 
 -- a run is one only
-same_run : (P : ℕ → ℕ → Type 0) (i j k l : ℕ) → At i j ≡ At k l → P i j → P k l
+same_run : (P : ℕ → ℕ → Type 0) (i j k l : ℕ) → Some (stretch i j) ≡ Some (stretch k l) → P i j → P k l
 same_run P i j k l e p =
-    let first : i ≡ k = cc in
-    let second : j ≡ l = cc in
-    subst (λ (m : ℕ). P m l) first (subst (λ (m : ℕ). P i m) second p)
+    let one : stretch i j ≡ stretch k l = cc in
+    subst (λ (r : Stretch). P r.start r.len) one p
 
 found_among : (samples : List ℕ) (most held from i n start len : ℕ)
-    → next_among samples most held from i n ≡ At start len → Found samples most held from i start len
+    → next_among samples most held from i n ≡ Some (stretch start len) → Found samples most held from i start len
 unfolding next_among
 found_among samples most held from i zero start len h =
     let none : ◌≡◌ {A = ℕ} 0 1 = cc in
@@ -303,10 +293,10 @@ found_among samples most held from i (suc n) start len h =
     go (truth (starts samples most held from i)) (found_among samples most held from (i + 1) n start len)
   where
     go : EitherWay (starts samples most held from i)
-        → (next_among samples most held from (i + 1) n ≡ At start len → Found samples most held from (i + 1) start len)
+        → (next_among samples most held from (i + 1) n ≡ Some (stretch start len) → Found samples most held from (i + 1) start len)
         → Found samples most held from i start len
     go (inl t) later =
-        let step : next_among samples most held from i (suc n) ≡ At (gap_at samples i) (gap_length samples i) = rw t refl in
+        let step : next_among samples most held from i (suc n) ≡ Some (stretch (gap_at samples i) (gap_length samples i)) = rw t refl in
         same_run (Found samples most held from i) (gap_at samples i) (gap_length samples i) start len (sym step ∙ h)
         (found_there samples most held from i t)
     go (inr t) later =
@@ -314,7 +304,7 @@ found_among samples most held from i (suc n) start len h =
         found_later samples most held from i start len t (later (sym step ∙ h))
 
 pub found_run : (samples : List ℕ) (most held from start len : ℕ)
-    → next_run samples most held from ≡ At start len → Found samples most held from from start len
+    → next_run samples most held from ≡ Some (stretch start len) → Found samples most held from from start len
 found_run samples most held from start len h = found_among samples most held from from (length samples - from) start len h
 
 -- what the tests of a run that is found say of it: it is of one of the two kinds, and its gap ends where the run does, is within the limit
@@ -361,7 +351,7 @@ fits {samples} {most} {held} {from} {i} {start} {len} f =
     some (inr k) two = omega (arith, k.one_kept, k.enough)
 
 -- so where its gap ends: past the place from which the search began, and before the recording's end
-pub found_within : (samples : List ℕ) (most held from start len : ℕ) → next_run samples most held from ≡ At start len
+pub found_within : (samples : List ℕ) (most held from start len : ℕ) → next_run samples most held from ≡ Some (stretch start len)
     → (from < start + len) × (start + len < length samples)
 found_within samples most held from start len h =
     let f = found_run samples most held from start len h in

@@ -216,17 +216,10 @@ module _ (samples known : List ℕ) (start len : ℕ) (w : List Float) (inside :
 pub handed_on : (a b : Answer) (s : State) (e : Ended) → a ≡ b → ended b s ≡ e → ended a s ≡ e
 handed_on a b s e same h = ap (λ (r : Answer). ended r s) same ∙ h
 
--- a refusal has none
-pub refused_order : (start len passes : ℕ) (samples : List ℕ) (a : Answer) (why : Reason) → a ≡ Err why
-    → 0 ≡ order_beside start len passes samples a
-refused_order start len passes samples a why e = sym (ap (order_beside start len passes samples) e)
-
 -- an acceptance has the model's
-pub accepted_order : (start len passes : ℕ) (samples : List ℕ) (a : Answer) (m order : ℕ) → a ≡ Ok m → len ≤ 2048
-    → order ≡ fill_order passes samples start len → order ≡ order_beside start len passes samples a
-accepted_order start len passes samples a m order e short h =
-    let model : order_beside start len passes samples (Ok m) ≡ fill_order passes samples start len = rw (le-ltb 2048 len short) refl in
-    h ∙ sym (ap (order_beside start len passes samples) e ∙ model)
+pub by_model_order : (start len passes : ℕ) (samples : List ℕ) (m : ℕ) {order : ℕ} → len ≤ 2048
+    → order ≡ fill_order passes samples start len → order ≡ order_beside start len passes samples (Ok m)
+by_model_order start len passes samples m short h = h ∙ rw (le-ltb 2048 len short) refl
 
 -- ---- In its place
 
@@ -244,3 +237,8 @@ module _ (samples : List ℕ) (start len at : ℕ) (w v : List Float) (m : Model
         let words : part ≡ model 1 samples start len = e ∙ m.words in
         lent_back start len samples part inside (ap length words ∙ length_model samples start len inside 1)
         ∙ ap (λ (ws : List ℕ). sets samples start ws) words
+
+    -- the entry that was made before has kept the samples
+    pub model_written : (now part : List ℕ) → now ≡ samples → part ≡ map narrow_word (lent_results at len v)
+        → put_mid start (start + len - start) now part ≡ sets samples start (model 1 samples start len)
+    model_written now part same e = rw same (model_back part e)

@@ -1,10 +1,11 @@
 -- The repair of one gap, line by line of its plan: the tests that failed before, the test that holds, and what the plan
 -- is then; and what each way out leaves in the workspace. Assumes nothing.
-use Rattle.std.proofs.Common.{◌≡◌, ℕ, ◌+◌, ◌<◌, ◌≤◌, Bool, true, false, ltb, List, length, sym, refl, ap, ◌∙◌, inl, inr, arith, le-ltb, lt-ltb}
-use lib.Ieee.{Float}
+use Rattle.std.proofs.Common.{◌≡◌, ℕ, ◌+◌, ◌<◌, ◌≤◌, Bool, true, false, ltb, List, length, replicate, sym, refl, ap, ◌∙◌, inl, inr, arith, le-ltb, lt-ltb}
+use lib.Seq.{sets}
+use lib.Ieee.{Float, binary64, of_bits}
 use Rattle.leaves.specs.Arithmetic.{nought}
 use Rattle.recording.specs.Recording.{State, Ended, ended, refused, Plan, refuse, change, span, fitting, carried}
-use Rattle.recording.specs.Recording.{clears, work_after}
+use Rattle.recording.specs.Recording.{cleared, clears, work_after}
 use Rattle.recording.specs.Marks.{gap_by_model, gap_by_line}
 use Rattle.std.specs.Prelude.{if◌then◌else◌}
 use Rattle.recording.specs.declared.Reason.{Reason}
@@ -13,6 +14,7 @@ use Rattle.recording.specs.Answer.{Answer}
 use Rattle.std.specs.Prelude.{Ok, Err}
 use Rattle.recording.proofs.read.Laws.{ReadEnds, readable_ends}
 use Rattle.recording.proofs.Performing.{unfit, fit}
+use Rattle.recording.proofs.Answers.{never_both}
 use Rattle.inpaint.specs.Gap.{gap_wrong, needed, all_readable, from, known_before, known_behind}
 use Rattle.inpaint.specs.Gap.{line, model, repaired, gap_plan, gap_repair}
 use Rattle.inpaint.proofs.window.Laws.{gap_right}
@@ -109,6 +111,14 @@ whole_call s t start len passes room n r a order work next same ends works besid
   beside ∙ ap (λ (e : Ended). order_beside start len passes s.samples e.answer) ends,
 )
 
+-- a refusal has no order beside it
+pub whole_refusal : (s : State) (start len passes room n : ℕ) (why : Reason) (work next : List Float)
+    → ended (Err why) s ≡ gap_repair start len passes room s → next ≡ work_after nought n (Err why) work
+    → (ended (Err why) s ≡ gap_repair start len passes room s)
+    × (next ≡ work_after nought n (Err why) work) × (0 ≡ gap_order start len passes room s)
+whole_refusal s start len passes room n why work next ends works =
+    whole_call s s start len passes room n (Err why) (Err why) 0 work next refl ends works refl
+
 -- ---- The workspace
 
 all_ends : (samples : List ℕ) (start len : ℕ) → ReadEnds (all_readable samples start len)
@@ -128,9 +138,11 @@ read_keeps nought samples start len a e why h n work = rw kept refl
     kept : clears a ≡ false
     kept =
         elim (all_ends samples start len) [
-          | inl g ↦ absurd (never (sym h ∙ e ∙ g))
+          | inl g ↦ never_both (sym g ∙ sym e ∙ h)
           | inr g ↦ rw (e ∙ g.1) refl
         ]
-      where
-        never : Err why ≡ Ok 0 → ⊥
-        never both = let none : ◌≡◌ {A = ℕ} 0 1 = cc in omega arith
+
+-- what the code writes over it is +0
+pub nought_written : (k : ℕ) (v next : List Float) → next ≡ sets v 0 (replicate k (of_bits binary64 0)) → next ≡ cleared nought k v
+unfolding of_bits
+nought_written k v next e = e

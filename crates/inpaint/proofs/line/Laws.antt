@@ -125,3 +125,9 @@ module _ (samples : List ℕ) (start len : ℕ) where
         e ∙ ap (λ (k : ℕ). line_from left right k 0 k) (lent_count start len samples h) ∙ line_is in
         lent_back start len samples part h (ap length words ∙ length_line)
         ∙ ap (λ (ws : List ℕ). sets samples start ws) words
+
+    -- the entry that was made before has kept the samples
+    pub line_written : (now part : List ℕ) → now ≡ samples → start + len ≤ length samples
+        → let k = length (take (start + len - start) (drop start now)) in part ≡ line_from left right k 0 k
+        → put_mid start (start + len - start) now part ≡ sets samples start (line samples start len)
+    line_written now part same h e = rw same (line_back part h (rw same at e))

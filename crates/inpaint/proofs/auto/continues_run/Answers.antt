@@ -1,5 +1,5 @@
 -- `inpaint::auto::continues_run` meets its contract: each way out is a line of the rule. Assumes nothing.
-use Rattle.std.proofs.Common.{sym, ◌∙◌}
+use Rattle.std.proofs.Common.{sym, ◌∙◌, ne_eqb}
 use Rattle.inpaint.proofs.auto.Runs.{continues_zeros, continues_other, continues_held}
 use Rattle.inpaint.proofs.auto.continues_run.Goals as goal
 
@@ -10,9 +10,10 @@ returns-then-is_zero_or_nan c =
 
 pub returns-then-before-word : goal.returns-then-before-word
 returns-then-before-word c =
-    continues_other _ _ (sym c.is_zero_or_nan.ensures ∙ c.if-is_zero_or_nan.false) c.if-before-word.true
-
-pub returns : goal.returns
-returns c =
     c.is_holdable.ensures
-    ∙ continues_held _ _ (sym c.is_zero_or_nan.ensures ∙ c.if-is_zero_or_nan.false) c.if-before-word.false
+    ∙ continues_held _ _ (sym c.is_zero_or_nan.ensures ∙ c.if-is_zero_or_nan.false) c.if-before-word.true
+
+pub returns-else-before-word : goal.returns-else-before-word
+returns-else-before-word c =
+    ne_eqb _ _ c.if-before-word.false
+    ∙ continues_other _ _ (sym c.is_zero_or_nan.ensures ∙ c.if-is_zero_or_nan.false) c.if-before-word.false

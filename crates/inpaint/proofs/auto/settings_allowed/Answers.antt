@@ -1,13 +1,22 @@
 -- `inpaint::auto::settings_allowed` meets its contract: between the infinities lies every finite float and no other.
 -- Assumes nothing.
+use Rattle.std.proofs.Common.{sym, ◌∙◌}
+use borrow.Author.Tests.{lt-leb}
 use Rattle.inpaint.proofs.auto.Laws.{rate_past, limit_between, limit_beyond}
+use Rattle.inpaint.proofs.auto.Runs.{both}
 use Rattle.inpaint.proofs.auto.settings_allowed.Goals as goal
-
-pub returns-then-rate-gt-MOST_RATE : goal.returns-then-rate-gt-MOST_RATE
-returns-then-rate-gt-MOST_RATE c = rate_past c.args.rate c.args.millis c.if-rate-gt-MOST_RATE.true
+use Rattle.inpaint.proofs.auto.settings_allowed.Goals.{then-rate-le-MOST_RATE, else-rate-le-MOST_RATE}
 
 pub returns-then-millis-infinity : goal.returns-then-millis-infinity
-returns-then-millis-infinity c = limit_between _ _ c.if-rate-gt-MOST_RATE.false c.if-millis-infinity.true
+returns-then-millis-infinity c =
+    elim c.if-rate-le-MOST_RATE.branch [
+      | then-rate-le-MOST_RATE w ↦ limit_between _ _ w.if-rate-le-MOST_RATE.true (sym w.value-is ∙ c.if-millis-infinity.true)
+      | else-rate-le-MOST_RATE w ↦ both (sym w.value-is ∙ c.if-millis-infinity.true) (lt-leb _ _ w.if-rate-le-MOST_RATE.false)
+    ]
 
 pub returns-else-millis-infinity : goal.returns-else-millis-infinity
-returns-else-millis-infinity c = limit_beyond _ _ c.if-rate-gt-MOST_RATE.false c.if-millis-infinity.false
+returns-else-millis-infinity c =
+    elim c.if-rate-le-MOST_RATE.branch [
+      | then-rate-le-MOST_RATE w ↦ c.if-millis-infinity.false ∙ limit_beyond _ _ w.if-rate-le-MOST_RATE.true (sym w.value-is ∙ c.if-millis-infinity.false)
+      | else-rate-le-MOST_RATE w ↦ c.if-millis-infinity.false ∙ rate_past _ _ w.if-rate-le-MOST_RATE.false
+    ]

@@ -1,39 +1,38 @@
 -- `inpaint::line::repair_by_line` meets its contract: refused by the range test, refused by the entry, or entered and
 -- written. Assumes nothing.
-use Rattle.std.proofs.Common.{◌≡◌, ◌+◌}
-use Rattle.recording.specs.Recording.{state, ranged, span}
-use Rattle.recording.proofs.commit.Laws.{carried_out, span_refused, span_written}
-use Rattle.inpaint.specs.Gap.{left_of, right_of, line}
-use Rattle.inpaint.proofs.line.Laws.{length_line, line_ranged, line_back}
+use Rattle.std.proofs.Common.{sym}
+use Rattle.std.proofs.lemmas.Result.{err_from_is_err_and}
+use Rattle.recording.specs.Lent.{held}
+use Rattle.recording.proofs.commit.Laws.{carried_out}
+use Rattle.inpaint.proofs.Entered.{entry_refused, entry_written}
+use Rattle.inpaint.proofs.fill.Laws.{handed_on}
+use Rattle.inpaint.proofs.line.Laws.{length_line, line_ranged, line_written}
 use Rattle.inpaint.proofs.line.repair_by_line.Goals as goal
 
-pub returns-in_default : goal.returns-in_default
-returns-in_default c =
-    let ranging : let a = c.args in c.check_line-checked.result ≡ ranged (span a.start (line a.samples.now a.start a.len)) = let right_end : let a = c.args in c.right_of-right.result ≡ right_of a.samples.now (a.start + a.len) = c.right_of-right.ensures in
-    let left_end : let a = c.args in c.left_of-left.result ≡ left_of a.samples.now a.start = c.left_of-left.ensures in
-    line_ranged _ _ _ _ _ left_end right_end _ c.check_line-checked.ensures in
-    carried_out _ _ _ _ _ ranging c.in_default.is
+pub returns-in_err-check_line-clause-rule : goal.returns-in_err-check_line-clause-rule
+returns-in_err-check_line-clause-rule c =
+    let p = err_from_is_err_and c.from_residual.result c.from_residual.ensures.1 in
+    let s = held c.args.recording.now in
+    let ranging = line_ranged s.samples c.args.start c.args.len _ _ c.left_of-left.ensures c.right_of-right.ensures _ c.check_line.ensures in
+    let was = c.in_err-check_line.was in
+    rw (p.1, p.2) (handed_on _ _ _ _ (sym was) (carried_out s _ _ _ _ ranging was))
 
-pub returns-in_default-entered : goal.returns-in_default-entered
-returns-in_default-entered c =
-    let ranging : let a = c.args in c.check_line-checked.result ≡ ranged (span a.start (line a.samples.now a.start a.len)) = let right_end : let a = c.args in c.right_of-right.result ≡ right_of a.samples.now (a.start + a.len) = c.right_of-right.ensures in
-    let left_end : let a = c.args in c.left_of-left.result ≡ left_of a.samples.now a.start = c.left_of-left.ensures in
-    line_ranged _ _ _ _ _ left_end right_end _ c.check_line-checked.ensures in
-    let a = c.args in
-    let count = length_line a.samples.now a.start a.len in
-    span_refused (let a = c.args in state a.samples.now a.marks.now a.counts.now a.journal.now a.used.now) _ _ _ _ count _ _ _ _ _ _ _ ranging c.in-Done.is
-    _ c.in_default-entered.is (c.enter_span-entered.ensures _ count)
+pub returns-in_err-named-clause-rule : goal.returns-in_err-named-clause-rule
+returns-in_err-named-clause-rule c =
+    let p = err_from_is_err_and c.from_residual-in_err-named.result c.from_residual-in_err-named.ensures.1 in
+    let s = held c.args.recording.now in
+    let ranging = line_ranged s.samples c.args.start c.args.len _ _ c.left_of-left.ensures c.right_of-right.ensures _ c.check_line.ensures in
+    rw (p.1, p.2)
+    (entry_refused s (held c.enter_span.new.self) _ _ _ _ (length_line s.samples c.args.start c.args.len) _ _ _ ranging c.in_ok-check_line.was
+    c.enter_span.ensures.samples c.enter_span.ensures.rule _ c.in_err-named.was)
 
-pub returns : goal.returns
-returns c =
-    let ranging : let a = c.args in c.check_line-checked.result ≡ ranged (span a.start (line a.samples.now a.start a.len)) = let right_end : let a = c.args in c.right_of-right.result ≡ right_of a.samples.now (a.start + a.len) = c.right_of-right.ensures in
-    let left_end : let a = c.args in c.left_of-left.result ≡ left_of a.samples.now a.start = c.left_of-left.ensures in
-    line_ranged _ _ _ _ _ left_end right_end _ c.check_line-checked.ensures in
-    let right_end : let a = c.args in c.right_of-right.result ≡ right_of a.samples.now (a.start + a.len) = c.right_of-right.ensures in
-    let left_end : let a = c.args in c.left_of-left.result ≡ left_of a.samples.now a.start = c.left_of-left.ensures in
-    let a = c.args in
-    let count = length_line a.samples.now a.start a.len in
-    let written = c.line_fill.ensures in
-    let back = line_back a.samples.now _ _ _ _ left_end right_end _ c.requires.1 written in
-    span_written (let a = c.args in state a.samples.now a.marks.now a.counts.now a.journal.now a.used.now) _ _ _ _ count _ _ _ _ _ _ _ ranging c.in-Done.is
-    _ _ c.in-Done-entered.is back (c.enter_span-entered.ensures _ count)
+pub returns-clause-rule : goal.returns-clause-rule
+returns-clause-rule c =
+    let s = held c.args.recording.now in
+    let left = c.left_of-left.ensures in
+    let right = c.right_of-right.ensures in
+    let ranging = line_ranged s.samples c.args.start c.args.len _ _ left right _ c.check_line.ensures in
+    let same = c.enter_span.ensures.samples in
+    entry_written s (held c.enter_span.new.self) _ _ _ _ (length_line s.samples c.args.start c.args.len) _ _ _ ranging c.in_ok-check_line.was
+    same c.enter_span.ensures.rule _ _ c.in_ok-named.was
+    (line_written s.samples c.args.start c.args.len _ _ left right _ _ same c.requires.1 c.line_fill.ensures)
