@@ -111,7 +111,7 @@ last_behind h =
     picks (λ (l : List ℕ). drop mean_over l ≡ drop mean_over h.values) (eqb h.detector.taken 0) _ _ refl (values_behind h nought)
 
 -- a refusal has one reason, and is no acceptance
-same_reason : (v w : Reason) → Err v ≡ Err w → v ≡ w
+same_reason : (v w : Reason) → ◌≡◌ {A = Answer} (Err v) (Err w) → v ≡ w
 same_reason v w e = cc
 
 module _ (h : Holding) (room : List ℕ) where
@@ -152,7 +152,7 @@ module _ (h : Holding) (room : List ℕ) where
         behind_values = back;
       }
     where
-      same_count : (i : ℕ) → Ok m ≡ Ok i → m ≡ i
+      same_count : (i : ℕ) → ◌≡◌ {A = Answer} (Ok m) (Ok i) → m ≡ i
       same_count i k = cc
 
 pub piece_ends : PieceEnds

@@ -4,7 +4,7 @@ use mathlib.Core.Bool.{Bool, true, false}
 use mathlib.Core.List.{List, [], ◌∷◌, map}
 use Prim.Native.Nat.{ℕ, suc, ◌+◌, ◌-◌, ◌≤◌, ◌<◌}
 use native.Mathlib.Omega.{arith}
-use borrow.Author.Tests.{lt-ltb, le-ltb, eq-eqb, ne_eqb}
+use borrow.Author.Tests.{eq-eqb, ne_eqb}
 use lib.Dec.{ltb}
 use lib.ListN.{length, get_or, take, drop, set, replicate, drop_of_length-le}
 use lib.Seq.{sets, drop-cons, get_or-take, length-take-le, take_all}
@@ -25,15 +25,6 @@ use Rattle.crackle.proofs.Due.{held_few, length_held, judged_free, judged_still,
 -- ---- One place
 
 module _ (d : Detector) where
-  pub few_flag : (floor a : Float) → d.total < least_samples → 0 ≡ flag_byte (flag_against d floor a)
-  unfolding flag_against
-  few_flag floor a h = rw (lt-ltb _ _ h) refl
-
-  pub flag_by : (floor a : Float) (out b : Bool) → least_samples ≤ d.total → out ≡ flagged d.factor floor a → out ≡ b
-      → flag_byte b ≡ flag_byte (flag_against d floor a)
-  unfolding flag_against
-  flag_by floor a out b h e eb = rw (le-ltb _ _ h, ← e, eb) refl
-
   pub value_first : (next : Float) → d.taken ≡ 1 → of_bits binary32 0 ≡ value_before d next
   unfolding value_before
   value_first next h = rw (eq-eqb _ _ h) nought_word

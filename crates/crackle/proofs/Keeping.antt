@@ -5,7 +5,7 @@ use mathlib.Core.List.{List, [], ◌++◌, append-nil}
 use Prim.Native.Nat.{ℕ, ◌-◌, ◌≤◌, ◌<◌}
 use native.Mathlib.Omega.{arith}
 use borrow.Rule.Slice.PartMut.{mid_of, put_mid}
-use borrow.Author.Tests.{lt-ltb, le-ltb, eq-eqb, ne_eqb}
+use borrow.Author.Tests.{lt-ltb, le-ltb}
 use lib.Dec.{eqb}
 use lib.ListN.{length, get_or, set, take, drop, length-append, length-drop, take-append-drop, drop_of_length-le}
 use lib.Seq.{sets, sets-eq, drop_at, take_all, length-take-le}
@@ -16,33 +16,15 @@ use Rattle.recording.specs.Answers.{number}
 use Rattle.recording.specs.declared.Reason.{Reason}
 use Rattle.recording.specs.declared.Reason.TheVariants.{Workspace}
 use Rattle.recording.specs.Answer.{Answer}
-use Rattle.std.specs.Prelude.{Ok, Err}
+use Rattle.std.specs.Prelude.{Result, Ok, Err}
 use Rattle.crackle.specs.declared.Detector.{Detector}
-use Rattle.crackle.specs.declared.Announced.{Announced}
-use Rattle.crackle.specs.declared.Announced.TheVariants.{Begun, TurnedAway}
 use Rattle.decrackle.specs.declared.Start.{Start}
-use Rattle.decrackle.specs.declared.Start.TheVariants.{Mean, Old}
 use Rattle.crackle.specs.Inner.{head_after}
 use Rattle.crackle.specs.Pieces.{announced, Holding, holding, Told, told}
 use Rattle.crackle.specs.Kept.{head_words, state_words, running_word, start_word, start_of, head_of, words_of, detector_of, holding_of, kept_told}
 use Rattle.crackle.specs.Kept.{begin_kept, kept_by}
 
 -- ---- The words
-
--- a start, and its word
-pub start_mean : (w : ℕ) → w ≡ 1 → Mean ≡ start_of w
-start_mean w h = rw (eq-eqb w 1 h) refl
-
-pub start_old : (w : ℕ) → (w ≡ 1 → ⊥) → Old ≡ start_of w
-start_old w h = rw (ne_eqb w 1 h) refl
-
-pub word_mean : (start : Start) → start ≡ Mean → 1 ≡ start_word start
-unfolding start_word
-word_mean start h = rw h refl
-
-pub word_old : (start : Start) → start ≡ Old → 0 ≡ start_word start
-unfolding start_word
-word_old start h = rw h refl
 
 pub read_so : (words : List ℕ) (start : Start) (factor floor before last : Float) → start ≡ start_of (get_or words 7 0) → factor ≡ of_bits binary32 (get_or words 3 0)
     → floor ≡ of_bits binary32 (get_or words 4 0) → before ≡ of_bits binary32 (get_or words 5 0) → last ≡ of_bits binary32 (get_or words 6 0)
@@ -68,14 +50,6 @@ pub written_so : (d : Detector) (words : List ℕ) (running factor floor before 
 unfolding head_of
 written_so d words running factor floor before last start er ef el eb ez es = rw (er, ef, el, eb, ez, es) refl
 
--- after 6 they stay, and after any other answer they hold the detector
-module _ (a : Answer) (d : Detector) (words : List ℕ) (k : ℕ) (ek : k ≡ number a) where
-  pub kept_written : (after : List ℕ) → (k ≡ 6 → ⊥) → after ≡ sets words 0 (head_of d) → after ≡ head_after a d words
-  kept_written after h e = e ∙ rw (← ek, ne_eqb k 6 h) refl
-
-  pub kept_same : k ≡ 6 → words ≡ head_after a d words
-  kept_same h = rw (← ek, eq-eqb k 6 h) refl
-
 -- written before the values that are there, it is the words of both
 pub head_written : (d : Detector) (front values : List ℕ) → length front ≡ head_words → sets (front ++ values) 0 (head_of d) ≡ words_of (holding d values)
 unfolding words_of head_of
@@ -90,8 +64,8 @@ module _ (start : Start) (total : ℕ) (sensitivity : Float) (words : List ℕ) 
   unfolding begin_kept
   begin_few h = rw (lt-ltb _ _ h) refl
 
-  module _ (enough : state_words ≤ length words) (a : Announced) (ea : a ≡ announced start total sensitivity) where
-    pub begin_so : (d : Detector) (after : List ℕ) → a ≡ Begun d → after ≡ sets words 0 (head_of d)
+  module _ (enough : state_words ≤ length words) (a : Result Detector Reason) (ea : a ≡ announced start total sensitivity) where
+    pub begin_so : (d : Detector) (after : List ℕ) → a ≡ Ok d → after ≡ sets words 0 (head_of d)
         → told (Ok 0) after [] ≡ begin_kept start total sensitivity words
     unfolding begin_kept
     begin_so d after h e =
@@ -101,7 +75,7 @@ module _ (start : Start) (total : ℕ) (sensitivity : Float) (words : List ℕ) 
         ∙ head_written d (take head_words words) (drop head_words words) front in
         rw (le-ltb _ _ enough, ← ea, h, so) refl
 
-    pub begin_away : (why : Reason) → a ≡ TurnedAway why → told (Err why) words [] ≡ begin_kept start total sensitivity words
+    pub begin_away : (why : Reason) → a ≡ Err why → told (Err why) words [] ≡ begin_kept start total sensitivity words
     unfolding begin_kept
     begin_away why h = rw (le-ltb _ _ enough, ← ea, h) refl
 

@@ -2,16 +2,15 @@
 use mathlib.Core.Path.{◌≡◌, refl, sym, ap, ◌∙◌}
 use mathlib.Core.Bool.{Bool, true, false, not}
 use mathlib.Core.List.{List, ◌++◌, map, map-append}
-use mathlib.Core.Logic.{inl, inr}
 use Prim.Native.Nat.{ℕ, suc, ◌+◌, ◌-◌, ◌≤◌, ◌<◌}
 use native.Mathlib.Omega.{arith}
-use borrow.Author.Tests.{ltb-true, ltb-false, lt-ltb, le-ltb, eq-eqb, ne_eqb}
+use borrow.Author.Tests.{ltb-false, lt-ltb, le-ltb, eq-eqb, ne_eqb}
 use lib.Dec.{ltb, eqb}
 use lib.ListN.{length, get_or, drop, length-map, drop_of_length-le}
-use lib.Seq.{sets, length-sets, drop-cons}
+use lib.Seq.{sets, drop-cons}
 use lib.Ieee.{Float, binary32, of_bits, ne}
 use Rattle.leaves.specs.Arithmetic.{float}
-use Rattle.leaves.proofs.Choice.{truth, neither}
+use Rattle.leaves.proofs.Choice.{neither}
 use Rattle.leaves.proofs.Literals.{nought_word}
 use Rattle.leaves.proofs.Parts.{sets_both}
 use Rattle.leaves.proofs.words.Laws.{nan_test}
@@ -24,7 +23,6 @@ use Rattle.decrackle.specs.declared.Start.{Start}
 use Rattle.decrackle.specs.Decrackle.{factor_for, mean_over, old_floor}
 use Rattle.decrackle.proofs.Opening.{millionth}
 use Rattle.crackle.specs.declared.Detector.{Detector}
-use Rattle.crackle.specs.declared.Announced.TheVariants.{Begun, TurnedAway}
 use Rattle.crackle.specs.Inner.{floor_behind}
 use Rattle.crackle.specs.Pieces.{begun, announced, held_back, given_by, flags_due, Holding, holding, values_with, judged_with}
 use Rattle.crackle.specs.Pieces.{flags_with, floor_with}
@@ -35,17 +33,17 @@ use Rattle.crackle.proofs.Due.{due_both, length_with, over_is, judged_length, by
 -- ---- The announcement
 
 module _ (start : Start) (total : ℕ) (sensitivity : Float) where
-  pub announced_many : most_samples < total → TurnedAway TooMany ≡ announced start total sensitivity
+  pub announced_many : most_samples < total → Err TooMany ≡ announced start total sensitivity
   unfolding announced
   announced_many h = rw (lt-ltb _ _ h) refl
 
   module _ (few : total ≤ most_samples) where
-    pub announced_nan : ne sensitivity sensitivity ≡ true → TurnedAway Setting ≡ announced start total sensitivity
+    pub announced_nan : ne sensitivity sensitivity ≡ true → Err Setting ≡ announced start total sensitivity
     unfolding announced
     announced_nan h = rw (le-ltb _ _ few, nan_test sensitivity, h) refl
 
     pub announced_begun : (factor : Float) → ne sensitivity sensitivity ≡ false → factor ≡ factor_for sensitivity
-        → Begun
+        → Ok
         (record {
           start = start;
           total = total;
@@ -114,11 +112,6 @@ before_room d held value over b at size some enough eb eo fits =
 
 -- ---- The samples of a piece, one by one
 
--- the room stays as long
-pub flags_count : (h : Holding) (x : Float) (given size : ℕ) (room after : List ℕ) → after ≡ sets room given (map flag_byte (flags_by h x))
-    → length room ≡ size → length after ≡ size
-flags_count h x given size room after e count = ap length e ∙ length-sets room given (map flag_byte (flags_by h x)) ∙ count
-
 module _ (piece : List ℕ) where
   -- the flags that are left from place i on
   abbrev pub left_from : Holding → ℕ → List ℕ
@@ -183,22 +176,6 @@ next_room start own t taken i n given size es et eg h fits =
     rw (es, et, eg) (omega (arith, fits, all))
 
 -- ---- A piece
-
--- a place of a detector that goes on, as the code tests it
-module _ (d : Detector) (goes : d.running ≡ true) where
-  pub more_in : (n : ℕ) → d.total < d.taken → true ≡ too_much d n
-  more_in n h = rw (goes, lt-ltb d.total (d.taken + n) (omega (arith, h))) refl
-
-  pub too_many_left : (n : ℕ) → d.taken ≤ d.total → ltb (d.total - d.taken) n ≡ too_much d n
-  too_many_left n h =
-      rw goes
-      (elim (truth (ltb (d.total - d.taken) n)) [
-        | inl k ↦ k ∙ sym (lt-ltb d.total (d.taken + n) (omega (arith, ltb-true (d.total - d.taken) n k, h)))
-        | inr k ↦ k ∙ sym (le-ltb d.total (d.taken + n) (omega (arith, ltb-false (d.total - d.taken) n k, h)))
-      ])
-
-  pub all_in : not (eqb d.taken d.total) ≡ not_all d
-  all_in = rw goes refl
 
 -- what the test tells where it passes
 pub not_much : (d : Detector) (n : ℕ) (b : Bool) → b ≡ too_much d n → b ≡ false → d.taken + n ≤ d.total

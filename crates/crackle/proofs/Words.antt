@@ -22,7 +22,6 @@ use Rattle.std.specs.Prelude.{Ok, Err}
 use Rattle.decrackle.specs.declared.Start.{Start}
 use Rattle.decrackle.specs.declared.Start.TheVariants.{Mean, Old}
 use Rattle.decrackle.specs.Decrackle.{factor_for, least_floor, mean_over, summed, mean_floor, old_floor, opening_floor, alpha, floor_after}
-use Rattle.crackle.specs.declared.Announced.TheVariants.{Begun}
 use Rattle.crackle.specs.Pieces.{begun, announced, held_back, Holding, holding, held_with, judged_with, floor_before, floor_along, floor_with}
 use Rattle.crackle.specs.Pieces.{value_before, over_with, with_sample, with_piece, flag_byte, Told, told, closed, piece_told, last_values, end_told}
 use Rattle.crackle.specs.Kept.{head_words, state_words, start_word, start_of, head_of, words_of, detector_of, holding_of, words_after, kept_told}
@@ -254,7 +253,7 @@ begun_fits start total sensitivity values =
     }
 
 begun_told : (start : Start) (total : ℕ) (sensitivity : Float) (words : List ℕ) → state_words ≤ length words
-    → announced start total sensitivity ≡ Begun (begun start total sensitivity)
+    → announced start total sensitivity ≡ Ok (begun start total sensitivity)
     → begin_kept start total sensitivity words ≡ told (Ok 0) (words_of (fresh start total sensitivity (drop head_words words))) []
 unfolding begin_kept
 begun_told start total sensitivity words h e = rw (le-ltb (length words) state_words h, e) refl
@@ -269,7 +268,7 @@ however_cut_in_words start sensitivity s offers words room may few good enough-w
     first : Holding
     first = fresh start (length s) sensitivity values
 
-    cuts : (announced start (length s) sensitivity ≡ Begun first.detector)
+    cuts : (announced start (length s) sensitivity ≡ Ok first.detector)
         × ((handed first offers).numbers ≡ by_room start 0 offers)
         × (number (end_told (handed first offers).held room).answer ≡ 0)
         × ((handed first offers).flags ++ flags_given (end_told (handed first offers).held room).answer (end_told (handed first offers).held room).room

@@ -9,7 +9,6 @@ use Rattle.recording.specs.Answer.{Answer}
 use Rattle.std.specs.Prelude.{Ok, Err}
 use Rattle.decrackle.specs.declared.Start.{Start}
 use Rattle.decrackle.specs.Decrackle.{allowed, mean_over, least_samples, flags_of, decrackled}
-use Rattle.crackle.specs.declared.Announced.TheVariants.{Begun}
 use Rattle.crackle.specs.Pieces.{begun, announced, given_by, flags_due, Holding, holding, flag_byte, Told, told, stopped, piece_told, end_told}
 use Rattle.crackle.specs.Kept.{state_words, holding_of, begin_kept, piece_kept, end_kept}
 
@@ -115,7 +114,7 @@ HoweverCut =
     → Cut start (length s) 0 offers s → length s - given_by start (length s) ≤ length room
     → let run = handed (fresh start (length s) sensitivity values) offers in
     let end = end_told run.held room in
-    (announced start (length s) sensitivity ≡ Begun (begun start (length s) sensitivity))
+    (announced start (length s) sensitivity ≡ Ok (begun start (length s) sensitivity))
     × (run.numbers ≡ by_room start 0 offers)
     × (number end.answer ≡ 0)
     × (run.flags ++ flags_given end.answer end.room ≡ map flag_byte (whole_flags start sensitivity s))

@@ -5,15 +5,14 @@ use Rattle.std.specs.Float.Ieee.{to_bits}
 use Rattle.leaves.specs.Arithmetic.{float}
 use Rattle.std.specs.Prelude.{if◌then◌else◌}
 use Rattle.recording.specs.Answers.{number}
+use Rattle.recording.specs.declared.Reason.{Reason}
 use Rattle.recording.specs.declared.Reason.TheVariants.{Workspace}
 use Rattle.recording.specs.Answer.{Answer}
-use Rattle.std.specs.Prelude.{Ok, Err}
+use Rattle.std.specs.Prelude.{Result, Ok, Err}
 use Rattle.decrackle.specs.declared.Start.{Start}
 use Rattle.decrackle.specs.declared.Start.TheVariants.{Mean, Old}
 use Rattle.decrackle.specs.Decrackle.{mean_over}
 use Rattle.crackle.specs.declared.Detector.{Detector}
-use Rattle.crackle.specs.declared.Announced.{Announced}
-use Rattle.crackle.specs.declared.Announced.TheVariants.{Begun, TurnedAway}
 use Rattle.crackle.specs.Pieces.{announced, Holding, holding, Told, told, piece_told, end_told}
 
 -- ---- The words
@@ -90,9 +89,9 @@ abbrev pub kept_told : Told Holding → List ℕ → Told (List ℕ)
 kept_told t words = told t.answer (words_after t.answer t.held words) t.room
 
 -- an announcement, which has no room for flags; where it is turned away there is no detector, and the words stay
-abbrev pub kept_begun : Announced → List ℕ → Told (List ℕ)
-kept_begun (Begun d) words = told (Ok 0) (words_of (holding d (drop head_words words))) []
-kept_begun (TurnedAway why) words = told (Err why) words []
+abbrev pub kept_begun : Result Detector Reason → List ℕ → Told (List ℕ)
+kept_begun (Ok d) words = told (Ok 0) (words_of (holding d (drop head_words words))) []
+kept_begun (Err why) words = told (Err why) words []
 
 unfoldable pub begin_kept : Start → ℕ → Float → List ℕ → Told (List ℕ)
 unfolding announced words_of

@@ -8,15 +8,14 @@ use Rattle.leaves.specs.Arithmetic.{nought, float}
 use Rattle.std.specs.Prelude.{if◌then◌else◌}
 use Rattle.leaves.specs.Floats.{magnitude}
 use Rattle.recording.specs.Recording.{most_samples, readable}
+use Rattle.recording.specs.declared.Reason.{Reason}
 use Rattle.recording.specs.declared.Reason.TheVariants.{TooMany, Setting, Workspace, Pieces}
 use Rattle.recording.specs.Answer.{Answer}
-use Rattle.std.specs.Prelude.{Ok, Err}
+use Rattle.std.specs.Prelude.{Result, Ok, Err}
 use Rattle.decrackle.specs.declared.Start.{Start}
 use Rattle.decrackle.specs.declared.Start.TheVariants.{Mean, Old}
 use Rattle.decrackle.specs.Decrackle.{allowed, factor_for, from_middle, mean_over, old_floor, opening_floor, floor_after, flags_from, least_samples}
 use Rattle.crackle.specs.declared.Detector.{Detector}
-use Rattle.crackle.specs.declared.Announced.{Announced}
-use Rattle.crackle.specs.declared.Announced.TheVariants.{Begun, TurnedAway}
 
 -- ---- "Announce the total"
 
@@ -39,12 +38,12 @@ begun start total sensitivity =
     }
 
 -- "Refusals: 2 and 4 at the announcement"
-unfoldable pub announced : Start → ℕ → Float → Announced
+unfoldable pub announced : Start → ℕ → Float → Result Detector Reason
 unfolding begun
 announced start total sensitivity =
-    if ltb most_samples total then TurnedAway TooMany else
-    if not (allowed sensitivity) then TurnedAway Setting else
-    Begun (begun start total sensitivity)
+    if ltb most_samples total then Err TooMany else
+    if not (allowed sensitivity) then Err Setting else
+    Ok (begun start total sensitivity)
 
 -- ---- When flags come
 

@@ -5,10 +5,9 @@ ghost use Rattle.crackle.specs.Pieces.{told};
 ghost use Rattle.crackle.specs.Kept.{head_words, running_word, start_word, start_of, head_of, detector_of, begin_kept, piece_kept, end_kept};
 ghost use Rattle.crackle.specs.Inner.{head_after};
 
-use super::{Announced, Detector, Heard, announce};
+use super::{Detector, Heard, announce};
 use decrackle::{MEAN_OVER, Start};
 use leaves::words::{f32_of_word, word_of_f32};
-use recording::numbers::number_of;
 use recording::{Answer, Reason};
 
 // As many words are the detector itself, and as many belong to it with the values that it holds back; what lies behind
@@ -22,9 +21,6 @@ const RUNNING: u32 = 1;
 
 // The word of a floor that starts from the mean; every other says that it starts as it used to.
 const FROM_MEAN: u32 = 1;
-
-// The refusal that takes nothing in.
-const NO_ROOM: u32 = 6;
 
 // The start that a word stands for.
 fn start_of(word: u32) -> Start
@@ -62,6 +58,7 @@ fn running_word(running: bool) -> u32
 }
 
 // The word of a start.
+#[tactic(auto, unfolding(crate::specs::Kept::start_word))]
 fn start_word(start: Start) -> u32
     ensures { result ≡ start_word start }
 {
@@ -76,7 +73,6 @@ fn write_detector(detector: Detector, words: &mut [u32])
     requires { head_words ≤ length words.old }
     ensures { words.new ≡ sets words.old 0 (head_of detector) }
 {
-    let start = detector.start;
     words[0] = detector.total;
     words[1] = detector.taken;
     words[2] = running_word(detector.running);
@@ -84,19 +80,19 @@ fn write_detector(detector: Detector, words: &mut [u32])
     words[4] = word_of_f32(detector.floor);
     words[5] = word_of_f32(detector.before);
     words[6] = word_of_f32(detector.last);
-    words[7] = start_word(start);
+    words[7] = start_word(detector.start);
 }
 
-// Keeps the detector that a call left, and hands its answer on; after refusal 6 the words stay as they are.
+// Keeps the detector that a call left, and hands its answer on; after refusal 6, which takes nothing in, the words stay as
+// they are.
 fn keep(heard: Heard, words: &mut [u32]) -> Answer
     requires { head_words ≤ length words.old }
     ensures { (result ≡ heard.answer) × (words.new ≡ head_after heard.answer heard.detector words.old) }
 {
-    let answer = heard.answer;
-    if number_of(answer) != NO_ROOM {
+    if !matches!(heard.answer, Err(Reason::Workspace)) {
         write_detector(heard.detector, words);
     }
-    answer
+    heard.answer
 }
 
 // Begins a run and keeps its detector: refusals 6, for fewer words than it needs, 2 and 4, in this order,
@@ -107,13 +103,8 @@ pub fn begin(start: Start, total: usize, sensitivity: f32, words: &mut [u32]) ->
     if words.len() < STATE_WORDS {
         return Err(Reason::Workspace);
     }
-    match announce(start, total, sensitivity) {
-        Announced::Begun(detector) => {
-            write_detector(detector, words);
-            Ok(0)
-        }
-        Announced::TurnedAway(why) => Err(why),
-    }
+    write_detector(announce(start, total, sensitivity)?, words);
+    Ok(0)
 }
 
 // Gives the kept detector a piece: refusal 6 for fewer words than it needs, and else all is as of `piece`.

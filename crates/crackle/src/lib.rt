@@ -44,14 +44,8 @@ pub struct Detector {
     pub last: f32,
 }
 
-// How an announcement ends: with a detector, or with why it is turned away.
-#[derive(Clone, Copy)]
-pub enum Announced {
-    Begun(Detector),
-    TurnedAway(Reason),
-}
-
-// How a call on a detector ends: with its answer, and with the detector behind it.
+// How a call on a detector ends: with its answer, and with the detector behind it. No Result stands for both, since the
+// detector comes back from a refusal, too.
 #[derive(Clone, Copy)]
 pub struct Heard {
     pub answer: Answer,
@@ -59,16 +53,16 @@ pub struct Heard {
 }
 
 // Begins a run of so many samples: refusals 2 and 4, or a detector with nothing in it.
-pub fn announce(start: Start, total: usize, sensitivity: f32) -> Announced
+pub fn announce(start: Start, total: usize, sensitivity: f32) -> Result<Detector, Reason>
     ensures { result ≡ announced start total sensitivity }
 {
     if MOST_SAMPLES < total {
-        return Announced::TurnedAway(Reason::TooMany);
+        return Err(Reason::TooMany);
     }
     if sensitivity != sensitivity {
-        return Announced::TurnedAway(Reason::Setting);
+        return Err(Reason::Setting);
     }
-    Announced::Begun(Detector {
+    Ok(Detector {
         start,
         total: total as u32,
         taken: 0,
@@ -92,13 +86,15 @@ fn held_back(start: Start, taken: usize) -> bool
 }
 
 // How many flags have been given when so many samples are in.
+#[tactic(auto, unfolding(crate::specs::Pieces::given_by))]
 fn given_by(start: Start, taken: usize) -> usize
     ensures { result ≡ given_by start taken }
 {
     if held_back(start, taken) {
-        return 0;
+        0
+    } else {
+        taken.saturating_sub(1)
     }
-    if taken == 0 { 0 } else { taken - 1 }
 }
 
 // How many flags a piece of n samples brings when so many are in. More are given with more samples, so that the
@@ -112,13 +108,11 @@ fn flags_due(start: Start, taken: usize, n: usize) -> usize
 
 // 1 where a place with the detector's magnitude a is flagged, and else 0; where fewer than 8 samples were
 // announced none is.
+#[tactic(auto, unfolding(crate::specs::Inner::flag_against))]
 fn flag_byte(detector: Detector, floor: f32, a: f32) -> u8
     ensures { result ≡ flag_byte (flag_against detector floor a) }
 {
-    if (detector.total as usize) < LEAST_SAMPLES {
-        return 0;
-    }
-    if stands_out(detector.factor, floor, a) {
+    if LEAST_SAMPLES <= detector.total as usize && stands_out(detector.factor, floor, a) {
         1
     } else {
         0
@@ -131,10 +125,8 @@ fn sum_held(held: &[u32], n: usize) -> f32
     ensures { result ≡ summed nought (magnitudes_in (take n held.now)) }
 {
     let mut sum: f32 = 0.0;
-    let mut k: usize = 0;
-    while k < n {
-        sum = sum + magnitude32(f32_of_word(held[k]));
-        k += 1;
+    for k in 0..n {
+        sum += magnitude32(f32_of_word(held[k]));
     }
     sum
 }
@@ -154,12 +146,10 @@ fn judge_held(
         × (flags.new ≡ sets flags.old at (map flag_byte (flags_along detector floor (magnitudes_in (take n held.now))))) }
 {
     let mut present = floor;
-    let mut k: usize = 0;
-    while k < n {
+    for k in 0..n {
         let a = magnitude32(f32_of_word(held[k]));
         present = raise_floor(present, a);
         flags[at + k] = flag_byte(detector, present, a);
-        k += 1;
     }
     present
 }
@@ -180,9 +170,8 @@ fn judge(
         × (held.new ≡ values_with (holding detector held.old) value)
         × (flags.new ≡ sets flags.old at (map flag_byte (flags_with (holding detector held.old) value over))) }
 {
-    let start = detector.start;
     let taken = detector.taken as usize;
-    if !held_back(start, taken) {
+    if !held_back(detector.start, taken) {
         let a = magnitude32(value);
         let floor = raise_floor(detector.floor, a);
         flags[at] = flag_byte(detector, floor, a);
@@ -217,8 +206,7 @@ fn judge_before(detector: Detector, held: &mut [u32], next: f32, flags: &mut [u8
     if detector.taken == 0 {
         return detector.floor;
     }
-    let start = detector.start;
-    let over = !held_back(start, detector.taken as usize + 1);
+    let over = !held_back(detector.start, detector.taken as usize + 1);
     judge(
         detector,
         held,
@@ -243,17 +231,13 @@ fn with_sample(
     ensures { (holding result held.new ≡ with_sample (holding detector held.old) next)
         × (flags.new ≡ sets flags.old at (map flag_byte (flags_by (holding detector held.old) next))) }
 {
-    let start = detector.start;
     let floor = judge_before(detector, held, next, flags, at);
     Detector {
-        start,
-        total: detector.total,
         taken: detector.taken + 1,
-        running: detector.running,
-        factor: detector.factor,
         floor,
         before: detector.last,
         last: next,
+        ..detector
     }
 }
 
@@ -265,14 +249,10 @@ fn take_in(detector: Detector, held: &mut [u32], piece: &[u32], flags: &mut [u8]
     ensures { (holding result held.new ≡ with_piece (holding detector held.old) piece.now)
         × (flags.new ≡ flags_in flags.old (flags_before (holding detector held.old) piece.now)) }
 {
-    let start = detector.start;
-    let taken = detector.taken as usize;
     let mut present = detector;
-    let mut i: usize = 0;
-    while i < piece.len() {
-        let given = flags_due(start, taken, i);
-        present = with_sample(present, held, f32_of_word(piece[i]), flags, given);
-        i += 1;
+    for (i, word) in piece.iter().enumerate() {
+        let given = flags_due(detector.start, detector.taken as usize, i);
+        present = with_sample(present, held, f32_of_word(*word), flags, given);
     }
     present
 }
@@ -281,16 +261,9 @@ fn take_in(detector: Detector, held: &mut [u32], piece: &[u32], flags: &mut [u8]
 fn close(detector: Detector) -> Detector
     ensures { result ≡ closed detector }
 {
-    let start = detector.start;
     Detector {
-        start,
-        total: detector.total,
-        taken: detector.taken,
         running: false,
-        factor: detector.factor,
-        floor: detector.floor,
-        before: detector.before,
-        last: detector.last,
+        ..detector
     }
 }
 
@@ -298,23 +271,16 @@ fn close(detector: Detector) -> Detector
 fn too_much(detector: Detector, n: usize) -> bool
     ensures { result ≡ too_much detector n }
 {
-    if !detector.running {
-        return true;
-    }
-    if detector.total < detector.taken {
-        return true;
-    }
-    ((detector.total - detector.taken) as usize) < n
+    !detector.running
+        || detector.total < detector.taken
+        || ((detector.total - detector.taken) as usize) < n
 }
 
 // Refusal 13's test of the end: the run does not go on, or not as many samples are in as were announced.
 fn not_all(detector: Detector) -> bool
     ensures { result ≡ not_all detector }
 {
-    if !detector.running {
-        return true;
-    }
-    detector.taken != detector.total
+    !detector.running || detector.taken != detector.total
 }
 
 // Gives the detector a piece, and writes the flags that this brings from the first place of the room on: refusals 6,
@@ -323,7 +289,6 @@ pub fn piece(detector: Detector, held: &mut [u32], piece: &[u32], flags: &mut [u
     ensures { told result.answer (holding result.detector held.new) flags.new
         ≡ piece_told (holding detector held.old) piece.now flags.old }
 {
-    let start = detector.start;
     let n = piece.len();
     if held.len() < MEAN_OVER {
         return Heard {
@@ -337,20 +302,19 @@ pub fn piece(detector: Detector, held: &mut [u32], piece: &[u32], flags: &mut [u
             detector: close(detector),
         };
     }
-    let due = flags_due(start, detector.taken as usize, n);
+    let due = flags_due(detector.start, detector.taken as usize, n);
     if flags.len() < due {
         return Heard {
             answer: Err(Reason::Workspace),
             detector,
         };
     }
-    let read = check_words(piece, detector.taken as usize);
-    let Ok(_) = read else {
+    if let Err(why) = check_words(piece, detector.taken as usize) {
         return Heard {
-            answer: read,
+            answer: Err(why),
             detector: close(detector),
         };
-    };
+    }
     Heard {
         answer: Ok(due),
         detector: take_in(detector, held, piece, flags),
@@ -375,7 +339,6 @@ pub fn finish(detector: Detector, held: &mut [u32], flags: &mut [u8]) -> Heard
             detector: close(detector),
         };
     }
-    let start = detector.start;
     let taken = detector.taken as usize;
     if taken == 0 {
         return Heard {
@@ -383,7 +346,7 @@ pub fn finish(detector: Detector, held: &mut [u32], flags: &mut [u8]) -> Heard
             detector: close(detector),
         };
     }
-    let due = taken - given_by(start, taken);
+    let due = taken - given_by(detector.start, taken);
     if flags.len() < due {
         return Heard {
             answer: Err(Reason::Workspace),

@@ -1,5 +1,5 @@
 -- `crackle::piece` meets its contract: each way out is a line of the rule. Assumes nothing.
-use native.Mathlib.Omega.{arith}
+use Rattle.std.proofs.Common.{refl, arith}
 use Rattle.crackle.proofs.Steps.{not_much, piece_few, piece_much, piece_short, piece_out, piece_taken}
 use Rattle.crackle.proofs.piece.Goals as goal
 
@@ -14,10 +14,10 @@ pub returns-then-flags-due : goal.returns-then-flags-due
 returns-then-flags-due c =
     piece_short _ _ _ _ c.if-held-lt-MEAN_OVER.false _ c.too_much.ensures c.if-too_much.false _ c.flags_due-due.ensures c.if-flags-due.true
 
-pub returns-in_default : goal.returns-in_default
-returns-in_default c =
+pub returns-in-Err : goal.returns-in-Err
+returns-in-Err c =
     piece_out _ _ _ _ c.if-held-lt-MEAN_OVER.false _ c.too_much.ensures c.if-too_much.false _ c.flags_due-due.ensures c.if-flags-due.false _
-    c.check_words-read.ensures _ _ c.in_default.is c.close-in_default.ensures
+    c.in-Err.ensures _ _ refl c.close-in-Err.ensures
 
 pub take_in-requires : goal.take_in-requires
 take_in-requires c =
@@ -30,4 +30,4 @@ take_in-requires c =
 pub returns : goal.returns
 returns c =
     piece_taken _ _ _ _ c.if-held-lt-MEAN_OVER.false _ c.too_much.ensures c.if-too_much.false _ c.flags_due-due.ensures c.if-flags-due.false _
-    c.check_words-read.ensures _ _ _ _ c.in-Done.is c.take_in.ensures
+    c.in_default.ensures _ _ _ _ refl c.take_in.ensures
