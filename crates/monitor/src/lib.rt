@@ -3,7 +3,7 @@
 #![tactic(auto)]
 
 ghost use Rattle.std.specs.Prelude.{◌≡◌, length};
-ghost use Rattle.inpaint.specs.Auto.{scan};
+ghost use Rattle.inpaint.specs.Auto.{scan, refused_number};
 ghost use Rattle.monitor.specs.Reading.{HasAll, Within};
 ghost use Rattle.monitor.specs.Scanning.{scanning, scanning_orders};
 ghost use Rattle.recording.specs.Lent.{held, SameMemory};
@@ -54,7 +54,7 @@ pub fn print_bad_input<W: Write>(out: &mut W) -> io::Result<()> {
 // the orders of the models.
 pub fn scan_recording(recording: &mut Recording, work: &mut [f64], orders: &mut [u32]) -> Scanned
     ensures memory { SameMemory recording.old recording.new }
-    ensures rule { (scan result.qualified result.repaired result.refused (held recording.new) work.new
+    ensures rule { (scan result.qualified result.repaired (refused_number result.refused) (held recording.new) work.new
         ≡ scanning work.old (held recording.old))
         × (orders.new ≡ scanning_orders work.old (held recording.old) orders.old) }
 {
