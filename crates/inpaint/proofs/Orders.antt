@@ -25,7 +25,6 @@ use Rattle.inpaint.specs.Order.{fill_order, order_beside, gap_order, noted, orde
 use Rattle.inpaint.specs.Consequences.{GapOrderAtMost, OrderOfEveryCount, GapHasNoSayInOrder, with_words}
 use Rattle.inpaint.specs.Consequences.{ListAsLong, RefusedScanKeepsList, order_there, OrdersAtRuns, OrdersElsewhere}
 use Rattle.std.specs.Prelude.{Option, Some, None}
-use Rattle.inpaint.specs.Auto.{stretch}
 use Rattle.inpaint.proofs.auto.Runs.{found_run}
 use Rattle.inpaint.proofs.window.Laws.{gap_right}
 use Rattle.inpaint.proofs.gap.Laws.{model_order}

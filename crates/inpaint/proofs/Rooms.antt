@@ -23,10 +23,8 @@ use Rattle.inpaint.specs.Gap.{gap_wrong, needed, gap_plan, gap_repair}
 use Rattle.inpaint.specs.Auto.{limit, zero_or_nan, run_at, next_run, source_passes, scannable}
 use Rattle.inpaint.specs.Runs.{Stretch, runs_among, runs_of, gap_calls, answers}
 use Rattle.inpaint.specs.Consequences.{AcceptedNamesTheGap, NeededAtMost, EachNumber, OwnAnswers, dense_places, dense_words, DenseSuffices, WideSuffices}
-use Rattle.inpaint.specs.declared.Stretch.{Stretch}
 use Rattle.recording.proofs.Answers.{never_both}
 use Rattle.std.specs.Prelude.{Option, Some, None}
-use Rattle.inpaint.specs.Auto.{stretch}
 use Rattle.inpaint.proofs.auto.Laws.{scannable_unfit, accepted_held}
 use Rattle.inpaint.proofs.auto.Runs.{OfZeros, OfHeld, Found, found_run, Fit, fits}
 use Rattle.inpaint.proofs.window.Laws.{right_gap, context_least, context_most, needed_within}

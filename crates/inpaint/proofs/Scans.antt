@@ -26,12 +26,10 @@ use Rattle.inpaint.specs.Auto.{Scan, scan, source_passes, repair_at, scan_from, 
 use Rattle.inpaint.specs.Runs.{Stretch, stretch, runs_among, runs_of, single_calls, gap_calls, answers, acceptances, first_refusal}
 use Rattle.inpaint.specs.Runs.{ScanIsItsRuns, ScanCountsItsRuns}
 use Rattle.inpaint.specs.Consequences.{ScanLawful, ListLawful, RefusedScan}
-use Rattle.inpaint.specs.declared.Stretch.{Stretch}
 use Rattle.std.specs.Prelude.{Option, Some, None}
-use Rattle.inpaint.specs.Auto.{stretch}
 use Rattle.inpaint.proofs.auto.Laws.{scan_stops, scan_takes}
 use Rattle.inpaint.proofs.auto.Runs.{Found, found_run, Fit, fits}
-use Rattle.inpaint.proofs.auto.Laws.{automatic_refused, automatic_scanned}
+use Rattle.inpaint.proofs.auto.Laws.{numbered, automatic_refused, automatic_scanned}
 use Rattle.inpaint.proofs.Dropouts.{found_behind}
 use Rattle.inpaint.proofs.Lawful.{plan_holds, gap_lawful}
 
@@ -320,11 +318,7 @@ whole rate ms held work s h =
 
 -- ---- What it leaves and returns
 
--- a reason has a number that is not 0
-numbered : (why : Reason) → eqb (reason_number why) 0 ≡ false
-numbered why = ne_eqb (reason_number why) 0 (λ (e : reason_number why ≡ 0). omega (arith, above_zero why))
-
--- so an answer is counted, and its number is the first, as the scan does it
+-- an answer is counted, and its number is the first, as the scan does it
 accepts : (a : Answer) (later : List Answer) → acceptances (a ∷ later) ≡ cond (eqb (number a) 0) 1 0 + acceptances later
 accepts (Ok m) later = omega arith
 accepts (Err why) later = rw (numbered why) (omega arith)
@@ -412,7 +406,7 @@ scan_counts_its_runs rate ms held work s h =
 
 pub refused_scan : RefusedScan
 refused_scan rate ms held work s why h =
-    sym (ap (λ (c : Scan). c.after) (automatic_refused rate ms held work s (Err why) (sym h) why _ refl refl))
+    sym (ap (λ (c : Scan). c.after) (automatic_refused rate ms held work s (Err why) (sym h) why refl))
 
 pub list_lawful : ListLawful
 list_lawful passes room [] = tt

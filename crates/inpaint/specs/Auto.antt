@@ -103,17 +103,13 @@ starts samples most held from i = run_begins samples from i && qualifies (length
 -- ---- The search
 
 -- "The search answers with the first run from a place on that meets every condition, or with nothing if none exists": by the start and the
--- length of its gap
-abbrev pub stretch : ℕ → ℕ → Stretch
-stretch start len = record { start = start; len = len }
-
--- of the places from `from` on, among the n from i on
+-- length of its gap. Of the places from `from` on, among the n from i on.
 unfoldable pub next_among : List ℕ → ℕ → ℕ → ℕ → ℕ → ℕ → Option Stretch
 unfolding run_length continues qualifies kept
 next_among samples most held from i zero = None
 next_among samples most held from i (suc n) =
     let on = next_among samples most held from (i + 1) n in
-    if starts samples most held from i then Some (stretch (gap_at samples i) (gap_length samples i)) else on
+    if starts samples most held from i then Some (record { start = gap_at samples i; len = gap_length samples i }) else on
 
 -- among all of them
 abbrev pub next_run : List ℕ → ℕ → ℕ → ℕ → Option Stretch

@@ -11,10 +11,15 @@ use Rattle.recording.specs.History.{Call, repair, did, run}
 use Rattle.recording.specs.Answer.{Answer}
 use Rattle.std.specs.Prelude.{Ok, Err}
 use Rattle.inpaint.specs.Gap.{gap_plan}
--- a gap, by its start and its length: that of a dropout run, or one that is handed over
-pub use Rattle.inpaint.specs.declared.Stretch.{Stretch}
-pub use Rattle.inpaint.specs.Auto.{stretch}
+use Rattle.inpaint.specs.declared.Stretch as code
 use Rattle.inpaint.specs.Auto.{limit, continues, kept, qualifies, gap_at, gap_length, starts, source_passes, scannable, automatic}
+
+-- a gap, by its start and its length: that of a dropout run, or one that is handed over
+abbrev pub Stretch : Type 0
+Stretch = code.Stretch
+
+abbrev pub stretch : ℕ → ℕ → Stretch
+stretch start len = record { start = start; len = len }
 
 -- the runs of the places from `from` on that qualify, ascending: those that begin at one of the n places from i on
 unfoldable pub runs_among : List ℕ → ℕ → ℕ → ℕ → ℕ → ℕ → List Stretch

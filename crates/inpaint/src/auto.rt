@@ -8,6 +8,7 @@ ghost use Rattle.inpaint.specs.Auto.{next_run, scan, refused_number, scan_from, 
 ghost use Rattle.inpaint.specs.Filled.{answer_of, order_of};
 ghost use Rattle.inpaint.specs.Order.{noted, orders_over, scan_orders};
 ghost use Rattle.inpaint.specs.Runs.{runs_of};
+ghost use Rattle.recording.specs.Recording.{most_samples};
 ghost use Rattle.recording.specs.Lent as lent;
 ghost use Rattle.recording.specs.Lent.{SameMemory};
 
@@ -174,9 +175,10 @@ fn length_of_run(samples: &[u32], start: usize) -> usize
 // The gap of the first run from place `from` on that meets every condition: a run is followed to its end from
 // the place where it begins, so that each is followed once. What stands before place `from`, where a gap may
 // have been filled, is not looked at.
-pub fn next_run(samples: &[u32], most: usize, held: usize, from: usize) -> Option<Stretch>
-    ensures { result ≡ next_run samples.now most held from }
+pub fn next_run(recording: &Recording, most: usize, held: usize, from: usize) -> Option<Stretch>
+    ensures { result ≡ next_run recording.now.samples.now most held from }
 {
+    let samples = &*recording.samples;
     let n = samples.len();
     for start in from..n {
         if run_begins(samples, from, start) {
@@ -239,6 +241,7 @@ fn repair_runs(
     work: &mut [f64],
     orders: &mut [u32],
 ) -> Scanned
+    requires { length recording.old.samples.now ≤ most_samples }
     ensures memory { SameMemory recording.old recording.new }
     ensures rule { scan result.qualified result.repaired (refused_number result.refused) (lent.held recording.new) work.new
         ≡ scan_from most held 0 (length recording.old.samples.now) (scan 0 0 0 (lent.held recording.old) work.old) }
@@ -249,7 +252,7 @@ fn repair_runs(
     let mut repaired: usize = 0;
     let mut refused: Option<Reason> = None;
     let mut at: usize = 0;
-    while let Some(gap) = next_run(recording.samples, most, held, at) {
+    while let Some(gap) = next_run(recording, most, held, at) {
         let filled = inpaint_gap(recording, gap.start, gap.len, PASSES, work);
         note_order(orders, gap, filled);
         qualified += 1;

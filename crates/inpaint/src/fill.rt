@@ -86,6 +86,9 @@ pub fn repair_by_model(
     let at = results_at(size, len, p);
     check_results(&work[at..at + len], start)?;
     let named = recording.enter_span(start, len, Mark::GapByModel)?;
-    model_fill(&mut recording.samples[start..start + len], &work[at..at + len]);
+    model_fill(
+        &mut recording.samples[start..start + len],
+        &work[at..at + len],
+    );
     Ok(Filled { named, order })
 }

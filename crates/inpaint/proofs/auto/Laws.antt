@@ -1,5 +1,5 @@
 -- The scan for dropouts: its settings, its limit and its refusals, and the scan run by run. Assumes nothing.
-use Rattle.std.proofs.Common.{◌≡◌, ℕ, zero, suc, ◌+◌, ◌-◌, ◌*◌, ◌/◌, ◌<◌, ◌≤◌, min, Bool, true, false, cond, not, ◌&&◌, T, eqb, leb, List, length, replicate, pos, sym, refl, ap, ◌∙◌, subst, inl, inr, true≢false, le-div_iff_mul-le, arith, ltb-false, le-ltb, lt-ltb, eq-eqb, ne_eqb, le-leb, leb-true}
+use Rattle.std.proofs.Common.{◌≡◌, ℕ, zero, suc, ◌+◌, ◌-◌, ◌*◌, ◌/◌, ◌<◌, ◌≤◌, min, Bool, true, false, cond, not, ◌&&◌, T, eqb, leb, List, length, replicate, pos, sym, refl, ap, ◌∙◌, subst, inl, inr, true≢false, le-div_iff_mul-le, add-zero, arith, ltb-false, le-ltb, lt-ltb, eq-eqb, ne_eqb, le-leb, leb-true}
 use mathlib.Core.Bool.{false≢true}
 use lib.Seq.{sets}
 use lib.Ieee.{Float, nan, inf, fin, binary32, up, down, neg, div, mul, lt, eq, ne, to_unsigned, of_bits, of_int}
@@ -18,31 +18,42 @@ use Rattle.recording.specs.declared.Reason.TheVariants.{Setting}
 use Rattle.recording.specs.Answer.{Answer}
 use Rattle.std.specs.Prelude.{Ok, Err}
 use Rattle.leaves.proofs.Choice.{truth, EitherWay, both_hold}
+use Rattle.recording.specs.Recording.{most_samples}
+use Rattle.recording.proofs.open.Laws.{accepted_fits}
+use Rattle.recording.proofs.Single.{above_zero}
 use Rattle.recording.proofs.Answers.{never_both}
+use Rattle.std.specs.Option.{option_or}
+use Rattle.inpaint.specs.Auto.{refused_number}
 use Rattle.inpaint.specs.Gap.{needed, gap_repair}
 use Rattle.inpaint.specs.Auto.{allowed, held_allowed, limit, next_run, Scan, scan, repair_at, scan_from, scannable, automatic}
 use Rattle.inpaint.specs.Runs.{stretch}
 use Rattle.inpaint.specs.Order.{noted}
 use Rattle.inpaint.specs.declared.Stretch.{Stretch}
 use Rattle.std.specs.Prelude.{Option, Some, None}
-use Rattle.inpaint.specs.Auto.{stretch}
 use Rattle.inpaint.proofs.auto.Runs.{both}
 
--- ---- the number of a call
+-- ---- how the repair of a run counts
 
-pub number_zero : {A : Type 0} (k : ℕ) (a b : A) → k ≡ 0 → a ≡ cond (eqb k 0) a b
-number_zero k a b h = rw (eq-eqb k 0 h) refl
+-- a reason has a number that is not 0
+pub numbered : (why : Reason) → eqb (reason_number why) 0 ≡ false
+numbered why = ne_eqb (reason_number why) 0 (λ (e : reason_number why ≡ 0). omega (arith, above_zero why))
 
-pub number_other : {A : Type 0} (k : ℕ) (a b : A) → (k ≡ 0 → ⊥) → b ≡ cond (eqb k 0) a b
-number_other k a b h = rw (ne_eqb k 0 h) refl
+-- an acceptance is one run more that was repaired, and leaves the first refusal as it is
+pub accepted_counts : (r m : ℕ) → r + 1 ≡ r + cond (eqb (number (Ok m)) 0) 1 0
+accepted_counts r m = refl
 
--- a call counts once at most
-pub at_most_one : (k r : ℕ) → r ≡ cond (eqb k 0) 1 0 → r ≤ 1
-at_most_one k r e = go (eqb k 0) e
-  where
-    go : (b : Bool) → r ≡ cond b 1 0 → r ≤ 1
-    go true h = omega arith
-    go false h = omega arith
+pub accepted_keeps : (k m : ℕ) → k ≡ cond (eqb k 0) (number (Ok m)) k
+accepted_keeps zero m = refl
+accepted_keeps (suc k) m = rw (ne_eqb (suc k) 0 (λ (e : suc k ≡ 0). omega (arith, e))) refl
+
+-- a refusal is none, and is the first where there was none before
+pub refused_counts : (r : ℕ) (why : Reason) → r ≡ r + cond (eqb (number (Err why)) 0) 1 0
+refused_counts r why = rw (numbered why) (sym (add-zero r))
+
+pub refused_first : (first : Option Reason) (why : Reason)
+    → refused_number (option_or first (Some why)) ≡ cond (eqb (refused_number first) 0) (number (Err why)) (refused_number first)
+refused_first None why = refl
+refused_first (Some other) why = rw (numbered other) refl
 
 -- ---- the settings
 
@@ -195,21 +206,19 @@ unfolding scan_from
 scan_takes most held i n start len c h = ap (goes_on most held n c) h
 
 -- one turn: a run is found and repaired, and then what is left gives the same whole
-pub scan_turn : (most held i start len n q r k : ℕ) (s t : State) (w v : List Float) (a : Answer) (number' done first : ℕ)
-    (whole : Scan)
+pub scan_turn : (most held i start len n q r k done first : ℕ) (s t : State) (w v : List Float) (a : Answer) (whole : Scan)
     → q < n
     → next_run s.samples most held i ≡ Some (stretch start len)
     → ended a t ≡ gap_repair start len 3 (length w) s
     → v ≡ work_after nought (needed (length s.samples) start len) a w
-    → number' ≡ number a
-    → done ≡ cond (eqb number' 0) 1 0
-    → first ≡ cond (eqb k 0) number' k
+    → done ≡ r + cond (eqb (number a) 0) 1 0
+    → first ≡ cond (eqb k 0) (number a) k
     → scan_from most held i (n - q) (scan q r k s w) ≡ whole
-    → scan_from most held (start + len) (n - (q + 1)) (scan (q + 1) (r + done) first t v) ≡ whole
-scan_turn most held i start len n q r k s t w v a number' done first whole h found ends works en ed ef rest =
+    → scan_from most held (start + len) (n - (q + 1)) (scan (q + 1) done first t v) ≡ whole
+scan_turn most held i start len n q r k done first s t w v a whole h found ends works ed ef rest =
     let c = scan q r k s w in
     let left : n - q ≡ suc (n - (q + 1)) = omega arith in
-    let now : scan (q + 1) (r + done) first t v ≡ repaired_so c start len (ended a t) = rw (works, ed, ef, en) refl in
+    let now : scan (q + 1) done first t v ≡ repaired_so c start len (ended a t) = rw (works, ed, ef) refl in
     ap (scan_from most held (start + len) (n - (q + 1))) (now ∙ ap (repaired_so c start len) ends)
     ∙ sym (scan_takes most held i (n - (q + 1)) start len c found)
     ∙ sym (ap (λ (m : ℕ). scan_from most held i m c) left)
@@ -239,12 +248,8 @@ module _ (rate : ℕ) (ms : Float) (held : ℕ) (w : List Float) (s : State)
   unfolding automatic
   whole_call = ap (scanned_so (limit ms rate) held (length s.samples) w s) tested
 
-  pub automatic_refused : (why : Reason) (k : ℕ) → checked ≡ Err why → k ≡ number checked
-      → scan 0 0 k s w ≡ automatic rate ms held w s
-  automatic_refused why k h e =
-      ap (λ (j : ℕ). scan 0 0 j s w) (e ∙ ap number h)
-      ∙ sym (ap (scanned_so (limit ms rate) held (length s.samples) w s) h)
-      ∙ whole_call
+  pub automatic_refused : (why : Reason) → checked ≡ Err why → scan 0 0 (reason_number why) s w ≡ automatic rate ms held w s
+  automatic_refused why h = sym (ap (scanned_so (limit ms rate) held (length s.samples) w s) h) ∙ whole_call
 
   module _ (m : ℕ) (accepted : checked ≡ Ok m) where
     pub automatic_scanned : (most : ℕ) (c : Scan) → most ≡ limit ms rate
@@ -269,6 +274,14 @@ module _ (rate : ℕ) (ms : Float) (held : ℕ) (w : List Float) (s : State)
 
     each_holds : (allowed rate ms ≡ true) × (held_allowed held ≡ true)
     each_holds = both_hold (allowed rate ms) (held_allowed held) settings_hold
+
+    -- the recording is one that refusal 2 does not turn away
+    pub accepted_few : length s.samples ≤ most_samples
+    accepted_few = go (fitting s) refl
+      where
+        go : (sized : Answer) → sized ≡ fitting s → length s.samples ≤ most_samples
+        go (Ok j) f = (accepted_fits s j (sym f)).few
+        go (Err why) f = never_both (sym accepted ∙ tested ∙ sym (scannable_unfit rate ms held s (Err why) f why refl))
 
     -- the rate is one that an f32 holds
     pub accepted_rate : rate ≤ 16777216

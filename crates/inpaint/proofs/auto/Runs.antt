@@ -16,7 +16,7 @@ use Rattle.inpaint.specs.Auto.{zero_or_nan, holdable, continues, continues_at, r
 use Rattle.inpaint.specs.Auto.{gap_at, gap_length, gap_allowed, qualifies, starts, next_among, next_run}
 use Rattle.inpaint.specs.declared.Stretch.{Stretch}
 use Rattle.std.specs.Prelude.{Option, Some, None}
-use Rattle.inpaint.specs.Auto.{stretch}
+use Rattle.inpaint.specs.Runs.{stretch}
 
 -- A test cannot have given both answers.
 pub both : {A : Type 0} {b : Bool} → b ≡ true → b ≡ false → A

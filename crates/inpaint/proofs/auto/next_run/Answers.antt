@@ -7,7 +7,7 @@ use Rattle.inpaint.proofs.auto.next_run.Goals.{then-run_begins+else-run_qualifie
 
 pub run_qualifies-requires : goal.run_qualifies-requires
 run_qualifies-requires c =
-    let within = run_fits c.args.samples.now c.loop-start.start c.loop-start-test.true in
+    let within = run_fits c.args.recording.now.samples.now c.loop-start.start c.loop-start-test.true in
     (omega (arith, c.length_of_run-len.ensures), omega (arith, c.length_of_run-len.ensures, within))
 
 pub overflow_add-result : goal.overflow_add-result

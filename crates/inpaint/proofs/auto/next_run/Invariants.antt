@@ -6,4 +6,4 @@ use Rattle.inpaint.proofs.auto.Runs.{searched}
 use Rattle.inpaint.proofs.auto.next_run.Given as goal
 
 abbrev pub invariant-loop-start : goal.invariant-loop-start
-invariant-loop-start l = searched l.samples l.most l.held l.from l.start ≡ next_run l.samples l.most l.held l.from
+invariant-loop-start l = searched l.recording.samples.now l.most l.held l.from l.start ≡ next_run l.recording.samples.now l.most l.held l.from

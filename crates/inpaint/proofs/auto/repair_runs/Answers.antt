@@ -1,46 +1,98 @@
-use Rattle.std.proofs.Common.{rules, ◌≡◌, ◌+◌, ◌<◌, ◌≤◌, ◌&&◌, length, replicate, ℕ, ◌-◌, ◌*◌, ◌/◌, ◌%◌, Bool, true, false, nat_eq, nat_lt, List, [], ◌∷◌, ◌++◌, slice_index_or, slice_set, bit_and, bit_or, Fits, w8, w32, w64, Bor, MutBor}
-use Rattle.std.proofs.lemmas.List.Edits.{sets}
-use Rattle.std.specs.Float.Ieee.{to_unsigned}
-use Rattle.inpaint.specs.Auto.{allowed, held_allowed, limit, zero_or_nan, holdable, continues, run_begins, long_enough, kept, run_at, gap_allowed, qualifies, next_run, scan, refused_number, scan_from, scannable, automatic}
-use Rattle.inpaint.specs.Filled.{answer_of, order_of}
-use Rattle.inpaint.specs.Order.{noted, orders_over, scan_orders}
-use Rattle.inpaint.specs.Runs.{runs_of}
-use Rattle.recording.specs.Lent as lent
-use Rattle.recording.specs.Lent.{SameMemory}
+-- `inpaint::auto::repair_runs` meets its contract. The loop's invariant: the scan from here on gives the whole scan, and the orders
+-- of the runs from here on the whole list;
+-- each run found took a place or more, so that the runs counted are at most as many as the places passed. The measure
+-- is how many places are left. Assumes nothing.
+use Rattle.std.proofs.Common.{◌≡◌, ◌+◌, ◌<◌, ◌≤◌, cond, eqb, length, sym, refl, ap, ◌∙◌, arith}
+use native.Mathlib.Nat.{sub-zero}
+use Rattle.recording.specs.Answers.{number}
+use Rattle.recording.specs.Recording.{Ended, ended}
+use Rattle.inpaint.specs.Gap.{gap_repair}
+use Rattle.recording.specs.Lent.{held}
+use Rattle.inpaint.specs.Filled.{answer_of}
+use Rattle.inpaint.specs.Auto.{refused_number}
+use Rattle.inpaint.proofs.auto.Laws.{accepted_counts, accepted_keeps, refused_counts, refused_first, scan_stops, scan_turn}
+use Rattle.inpaint.proofs.auto.Runs.{found_within}
+use Rattle.inpaint.proofs.Orders.{orders_none, orders_turn}
+use Rattle.inpaint.proofs.Scans.{repair_leaves}
 use Rattle.inpaint.proofs.auto.repair_runs.Goals as goal
+use Rattle.inpaint.proofs.auto.repair_runs.Goals.{in-Ok, in-Err}
 
--- src/auto.rt:252:5
 pub loop-gap-init : goal.loop-gap-init
-loop-gap-init c = ?
+loop-gap-init c =
+    (omega arith, omega arith, omega arith, refl, (refl, refl, refl, refl, refl), simp sub-zero refl, simp sub-zero refl)
 
--- src/auto.rt:255:9
 pub overflow_add-qualified : goal.overflow_add-qualified
-overflow_add-qualified c = ?
+overflow_add-qualified c =
+    let gap = c.in-Some.gap in
+    let run_found : (c.loop-gap.at < gap.start + gap.len) × (gap.start + gap.len < length c.loop-gap.recording.samples.now) =
+    found_within _ _ _ _ gap.start gap.len (sym c.next_run.ensures ∙ c.in-Some.is) in
+    omega (arith, run_found, c.requires, c.loop-gap.invariant.0, c.loop-gap.invariant.1)
 
--- src/auto.rt:257:22
 pub overflow_add-repaired : goal.overflow_add-repaired
-overflow_add-repaired c = ?
+overflow_add-repaired c =
+    let gap = c.in-Some.gap in
+    let run_found : (c.loop-gap.at < gap.start + gap.len) × (gap.start + gap.len < length c.loop-gap.recording.samples.now) =
+    found_within _ _ _ _ gap.start gap.len (sym c.next_run.ensures ∙ c.in-Some.is) in
+    omega (arith, run_found, c.requires, c.loop-gap.invariant.0, c.loop-gap.invariant.1, c.loop-gap.invariant.2)
 
--- src/auto.rt:260:14
 pub overflow_add-at : goal.overflow_add-at
-overflow_add-at c = ?
+overflow_add-at c =
+    let gap = c.in-Some.gap in
+    let run_found : (c.loop-gap.at < gap.start + gap.len) × (gap.start + gap.len < length c.loop-gap.recording.samples.now) =
+    found_within _ _ _ _ gap.start gap.len (sym c.next_run.ensures ∙ c.in-Some.is) in
+    omega (arith, run_found, c.requires, c.loop-gap.invariant.3)
 
--- src/auto.rt:252:5
 pub loop-gap-smaller : goal.loop-gap-smaller
-loop-gap-smaller c = ?
+loop-gap-smaller c =
+    let gap = c.in-Some.gap in
+    let run_found : (c.loop-gap.at < gap.start + gap.len) × (gap.start + gap.len < length c.loop-gap.recording.samples.now) =
+    found_within _ _ _ _ gap.start gap.len (sym c.next_run.ensures ∙ c.in-Some.is) in
+    omega (arith, run_found, c.loop-gap.invariant.3)
 
--- src/auto.rt:252:5
 pub loop-gap-preserved : goal.loop-gap-preserved
-loop-gap-preserved c = ?
+loop-gap-preserved c =
+    let gap = c.in-Some.gap in
+    let i = c.loop-gap.invariant in
+    let s = held c.loop-gap.recording in
+    let found = sym c.next_run.ensures ∙ c.in-Some.is in
+    let run_found : (c.loop-gap.at < gap.start + gap.len) × (gap.start + gap.len < length c.loop-gap.recording.samples.now) =
+    found_within _ _ _ _ gap.start gap.len (sym c.next_run.ensures ∙ c.in-Some.is) in
+    let rule = c.inpaint_gap-filled.ensures.rule in
+    let same = c.inpaint_gap-filled.ensures.memory in
+    let answer = answer_of c.inpaint_gap-filled.result in
+    let k = refused_number c.loop-gap.refused in
+    let ends : ended answer (held c.inpaint_gap-filled.new.recording) ≡ gap_repair gap.start gap.len 3 (length c.loop-gap.work) s = rule.0 in
+    let count : length c.inpaint_gap-filled.new.recording.samples.now ≡ length s.samples =
+    ap (λ (e : Ended). length e.after.samples) ends ∙ (repair_leaves gap.start gap.len 3 (length c.loop-gap.work) s).count in
+    let once : c.match-filled.repaired ≡ c.loop-gap.repaired + cond (eqb (number answer) 0) 1 0 =
+    elim c.match-filled.branch [
+      | in-Ok w ↦ rw (w.in-Ok.is, w.repaired-is) refl
+      | in-Err w ↦ rw (w.in-Err.is, w.repaired-is) (refused_counts _ _)
+    ] in
+    let first : refused_number c.match-filled.refused ≡ cond (eqb k 0) (number answer) k =
+    elim c.match-filled.branch [
+      | in-Ok w ↦ rw (w.in-Ok.is, w.refused-is) (accepted_keeps k 0)
+      | in-Err w ↦ rw (w.in-Err.is, w.refused-is, w.or-refused.ensures) (refused_first c.loop-gap.refused _)
+    ] in
+    let most : c.match-filled.repaired ≤ c.loop-gap.repaired + 1 =
+    elim c.match-filled.branch [ in-Ok w ↦ omega (arith, w.repaired-is) | in-Err w ↦ omega (arith, w.repaired-is) ] in (
+      omega (arith, run_found, i.3),
+      omega (arith, run_found, i.1),
+      omega (arith, i.2, most),
+      count ∙ i.3,
+      (same.0 ∙ i.4.0, same.1 ∙ i.4.1, same.2 ∙ i.4.2, same.3 ∙ i.4.3, same.4 ∙ i.4.4),
+      scan_turn _ _ _ gap.start gap.len _ _ _ _ _ _ s _ c.loop-gap.work _ answer _ (omega (arith, run_found, i.1, i.3)) found ends rule.1
+          once first i.5,
+      orders_turn _ _ _ gap.start gap.len _ _ s _ c.loop-gap.work answer _ _ _ _ i.3 c.loop-gap.auto.work found ends rule.2
+          c.note_order.ensures i.6,
+    )
 
--- src/auto.rt:235:1
-pub returns-clause-memory : goal.returns-clause-memory
-returns-clause-memory c = ?
-
--- src/auto.rt:235:1
 pub returns-clause-rule : goal.returns-clause-rule
-returns-clause-rule c = ?
+returns-clause-rule c =
+    let ends = sym c.next_run.ensures ∙ c.in_default.is in
+    sym (scan_stops _ _ _ _ _ ends) ∙ c.loop-gap.invariant.5
 
--- src/auto.rt:235:1
 pub returns-clause-orders : goal.returns-clause-orders
-returns-clause-orders c = ?
+returns-clause-orders c =
+    let ends = sym c.next_run.ensures ∙ c.in_default.is in
+    orders_none _ _ _ _ _ (held c.loop-gap.recording) _ _ c.loop-gap.invariant.3 ends c.loop-gap.invariant.6

@@ -1,16 +1,28 @@
-use Rattle.std.proofs.Common.{◌≡◌, ◌+◌, ◌<◌, ◌≤◌, ◌&&◌, length, replicate, ℕ, ◌-◌, ◌*◌}
-use Rattle.std.proofs.lemmas.List.Edits.{sets}
-use Rattle.std.specs.Float.Ieee.{to_unsigned}
-use Rattle.inpaint.specs.Auto.{allowed, held_allowed, limit, zero_or_nan, holdable, continues, run_begins, long_enough, kept, run_at, gap_allowed, qualifies, next_run, scan, refused_number, scan_from, scannable, automatic}
-use Rattle.inpaint.specs.Filled.{answer_of, order_of}
-use Rattle.inpaint.specs.Order.{noted, orders_over, scan_orders}
-use Rattle.inpaint.specs.Runs.{runs_of}
-use Rattle.recording.specs.Lent as lent
-use Rattle.recording.specs.Lent.{SameMemory}
+-- `inpaint::auto::repair_runs` meets its contract. The loop's invariant: the scan from here on gives the whole scan, and the orders
+-- of the runs from here on the whole list;
+-- each run found took a place or more, so that the runs counted are at most as many as the places passed. The measure
+-- is how many places are left. Assumes nothing.
+use Rattle.std.proofs.Common.{◌≡◌, ◌-◌, ◌≤◌, length}
+use Rattle.recording.specs.Lent.{held, SameMemory}
+use Rattle.inpaint.specs.Auto.{scan, refused_number, scan_from}
+use Rattle.inpaint.specs.Runs.{runs_among, runs_of}
+use Rattle.inpaint.specs.Order.{orders_over}
 use Rattle.inpaint.proofs.auto.repair_runs.Given as goal
 
 abbrev pub invariant-loop-gap : goal.invariant-loop-gap
-invariant-loop-gap l = ?
+invariant-loop-gap l =
+    let s = held l.recording in
+    let t = held l.initial.recording in
+    let n = length t.samples in
+    (l.at ≤ n)
+    × (l.qualified ≤ l.at)
+    × (l.repaired ≤ l.qualified)
+    × (length s.samples ≡ n)
+    × SameMemory l.initial.recording l.recording
+    × (scan_from l.most l.held l.at (n - l.qualified) (scan l.qualified l.repaired (refused_number l.refused) s l.work)
+    ≡ scan_from l.most l.held 0 n (scan 0 0 0 t l.initial.work))
+    × (orders_over (length l.initial.work) (runs_among s.samples l.most l.held l.at l.at (n - l.at)) s l.orders
+    ≡ orders_over (length l.initial.work) (runs_of t.samples l.most l.held) t l.initial.orders)
 
 abbrev pub decreases-loop-gap : goal.decreases-loop-gap
-decreases-loop-gap l = ?
+decreases-loop-gap l = length l.initial.recording.samples.now - l.at
