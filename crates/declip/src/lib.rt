@@ -6,18 +6,16 @@ ghost use Rattle.std.specs.Prelude.{◌≡◌, ◌+◌, ◌-◌, ◌*◌, ◌≤
 ghost use Rattle.std.specs.Float.{binary32};
 ghost use Rattle.std.specs.Float.Ieee.{to_bits};
 ghost use Rattle.recording.specs.Recording.{ended, most_samples, work_after};
-ghost use Rattle.recording.specs.Lent.{left, lent};
-ghost use Rattle.recording.specs.Runs.{begins, run_length};
+ghost use Rattle.recording.specs.Lent.{held, SameMemory};
 ghost use Rattle.redraw.specs.Whole.{untouched, needed};
 ghost use Rattle.redraw.specs.Inner.{drawn_in, Holds, Room};
 ghost use Rattle.declip.specs.Declip.{allowed, clipped, clipped_at, cubic_at, cubic_fill, bridged, declipped, declip_repair};
 
-use leaves::counts::{difference_or_zero, smaller_of};
 use leaves::order::magnitude32;
 use leaves::words::{count_as_f32, f32_of_word, word_of_f32};
-use recording::Answer;
-use recording::marks::CUBIC_DECLIP;
-use redraw::{begin, finish};
+use recording::marks::Mark;
+use recording::{Answer, Recording};
+use redraw::{begin, finish, run_begins, run_end};
 
 // How far a fill reaches to either side of a run.
 const SHOULDER: usize = 4;
@@ -26,11 +24,7 @@ const SHOULDER: usize = 4;
 pub fn threshold_allowed(threshold: f32) -> bool
     ensures { result ≡ allowed threshold }
 {
-    if 0.0 < threshold {
-        threshold < 1.0 / 0.0
-    } else {
-        false
-    }
+    0.0 < threshold && threshold < 1.0 / 0.0
 }
 
 // Whether a sample's magnitude is at or above the threshold.
@@ -38,35 +32,6 @@ pub fn is_clipped(threshold: f32, word: u32) -> bool
     ensures { result ≡ clipped threshold word }
 {
     threshold <= magnitude32(f32_of_word(word))
-}
-
-// Whether a run begins at place i.
-fn run_begins(samples: &[u32], threshold: f32, i: usize) -> bool
-    requires { i < length samples.now }
-    ensures { result ≡ begins (clipped_at threshold samples.now) i }
-{
-    if !is_clipped(threshold, samples[i]) {
-        return false;
-    }
-    if i == 0 {
-        return true;
-    }
-    !is_clipped(threshold, samples[i - 1])
-}
-
-// The first place behind the run that begins at `start`.
-fn run_end(samples: &[u32], threshold: f32, start: usize) -> usize
-    requires { start ≤ length samples.now }
-    ensures { result ≡ start + run_length (clipped_at threshold samples.now) start (length samples.now - start) }
-{
-    let mut end = start;
-    while end < samples.len() {
-        if !is_clipped(threshold, samples[end]) {
-            return end;
-        }
-        end += 1;
-    }
-    end
 }
 
 // The word at place i of a curve from y0 at place a to y1 at place z.
@@ -88,11 +53,9 @@ fn cubic_fill(work: &mut [u32], n: usize, a: usize, z: usize)
 {
     let y0 = f32_of_word(work[a]);
     let y1 = f32_of_word(work[z]);
-    let mut i = a + 1;
-    while i < z {
+    for i in a + 1..z {
         work[i] = cubic_word(y0, y1, a, z, i);
         work[n + i] = 1;
-        i += 1;
     }
 }
 
@@ -102,8 +65,8 @@ fn bridge(work: &mut [u32], n: usize, start: usize, end: usize)
     requires { Room n work.old × (start < n) }
     ensures { Holds n (bridged n start end (drawn_in n work.old)) work.old work.new }
 {
-    let a = difference_or_zero(start, SHOULDER);
-    let z = smaller_of(smaller_of(end, n - 1) + SHOULDER, n - 1);
+    let a = start.saturating_sub(SHOULDER);
+    let z = (end.min(n - 1) + SHOULDER).min(n - 1);
     if a + SHOULDER < z {
         cubic_fill(work, n, a, z);
     }
@@ -111,43 +74,28 @@ fn bridge(work: &mut [u32], n: usize, start: usize, end: usize)
 
 // Bridges every run, left to right. The runs are those of the samples, which nothing changes here, and
 // each fill begins and ends with what the earlier ones left in the workspace.
-fn bridge_runs(samples: &[u32], threshold: f32, work: &mut [u32])
-    requires { Room (length samples.now) work.old × (drawn_in (length samples.now) work.old ≡ untouched samples.now) }
-    ensures { Holds (length samples.now) (declipped threshold samples.now) work.old work.new }
+fn bridge_runs(recording: &Recording, threshold: f32, work: &mut [u32])
+    requires { Room (length recording.now.samples.now) work.old
+        × (drawn_in (length recording.now.samples.now) work.old ≡ untouched recording.now.samples.now) }
+    ensures { Holds (length recording.now.samples.now) (declipped threshold recording.now.samples.now) work.old work.new }
 {
+    let samples = &*recording.samples;
     let n = samples.len();
-    let mut i: usize = 0;
-    while i < n {
-        if run_begins(samples, threshold, i) {
-            bridge(work, n, i, run_end(samples, threshold, i));
+    let clipped = |k: usize| is_clipped(threshold, samples[k]);
+    for i in 0..n {
+        if run_begins(i, clipped) {
+            bridge(work, n, i, run_end(n, i, clipped));
         }
-        i += 1;
     }
 }
 
 // Repairs the runs of samples with a magnitude at or above the threshold, or refuses and changes nothing.
-pub fn declip(
-    samples: &mut [u32],
-    marks: &mut [u8],
-    counts: &mut [u16],
-    journal: &mut [u32],
-    used: &mut usize,
-    threshold: f32,
-    work: &mut [u32],
-) -> Answer
-    ensures { (ended result (left samples marks counts journal used)
-        ≡ declip_repair threshold (length work.old) (lent samples marks counts journal used))
-        × (work.new ≡ work_after 0 (needed (length samples.old)) result work.old) }
+pub fn declip(recording: &mut Recording, threshold: f32, work: &mut [u32]) -> Answer
+    ensures memory { SameMemory recording.old recording.new }
+    ensures rule { ended result (held recording.new) ≡ declip_repair threshold (length work.old) (held recording.old) }
+    ensures work { work.new ≡ work_after 0 (needed (length recording.old.samples.now)) result work.old }
 {
-    begin(
-        samples,
-        marks,
-        counts,
-        journal,
-        *used,
-        threshold_allowed(threshold),
-        work,
-    )?;
-    bridge_runs(samples, threshold, work);
-    finish(samples, marks, counts, journal, used, work, CUBIC_DECLIP)
+    begin(recording, threshold_allowed(threshold), work)?;
+    bridge_runs(recording, threshold, work);
+    finish(recording, work, Mark::CubicDeclip)
 }

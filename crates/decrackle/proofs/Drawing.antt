@@ -1,13 +1,14 @@
 -- How decrackle draws its words and flags in the workspace: each flagged run is rewritten, left to right, and what is left to
 -- rewrite gives the whole. And how a call of it ends. Assumes nothing.
 use mathlib.Core.Path.{◌≡◌, refl, sym, ap, subst, ◌∙◌}
-use mathlib.Core.Bool.{Bool, true, false, true≢false}
+use mathlib.Core.Bool.{Bool, true, false, not, true≢false}
 use mathlib.Core.List.{List}
 use mathlib.Core.Logic.{inl, inr}
 use Prim.Native.Nat.{ℕ, zero, suc, ◌+◌, ◌-◌, ◌≤◌, ◌<◌}
 use native.Mathlib.Omega.{arith}
 use native.Mathlib.Nat.{sub-zero}
 use borrow.Author.Tests.{lt-ltb, le-ltb}
+use lib.Dec.{eqb}
 use lib.ListN.{length, get_or, drop, length-map}
 use lib.Ieee.{Float, eq}
 use Rattle.leaves.proofs.words.Laws.{number_test}
@@ -18,7 +19,7 @@ use Rattle.recording.proofs.Runs.{begins_there, run_short}
 use Rattle.redraw.specs.Whole.{Drawn, drawn, untouched, whole_plan}
 use Rattle.redraw.specs.Runs.{over_runs}
 use Rattle.redraw.specs.Inner.{words_in, flags_in, drawn_in, flagged_at, Holds, Room}
-use Rattle.redraw.proofs.Workspace.{rest_behind, flags_behind, flags_count, room_stays}
+use Rattle.redraw.proofs.Workspace.{flagged_there, rest_behind, flags_behind, flags_count, room_stays}
 use Rattle.redraw.proofs.Runs.{over_one, over_none, over_all}
 use Rattle.decrackle.specs.declared.Start.{Start}
 use Rattle.decrackle.specs.Decrackle.{flags_of, repair_hermite, smoothed, decrackled, mark_for, decrackle_plan, decrackle_repair}
@@ -40,6 +41,10 @@ module _ (test : ℕ → Bool) (n i : ℕ) (h : i < n) (starts : begins test i �
       omega (arith, h, run_short test i (n - i) (n - 1 - i) (ap test last ∙ none))
 
 -- ---- The runs, rewritten one by one
+
+-- the code's test of a flag
+pub flag_read : (n k : ℕ) (w : List ℕ) (b : Bool) → k < n → b ≡ not (eqb (get_or w (n + k) 0) 0) → b ≡ flagged_at n w k
+flag_read n k w b h e = e ∙ sym (flagged_there n k w h)
 
 -- how far a loop has come at place i: the flags are as they were, and what is left to rewrite gives the whole
 abbrev pub Smoothing : ℕ → List ℕ → ℕ → List ℕ → Type 0

@@ -1,11 +1,9 @@
--- Where decrackle's floor starts: the magnitudes of the first places, their sum as a loop adds it up, the mean, and the mark of a start. Assumes
--- nothing.
+-- Where decrackle's floor starts: the magnitudes of the first places, their sum as a loop adds it up, and the mean. Assumes nothing.
 use mathlib.Core.Path.{◌≡◌, refl, sym, ap, ◌∙◌}
-use mathlib.Core.List.{List, ◌∷◌, ◌++◌}
-use Prim.Native.Nat.{ℕ, zero, suc, ◌+◌, ◌-◌, ◌≤◌, ◌<◌}
+use mathlib.Core.List.{List, [], ◌∷◌, ◌++◌}
+use Prim.Native.Nat.{ℕ, zero, suc, ◌+◌, ◌-◌, ◌≤◌, ◌<◌, min}
 use native.Mathlib.Omega.{arith}
 use lib.ListN.{length, take}
-use lib.Seq.{take_all}
 use lib.Ieee.{Float, binary32, of_bits, round}
 use Rattle.leaves.specs.Arithmetic.{◌+₃₂◌, ◌/₃₂◌, nought, near, count}
 use Rattle.leaves.specs.Floats.{magnitude, larger}
@@ -13,7 +11,6 @@ use Rattle.leaves.proofs.Literals.{nought_word}
 use Rattle.decrackle.specs.declared.Start.{Start}
 use Rattle.decrackle.specs.declared.Start.TheVariants.{Mean, Old}
 use Rattle.decrackle.specs.Decrackle.{detector, magnitudes_from, magnitudes, least_floor, mean_over, summed, mean_floor, old_floor, opening_floor}
-use Rattle.decrackle.specs.Decrackle.{mark_for}
 
 -- 1e-6, as the code has it
 pub millionth : of_bits binary32 897988541 ≡ near binary32 1 1000000
@@ -21,6 +18,10 @@ unfolding of_bits near round
 millionth = refl
 
 -- ---- The magnitudes
+
+take_none : {A : Type 0} (l : List A) → take 0 l ≡ []
+take_none [] = refl
+take_none (x ∷ l) = refl
 
 module _ (s : List ℕ) where
   pub length_magnitudes : (i n : ℕ) → length (magnitudes_from s i n) ≡ n
@@ -40,12 +41,18 @@ module _ (s : List ℕ) where
       let next : i + suc n ≡ i + 1 + n = omega arith in
       rw (one, next) (ap (λ (l : List Float). magnitude (detector s i) ∷ l) (magnitudes_both (i + 1) n m))
 
-  -- the first k of them
-  pub take_magnitudes : (k i n : ℕ) → k ≤ n → take k (magnitudes_from s i n) ≡ magnitudes_from s i k
+  -- the first k of them, or all where there are fewer
+  pub take_magnitudes : (k i n : ℕ) → take k (magnitudes_from s i n) ≡ magnitudes_from s i (min n k)
   unfolding magnitudes_from
-  take_magnitudes zero i n h = refl
-  take_magnitudes (suc k) i zero h = absurd (omega (arith, h))
-  take_magnitudes (suc k) i (suc n) h = ap (λ (l : List Float). magnitude (detector s i) ∷ l) (take_magnitudes k (i + 1) n (omega (arith, h)))
+  take_magnitudes zero i n =
+      let none : min n 0 ≡ 0 = omega arith in
+      rw none (take_none (magnitudes_from s i n))
+  take_magnitudes (suc k) i zero =
+      let none : min 0 (suc k) ≡ 0 = omega arith in
+      rw none refl
+  take_magnitudes (suc k) i (suc n) =
+      let one : min (suc n) (suc k) ≡ suc (min n k) = omega arith in
+      rw one (ap (λ (l : List Float). magnitude (detector s i) ∷ l) (take_magnitudes k (i + 1) n))
 
   -- ---- Their sum, added up one by one
 
@@ -81,35 +88,16 @@ mean_first : (ms : List Float) (n : ℕ) (sum floor : Float) → length (take me
 unfolding opening_floor
 mean_first ms n sum floor en es ef = ef ∙ rw (es, ← en) refl
 
--- the floor starts there, by the sum of the places that it goes over
-module _ (s : List ℕ) (start : Start) (from_mean : start ≡ Mean) (sum floor : Float) where
-  -- where there are fewer than 1,024
-  pub opens_few : length s < mean_over → sum ≡ summed nought (magnitudes_from s 0 (length s)) → floor ≡ mean_floor sum (length s)
-      → floor ≡ opening_floor start (magnitudes s)
-  unfolding magnitudes
-  opens_few h es ef =
-      let all : take mean_over (magnitudes s) ≡ magnitudes s = take_all mean_over (magnitudes s) (omega (arith, h, length_magnitudes s 0 (length s))) in
-      mean_first (magnitudes s) (length s) sum floor (ap length all ∙ length_magnitudes s 0 (length s)) (es ∙ ap (summed nought) (sym all)) ef
-      ∙ ap (λ (b : Start). opening_floor b (magnitudes s)) (sym from_mean)
-
-  pub opens_many : mean_over ≤ length s → sum ≡ summed nought (magnitudes_from s 0 mean_over) → floor ≡ mean_floor sum mean_over
-      → floor ≡ opening_floor start (magnitudes s)
-  unfolding magnitudes
-  opens_many h es ef =
-      let first : take mean_over (magnitudes s) ≡ magnitudes_from s 0 mean_over = take_magnitudes s mean_over 0 (length s) h in
-      mean_first (magnitudes s) mean_over sum floor (ap length first ∙ length_magnitudes s 0 mean_over) (es ∙ ap (summed nought) (sym first)) ef
-      ∙ ap (λ (b : Start). opening_floor b (magnitudes s)) (sym from_mean)
+-- the floor starts there, by the sum of the places that it goes over: 1,024, or all where there are fewer
+pub opens_mean : (s : List ℕ) (start : Start) → start ≡ Mean → (sum floor : Float) (n : ℕ) → n ≡ min (length s) mean_over
+    → sum ≡ summed nought (magnitudes_from s 0 n) → floor ≡ mean_floor sum n → floor ≡ opening_floor start (magnitudes s)
+unfolding magnitudes
+opens_mean s start from_mean sum floor n en es ef =
+    let first : take mean_over (magnitudes s) ≡ magnitudes_from s 0 n =
+    take_magnitudes s mean_over 0 (length s) ∙ ap (magnitudes_from s 0) (sym en) in
+    mean_first (magnitudes s) n sum floor (ap length first ∙ length_magnitudes s 0 n) (es ∙ ap (summed nought) (sym first)) ef
+    ∙ ap (λ (b : Start). opening_floor b (magnitudes s)) (sym from_mean)
 
 pub opens_old : (ms : List Float) (start : Start) → start ≡ Old → of_bits binary32 897988541 ≡ opening_floor start ms
 unfolding opening_floor old_floor
 opens_old ms start h = rw h millionth
-
--- ---- The mark
-
-pub mark_mean : (start : Start) → start ≡ Mean → 7 ≡ mark_for start
-unfolding mark_for
-mark_mean start h = rw h refl
-
-pub mark_old : (start : Start) → start ≡ Old → 4 ≡ mark_for start
-unfolding mark_for
-mark_old start h = rw h refl

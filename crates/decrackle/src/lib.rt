@@ -6,9 +6,9 @@ ghost use Rattle.std.specs.Prelude.{◌≡◌, false, ◌+◌, ◌-◌, ◌*◌,
 ghost use Rattle.std.specs.Float.{binary32};
 ghost use Rattle.std.specs.Float.Ieee.{to_bits};
 ghost use Rattle.recording.specs.Recording.{ended, most_samples, work_after};
-ghost use Rattle.recording.specs.Lent.{left, lent};
+ghost use Rattle.recording.specs.Lent.{held, SameMemory};
+ghost use Rattle.recording.specs.Marks.{byte_of};
 ghost use Rattle.recording.specs.Inner.{flags};
-ghost use Rattle.recording.specs.Runs.{begins, run_length};
 ghost use Rattle.redraw.specs.Whole.{drawn, untouched, needed};
 ghost use Rattle.redraw.specs.Inner.{words_in, flags_in, drawn_in, flag_word, flagged_at, Holds, Room};
 ghost use Rattle.leaves.specs.Arithmetic.{nought};
@@ -18,9 +18,9 @@ ghost use Rattle.decrackle.specs.Decrackle.{hermite_at, repair_hermite, smoothed
 
 use leaves::order::{clamp32, larger32, magnitude32};
 use leaves::words::{count_as_f32, f32_of_word, word_of_f32};
-use recording::Answer;
-use recording::marks::{DECRACKLE, DECRACKLE_FROM_MEAN};
-use redraw::{begin, finish};
+use recording::marks::Mark;
+use recording::{Answer, Recording};
+use redraw::{begin, finish, run_begins, run_end};
 
 // A shorter recording has nothing named.
 pub const LEAST_SAMPLES: usize = 8;
@@ -62,10 +62,7 @@ fn detector_at(samples: &[u32], i: usize) -> f32
     requires { i < length samples.now }
     ensures { result ≡ detector samples.now i }
 {
-    if i == 0 {
-        return 0.0;
-    }
-    if i + 1 == samples.len() {
+    if i == 0 || i + 1 == samples.len() {
         return 0.0;
     }
     let before = f32_of_word(samples[i - 1]);
@@ -79,10 +76,8 @@ fn sum_magnitudes(samples: &[u32], n: usize) -> f32
     ensures { result ≡ summed nought (magnitudes_from samples.now 0 n) }
 {
     let mut sum: f32 = 0.0;
-    let mut i: usize = 0;
-    while i < n {
-        sum = sum + magnitude32(detector_at(samples, i));
-        i += 1;
+    for i in 0..n {
+        sum += magnitude32(detector_at(samples, i));
     }
     sum
 }
@@ -99,14 +94,13 @@ pub fn mean_floor(sum: f32, n: usize) -> f32
 fn opening_floor(start: Start, samples: &[u32]) -> f32
     ensures { result ≡ opening_floor start (magnitudes samples.now) }
 {
-    let Start::Mean = start else {
-        return OLD_FLOOR;
-    };
-    let n = samples.len();
-    if n < MEAN_OVER {
-        return mean_floor(sum_magnitudes(samples, n), n);
+    match start {
+        Start::Mean => {
+            let n = samples.len().min(MEAN_OVER);
+            mean_floor(sum_magnitudes(samples, n), n)
+        }
+        Start::Old => OLD_FLOOR,
     }
-    mean_floor(sum_magnitudes(samples, MEAN_OVER), MEAN_OVER)
 }
 
 // The floor once it has taken in the detector's magnitude a.
@@ -140,42 +134,11 @@ fn flag_samples(samples: &[u32], sensitivity: f32, start: Start, work: &mut [u32
     let n = samples.len();
     let factor = factor_for(sensitivity);
     let mut floor = opening_floor(start, samples);
-    let mut i: usize = 0;
-    while i < n {
+    for i in 0..n {
         let a = magnitude32(detector_at(samples, i));
         floor = raise_floor(floor, a);
         work[n + i] = flag_word(factor, floor, a);
-        i += 1;
     }
-}
-
-// Whether a flagged run begins at place i.
-fn run_begins(work: &[u32], n: usize, i: usize) -> bool
-    requires { Room n work.now × (i < n) }
-    ensures { result ≡ begins (flagged_at n work.now) i }
-{
-    if work[n + i] == 0 {
-        return false;
-    }
-    if i == 0 {
-        return true;
-    }
-    work[n + i - 1] == 0
-}
-
-// The first place behind the flagged run that begins at `start`.
-fn run_end(work: &[u32], n: usize, start: usize) -> usize
-    requires { Room n work.now × (start ≤ n) }
-    ensures { result ≡ start + run_length (flagged_at n work.now) start (n - start) }
-{
-    let mut end = start;
-    while end < n {
-        if work[n + end] == 0 {
-            return end;
-        }
-        end += 1;
-    }
-    end
 }
 
 // The slope at the anchor before place `start`, or 0 where there is no sample before the anchor.
@@ -228,10 +191,8 @@ fn repair_hermite(work: &mut [u32], n: usize, start: usize, end: usize)
     let m0 = slope_before(work, n, start);
     let m1 = slope_behind(work, n, end);
     let span = count_as_f32(end - (start - 1));
-    let mut k: usize = 0;
-    while k < end - start {
+    for k in 0..end - start {
         work[start + k] = hermite_word(p0, p1, m0, m1, span, k);
-        k += 1;
     }
 }
 
@@ -241,62 +202,50 @@ fn smooth_runs(work: &mut [u32], n: usize)
     ensures { (words_in n work.new ≡ smoothed (flags (flags_in n work.old)) (words_in n work.old))
         × (drop n work.new ≡ drop n work.old) }
 {
-    let mut i: usize = 0;
-    while i < n {
-        if run_begins(work, n, i) {
-            repair_hermite(work, n, i, run_end(work, n, i));
+    for i in 0..n {
+        if run_begins(i, |k| work[n + k] != 0) {
+            let end = run_end(n, i, |k| work[n + k] != 0);
+            repair_hermite(work, n, i, end);
         }
-        i += 1;
     }
 }
 
 // Works out the words and the flags of all samples in the workspace.
-fn draw(samples: &[u32], sensitivity: f32, start: Start, work: &mut [u32])
-    requires { Room (length samples.now) work.old × (drawn_in (length samples.now) work.old ≡ untouched samples.now) }
-    ensures { Holds (length samples.now) (decrackled start sensitivity samples.now) work.old work.new }
+fn draw(recording: &Recording, sensitivity: f32, start: Start, work: &mut [u32])
+    requires { Room (length recording.now.samples.now) work.old
+        × (drawn_in (length recording.now.samples.now) work.old ≡ untouched recording.now.samples.now) }
+    ensures { Holds (length recording.now.samples.now) (decrackled start sensitivity recording.now.samples.now) work.old work.new }
 {
-    let n = samples.len();
+    let n = recording.samples.len();
     if n < LEAST_SAMPLES {
         return;
     }
-    flag_samples(samples, sensitivity, start, work);
+    flag_samples(recording.samples, sensitivity, start, work);
     smooth_runs(work, n);
 }
 
 // The mark of what is redrawn, which tells where the floor started.
-fn mark_for(start: Start) -> u8
-    ensures { result ≡ mark_for start }
+fn mark_for(start: Start) -> Mark
+    ensures { byte_of result ≡ mark_for start }
 {
     match start {
-        Start::Mean => DECRACKLE_FROM_MEAN,
-        Start::Old => DECRACKLE,
+        Start::Mean => Mark::DecrackleFromMean,
+        Start::Old => Mark::Decrackle,
     }
 }
 
 // Repairs the samples that stand out from their neighbours, or refuses and changes nothing.
 pub fn decrackle(
-    samples: &mut [u32],
-    marks: &mut [u8],
-    counts: &mut [u16],
-    journal: &mut [u32],
-    used: &mut usize,
+    recording: &mut Recording,
     sensitivity: f32,
     start: Start,
     work: &mut [u32],
 ) -> Answer
-    ensures { (ended result (left samples marks counts journal used)
-        ≡ decrackle_repair start sensitivity (length work.old) (lent samples marks counts journal used))
-        × (work.new ≡ work_after 0 (needed (length samples.old)) result work.old) }
+    ensures memory { SameMemory recording.old recording.new }
+    ensures rule { ended result (held recording.new) ≡ decrackle_repair start sensitivity (length work.old) (held recording.old) }
+    ensures work { work.new ≡ work_after 0 (needed (length recording.old.samples.now)) result work.old }
 {
-    begin(
-        samples,
-        marks,
-        counts,
-        journal,
-        *used,
-        sensitivity == sensitivity,
-        work,
-    )?;
-    draw(samples, sensitivity, start, work);
-    finish(samples, marks, counts, journal, used, work, mark_for(start))
+    begin(recording, sensitivity == sensitivity, work)?;
+    draw(recording, sensitivity, start, work);
+    finish(recording, work, mark_for(start))
 }

@@ -4,17 +4,16 @@ ghost use Rattle.std.specs.Prelude.{◌≡◌, ◌+◌, ◌-◌, ◌*◌, ◌≤
 ghost use Rattle.std.specs.Float.{binary32};
 ghost use Rattle.std.specs.Float.Ieee.{to_bits};
 ghost use Rattle.recording.specs.Recording.{ended, work_after};
-ghost use Rattle.recording.specs.Lent.{left, lent};
+ghost use Rattle.recording.specs.Lent.{held, SameMemory};
 ghost use Rattle.redraw.specs.Whole.{untouched, needed};
 ghost use Rattle.redraw.specs.Inner.{words_in, snapshot_in, rest_of, drawn_in, Holds, Room};
 ghost use Rattle.dequant.specs.Dequant.{cubic_weight, candidate, local_strength, sparse_at, sparse_pass, sparse_passes, cosparse, cosparse_repair};
 
 use super::lattice::{name_inner, reaches, snapshot, step_of, strength_of, target_of};
-use leaves::counts::smaller_of;
 use leaves::order::{clamp32, magnitude32};
 use leaves::words::{f32_of_word, word_of_f32};
-use recording::Answer;
-use recording::marks::DEQUANTIZE;
+use recording::marks::Mark;
+use recording::{Answer, Recording};
 use redraw::{begin, finish};
 
 // `dequantize_cosparse` needs so many samples, and leaves so many alone at either end.
@@ -71,10 +70,8 @@ fn sparse_pass(work: &mut [u32], n: usize, step: f32, strength: f32)
     ensures { (words_in n work.new ≡ sparse_pass step strength (snapshot_in n work.old) 2 (n - 4) (words_in n work.old))
         × (drop n work.new ≡ drop n work.old) }
 {
-    let mut i: usize = 2;
-    while i < n - 2 {
+    for i in 2..n - 2 {
         work[i] = sparse_word(work, n, i, step, strength);
-        i += 1;
     }
 }
 
@@ -85,11 +82,9 @@ fn sparse_passes(work: &mut [u32], n: usize, step: f32, strength: f32, iteration
     ensures { (words_in n work.new ≡ sparse_passes step strength iterations (words_in n work.old))
         × (rest_of n work.new ≡ rest_of n work.old) }
 {
-    let mut k: usize = 0;
-    while k < iterations {
+    for _k in 0..iterations {
         snapshot(work, n);
         sparse_pass(work, n, step, strength);
-        k += 1;
     }
 }
 
@@ -106,42 +101,26 @@ fn draw(work: &mut [u32], n: usize, bits: u32, strength: f32, iterations: u32)
         return;
     }
     let step = step_of(bits);
-    sparse_passes(
-        work,
-        n,
-        step,
-        held,
-        smaller_of(iterations as usize, MOST_ITERATIONS),
-    );
+    let most = (iterations as usize).min(MOST_ITERATIONS);
+    sparse_passes(work, n, step, held, most);
     name_inner(work, n, EDGE);
 }
 
 // Moves every sample but two at either end toward what its neighbours predict, up to 16 times, or refuses
 // and changes nothing.
 pub fn dequantize_cosparse(
-    samples: &mut [u32],
-    marks: &mut [u8],
-    counts: &mut [u16],
-    journal: &mut [u32],
-    used: &mut usize,
+    recording: &mut Recording,
     bits: u32,
     strength: f32,
     iterations: u32,
     work: &mut [u32],
 ) -> Answer
-    ensures { (ended result (left samples marks counts journal used)
-        ≡ cosparse_repair bits strength iterations (length work.old) (lent samples marks counts journal used))
-        × (work.new ≡ work_after 0 (needed (length samples.old)) result work.old) }
+    ensures memory { SameMemory recording.old recording.new }
+    ensures rule { ended result (held recording.new)
+        ≡ cosparse_repair bits strength iterations (length work.old) (held recording.old) }
+    ensures work { work.new ≡ work_after 0 (needed (length recording.old.samples.now)) result work.old }
 {
-    begin(
-        samples,
-        marks,
-        counts,
-        journal,
-        *used,
-        strength == strength,
-        work,
-    )?;
-    draw(work, samples.len(), bits, strength, iterations);
-    finish(samples, marks, counts, journal, used, work, DEQUANTIZE)
+    begin(recording, strength == strength, work)?;
+    draw(work, recording.samples.len(), bits, strength, iterations);
+    finish(recording, work, Mark::Dequantize)
 }

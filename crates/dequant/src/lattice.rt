@@ -26,13 +26,7 @@ pub fn strength_of(strength: f32) -> f32
 pub fn step_of(bits: u32) -> f32
     ensures { result ≡ step_of bits }
 {
-    let mut kept = bits;
-    if bits < LEAST_BITS {
-        kept = LEAST_BITS;
-    }
-    if MOST_BITS < bits {
-        kept = MOST_BITS;
-    }
+    let kept = bits.max(LEAST_BITS).min(MOST_BITS);
     2.0 / count_as_f32((1u32 << kept) as usize)
 }
 
@@ -49,10 +43,7 @@ pub fn target_of(step: f32, x: f32, pred: f32) -> f32
 pub fn reaches(strength: f32, least: usize, n: usize) -> bool
     ensures { result ≡ acts strength least n }
 {
-    if n < least {
-        return false;
-    }
-    0.0 < strength
+    least <= n && 0.0 < strength
 }
 
 // Keeps the n words as they stand, in the place of the flags, for a pass that reads what it overwrites.
@@ -60,11 +51,7 @@ pub fn snapshot(work: &mut [u32], n: usize)
     requires { Room n work.old }
     ensures { work.new ≡ sets work.old n (words_in n work.old) }
 {
-    let mut i: usize = 0;
-    while i < n {
-        work[n + i] = work[i];
-        i += 1;
-    }
+    work.copy_within(..n, n);
 }
 
 // The flag of place i: 1 where it has `edge` places before it and behind it, and else 0.
@@ -72,10 +59,7 @@ fn inner_word(edge: usize, n: usize, i: usize) -> u32
     requires { (i < n) × (n ≤ most_samples) × (edge ≤ 2) }
     ensures { result ≡ flag_word (leb edge i && ltb (i + edge) n) }
 {
-    if i < edge {
-        return 0;
-    }
-    if i + edge < n { 1 } else { 0 }
+    u32::from(edge <= i && i + edge < n)
 }
 
 // Names every place that has `edge` places before it and behind it, and no other.
@@ -83,9 +67,7 @@ pub fn name_inner(work: &mut [u32], n: usize, edge: usize)
     requires { Room n work.old × (edge ≤ 2) }
     ensures { Holds n (drawn (words_in n work.old) (inner edge n)) work.old work.new }
 {
-    let mut i: usize = 0;
-    while i < n {
+    for i in 0..n {
         work[n + i] = inner_word(edge, n, i);
-        i += 1;
     }
 }

@@ -3,15 +3,15 @@ ghost use Rattle.std.specs.Prelude.{◌≡◌, ◌+◌, ◌-◌, ◌*◌, ◌≤
 ghost use Rattle.std.specs.Float.{binary32};
 ghost use Rattle.std.specs.Float.Ieee.{to_bits};
 ghost use Rattle.recording.specs.Recording.{ended, work_after};
-ghost use Rattle.recording.specs.Lent.{left, lent};
+ghost use Rattle.recording.specs.Lent.{held, SameMemory};
 ghost use Rattle.redraw.specs.Whole.{sample, untouched, needed};
 ghost use Rattle.redraw.specs.Inner.{words_in, snapshot_in, drawn_in, Holds, Room};
 ghost use Rattle.dequant.specs.Dequant.{first_at, first_pass, second_at, second_pass, wide, dequantized, dequantize_repair};
 
 use super::lattice::{name_inner, reaches, snapshot, step_of, strength_of, target_of};
 use leaves::words::{f32_of_word, word_of_f32};
-use recording::Answer;
-use recording::marks::DEQUANTIZE;
+use recording::marks::Mark;
+use recording::{Answer, Recording};
 use redraw::{begin, finish};
 
 // `dequantize` needs so many samples, and leaves so many alone at either end.
@@ -40,10 +40,8 @@ fn first_pass(work: &mut [u32], n: usize, step: f32, strength: f32)
     ensures { (words_in n work.new ≡ first_pass step strength 1 (n - 2) (words_in n work.old))
         × (drop n work.new ≡ drop n work.old) }
 {
-    let mut i: usize = 1;
-    while i < n - 1 {
+    for i in 1..n - 1 {
         work[i] = first_word(work, i, step, strength);
-        i += 1;
     }
 }
 
@@ -66,10 +64,8 @@ fn second_pass(work: &mut [u32], n: usize, step: f32, strength: f32)
     ensures { (words_in n work.new ≡ second_pass step strength (snapshot_in n work.old) 2 (n - 4) (words_in n work.old))
         × (drop n work.new ≡ drop n work.old) }
 {
-    let mut i: usize = 2;
-    while i < n - 2 {
+    for i in 2..n - 2 {
         work[i] = second_word(work, n, i, step, strength);
-        i += 1;
     }
 }
 
@@ -77,10 +73,7 @@ fn second_pass(work: &mut [u32], n: usize, step: f32, strength: f32)
 fn is_wide(strength: f32, n: usize) -> bool
     ensures { result ≡ wide strength n }
 {
-    if n < WIDE_SAMPLES {
-        return false;
-    }
-    WIDE_STRENGTH < strength
+    WIDE_SAMPLES <= n && WIDE_STRENGTH < strength
 }
 
 // Works out the words and the flags of all samples in the workspace.
@@ -102,29 +95,12 @@ fn draw(work: &mut [u32], n: usize, bits: u32, strength: f32)
 }
 
 // Moves every sample but the two ends toward what its neighbours predict, or refuses and changes nothing.
-pub fn dequantize(
-    samples: &mut [u32],
-    marks: &mut [u8],
-    counts: &mut [u16],
-    journal: &mut [u32],
-    used: &mut usize,
-    bits: u32,
-    strength: f32,
-    work: &mut [u32],
-) -> Answer
-    ensures { (ended result (left samples marks counts journal used)
-        ≡ dequantize_repair bits strength (length work.old) (lent samples marks counts journal used))
-        × (work.new ≡ work_after 0 (needed (length samples.old)) result work.old) }
+pub fn dequantize(recording: &mut Recording, bits: u32, strength: f32, work: &mut [u32]) -> Answer
+    ensures memory { SameMemory recording.old recording.new }
+    ensures rule { ended result (held recording.new) ≡ dequantize_repair bits strength (length work.old) (held recording.old) }
+    ensures work { work.new ≡ work_after 0 (needed (length recording.old.samples.now)) result work.old }
 {
-    begin(
-        samples,
-        marks,
-        counts,
-        journal,
-        *used,
-        strength == strength,
-        work,
-    )?;
-    draw(work, samples.len(), bits, strength);
-    finish(samples, marks, counts, journal, used, work, DEQUANTIZE)
+    begin(recording, strength == strength, work)?;
+    draw(work, recording.samples.len(), bits, strength);
+    finish(recording, work, Mark::Dequantize)
 }

@@ -55,13 +55,6 @@ module _ (side : Float → Bool) (w p : ℕ) (x : Float) (ex : x ≡ of_bits bin
     side_in y ey k = rw (← ex, ← ey, ← eb, h, k) refl
 
 module _ (threshold : Float) (w p : ℕ) where
-  -- by whether the sample is clipped
-  pub bits_beyond : (b : Bool) → b ≡ clipped threshold w → b ≡ true → true ≡ keeps_bits threshold w p
-  bits_beyond b e h = rw (sym e ∙ h) refl
-
-  pub bits_under : (b : Bool) → b ≡ clipped threshold w → b ≡ false → eqb p w ≡ keeps_bits threshold w p
-  bits_under b e h = rw (sym e ∙ h) refl
-
   -- by the three tests, one after the other
   pub answers_bits : (a : Bool) → a ≡ keeps_bits threshold w p → a ≡ false → false ≡ answers threshold w p
   unfolding answers

@@ -7,7 +7,7 @@ ghost use Rattle.std.specs.Prelude.{◌≡◌, ◌+◌, ◌*◌, ◌≤◌, leng
 ghost use Rattle.std.proofs.lemmas.List.Edits.{sets};
 ghost use Rattle.recording.specs.Recording.{ended, most_samples, places, put, each, saved, three_words, entered};
 ghost use Rattle.recording.specs.Marks.{declip_proposed};
-ghost use Rattle.recording.specs.Lent.{left, lent, seen, given};
+ghost use Rattle.recording.specs.Lent.{held, SameMemory};
 ghost use Rattle.recording.specs.Inner.{Fits};
 ghost use Rattle.proposed.specs.Proposed.{keeps_bits, answered_above, answered_below, answers, taken, named, proposed_repair};
 ghost use Rattle.proposed.specs.Inner.{checked, clipped_places};
@@ -16,20 +16,15 @@ use declip::{is_clipped, threshold_allowed};
 use leaves::words::{f32_of_word, in_range};
 use recording::commit::{save, seal};
 use recording::counts::recount;
-use recording::marks::DECLIP_PROPOSED;
-use recording::open::check_sizes;
+use recording::marks::Mark;
 use recording::read::check_words;
-use recording::{Answer, Reason};
+use recording::{Answer, Reason, Recording};
 
 // Whether a sample under the threshold keeps its bits; of any other sample nothing is asked here.
 fn keeps_bits(threshold: f32, word: u32, proposed: u32) -> bool
     ensures { result ≡ keeps_bits threshold word proposed }
 {
-    if is_clipped(threshold, word) {
-        true
-    } else {
-        proposed == word
-    }
+    is_clipped(threshold, word) || proposed == word
 }
 
 // Whether a sample at or above the threshold is answered by one in range that is, too; of any other
@@ -37,43 +32,23 @@ fn keeps_bits(threshold: f32, word: u32, proposed: u32) -> bool
 fn answered_above(threshold: f32, word: u32, proposed: u32) -> bool
     ensures { result ≡ answered_above threshold word proposed }
 {
-    if threshold <= f32_of_word(word) {
-        if in_range(proposed) {
-            threshold <= f32_of_word(proposed)
-        } else {
-            false
-        }
-    } else {
-        true
-    }
+    !(threshold <= f32_of_word(word)) || in_range(proposed) && threshold <= f32_of_word(proposed)
 }
 
 // The same of a sample at or below the negative threshold.
 fn answered_below(threshold: f32, word: u32, proposed: u32) -> bool
     ensures { result ≡ answered_below threshold word proposed }
 {
-    if f32_of_word(word) <= -threshold {
-        if in_range(proposed) {
-            f32_of_word(proposed) <= -threshold
-        } else {
-            false
-        }
-    } else {
-        true
-    }
+    !(f32_of_word(word) <= -threshold) || in_range(proposed) && f32_of_word(proposed) <= -threshold
 }
 
 // Whether a proposed word keeps to the rule for its sample.
 fn is_answered(threshold: f32, word: u32, proposed: u32) -> bool
     ensures { result ≡ answers threshold word proposed }
 {
-    if !keeps_bits(threshold, word, proposed) {
-        return false;
-    }
-    if !answered_above(threshold, word, proposed) {
-        return false;
-    }
-    answered_below(threshold, word, proposed)
+    keeps_bits(threshold, word, proposed)
+        && answered_above(threshold, word, proposed)
+        && answered_below(threshold, word, proposed)
 }
 
 // Refusal 15: for a proposal of another length, or for the first place at which it breaks the rule, which
@@ -84,46 +59,37 @@ fn check_proposal(samples: &[u32], proposal: &[u32], threshold: f32) -> Answer
     if proposal.len() != samples.len() {
         return Err(Reason::Proposal(0));
     }
-    let mut i: usize = 0;
-    while i < samples.len() {
+    for i in 0..samples.len() {
         if !is_answered(threshold, samples[i], proposal[i]) {
             return Err(Reason::Proposal(i));
         }
-        i += 1;
     }
     Ok(0)
 }
 
 // Refusals 1, 14, 2, 3, 4, 7 and 15, in this order; accepted, with 0, where none of them applies.
-fn check_call(
-    samples: &[u32],
-    marks: &[u8],
-    counts: &[u16],
-    journal: &[u32],
-    used: usize,
-    threshold: f32,
-    proposal: &[u32],
-) -> Answer
-    ensures { result ≡ checked threshold proposal.now (seen samples marks counts journal used) }
+fn check_call(recording: &Recording, threshold: f32, proposal: &[u32]) -> Answer
+    ensures { result ≡ checked threshold proposal.now (held recording.now) }
 {
-    check_sizes(samples, marks, counts, journal, used)?;
+    recording.check_sizes()?;
     if !threshold_allowed(threshold) {
         return Err(Reason::Setting);
     }
-    check_words(samples, 0)?;
-    check_proposal(samples, proposal, threshold)
+    check_words(recording.samples, 0)?;
+    check_proposal(recording.samples, proposal, threshold)
 }
 
+// The next three walk the clipped samples as `Recording::commit_picked` walks those that a workspace names. One walk for
+// both is no plainer: here the test reads the samples that the walk writes, which no closure can hold meanwhile.
+
 // How many samples are clipped.
-fn count_clipped(samples: &[u32], threshold: f32) -> usize
-    ensures { result ≡ length (clipped_places threshold 0 samples.now) }
+fn count_clipped(recording: &Recording, threshold: f32) -> usize
+    ensures { result ≡ length (clipped_places threshold 0 recording.now.samples.now) }
 {
+    let samples = &*recording.samples;
     let mut m: usize = 0;
-    let mut i: usize = 0;
-    while i < samples.len() {
-        let place = i;
-        i += 1;
-        if is_clipped(threshold, samples[place]) {
+    for i in 0..samples.len() {
+        if is_clipped(threshold, samples[i]) {
             m += 1;
         }
     }
@@ -139,12 +105,9 @@ fn save_clipped(samples: &[u32], marks: &[u8], journal: &mut [u32], at: usize, t
         (three_words (saved samples.now marks.now (clipped_places threshold 0 samples.now))) }
 {
     let mut next = at;
-    let mut i: usize = 0;
-    while i < samples.len() {
-        let place = i;
-        i += 1;
-        if is_clipped(threshold, samples[place]) {
-            save(samples, marks, journal, next, place);
+    for i in 0..samples.len() {
+        if is_clipped(threshold, samples[i]) {
+            save(samples, marks, journal, next, i);
             next += 3;
         }
     }
@@ -158,61 +121,48 @@ fn write_clipped(samples: &mut [u32], marks: &mut [u8], proposal: &[u32], thresh
         × (marks.new
         ≡ put (each declip_proposed (places (named threshold samples.old proposal.now))) marks.old) }
 {
-    let mut i: usize = 0;
-    while i < samples.len() {
-        let place = i;
-        i += 1;
-        if is_clipped(threshold, samples[place]) {
-            samples[place] = proposal[place];
-            marks[place] = DECLIP_PROPOSED;
+    for i in 0..samples.len() {
+        if is_clipped(threshold, samples[i]) {
+            samples[i] = proposal[i];
+            marks[i] = Mark::DeclipProposed as u8;
         }
     }
 }
 
 // Commits a proposal that keeps to the rule: refusal 9, and else the entry, the words, the marks and the
 // counts. What it names is saved before anything is written.
-fn commit_proposal(
-    samples: &mut [u32],
-    marks: &mut [u8],
-    counts: &mut [u16],
-    journal: &mut [u32],
-    used: &mut usize,
-    threshold: f32,
-    proposal: &[u32],
-) -> Answer
-    requires { Fits (given samples marks counts journal used) × (length proposal.now ≡ length samples.old) }
-    ensures { ended result (left samples marks counts journal used)
-        ≡ entered (lent samples marks counts journal used) declip_proposed (named threshold samples.old proposal.now) }
+fn commit_proposal(recording: &mut Recording, threshold: f32, proposal: &[u32]) -> Answer
+    requires { Fits (held recording.old) × (length proposal.now ≡ length recording.old.samples.now) }
+    ensures memory { SameMemory recording.old recording.new }
+    ensures rule { ended result (held recording.new)
+        ≡ entered (held recording.old) declip_proposed (named threshold recording.old.samples.now proposal.now) }
 {
-    let m = count_clipped(samples, threshold);
+    let m = count_clipped(recording, threshold);
     if m == 0 {
         return Ok(0);
     }
-    let at = *used;
-    if journal.len() - at < 3 * m + 2 {
+    let at = *recording.used;
+    if recording.journal.len() - at < 3 * m + 2 {
         return Err(Reason::Room);
     }
+    let samples = &mut *recording.samples;
+    let marks = &mut *recording.marks;
+    let counts = &mut *recording.counts;
+    let journal = &mut *recording.journal;
+    let used = &mut *recording.used;
     save_clipped(samples, marks, journal, at, threshold);
     write_clipped(samples, marks, proposal, threshold);
     recount(marks, counts, journal, at, m);
-    seal(journal, used, m, DECLIP_PROPOSED);
+    seal(journal, used, m, Mark::DeclipProposed as u8);
     Ok(m)
 }
 
 // Takes a proposal for the clipped samples, as many words as there are samples, where it keeps to the rule at
 // every place, or refuses and changes nothing.
-pub fn declip_proposed(
-    samples: &mut [u32],
-    marks: &mut [u8],
-    counts: &mut [u16],
-    journal: &mut [u32],
-    used: &mut usize,
-    threshold: f32,
-    proposal: &[u32],
-) -> Answer
-    ensures { ended result (left samples marks counts journal used)
-        ≡ proposed_repair threshold proposal.now (lent samples marks counts journal used) }
+pub fn declip_proposed(recording: &mut Recording, threshold: f32, proposal: &[u32]) -> Answer
+    ensures memory { SameMemory recording.old recording.new }
+    ensures rule { ended result (held recording.new) ≡ proposed_repair threshold proposal.now (held recording.old) }
 {
-    check_call(samples, marks, counts, journal, *used, threshold, proposal)?;
-    commit_proposal(samples, marks, counts, journal, used, threshold, proposal)
+    check_call(recording, threshold, proposal)?;
+    commit_proposal(recording, threshold, proposal)
 }

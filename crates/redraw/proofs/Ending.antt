@@ -27,6 +27,10 @@ use Rattle.redraw.proofs.Workspace.{room_stays}
 use Rattle.redraw.specs.Whole.{Drawn, untouched, needed, whole_plan}
 use Rattle.redraw.specs.Inner.{begun, Begun, words_in, drawn_in, Holds, Room}
 
+-- an acceptance is no refusal
+pub done_not_refused : (m : ℕ) (why : Reason) → Ok m ≡ Err why → ⊥
+done_not_refused m why both = let none : ◌≡◌ {A = ℕ} 0 1 = cc in omega arith
+
 -- ---- Refusals 1, 14 and 2 to 4, 6 and 7
 
 -- their tests, with what they test under other names
@@ -76,12 +80,13 @@ module _ (allowed : Bool) (room : ℕ) (s : State) where
         pub begun_read : (b : Answer) → needed (length s.samples) ≤ room → b ≡ readable 0 s.samples → b ≡ begun allowed room s
         begun_read b h e = e ∙ passed false (le-ltb _ _ h)
 
--- what they leave in the workspace
-pub begun_kept : (a : Answer) (why : Reason) (samples w : List ℕ) → a ≡ Err why → Begun a samples w w
-begun_kept a why samples w e = rw e refl
-
-pub begun_laid : (a : Answer) (m : ℕ) (samples w v : List ℕ) → a ≡ Ok m → Holds (length samples) (untouched samples) w v → Begun a samples w v
-begun_laid a m samples w v e h = rw e h
+        pub begun_all : (b : Answer) (k : ℕ) → needed (length s.samples) ≤ room → b ≡ readable 0 s.samples → b ≡ Ok k
+            → Ok 0 ≡ begun allowed room s
+        begun_all b k h e done =
+            elim (readable_ends 0 s.samples) [
+              | inl all ↦ begun_read (Ok 0) h (sym all)
+              | inr out ↦ absurd (done_not_refused k _ (sym done ∙ e ∙ out.1))
+            ]
 
 -- an accepted start: the workspace holds the samples
 module _ (samples w v : List ℕ) (a : Answer) (m : ℕ) (accepts : a ≡ Ok m) (start : Begun a samples w v) where
@@ -103,9 +108,6 @@ module _ (samples w v : List ℕ) (a : Answer) (m : ℕ) (accepts : a ≡ Ok m) 
 
 abbrev tests : State → Answer → Bool → Bool → Answer → Plan → Ended
 tests s f b c r p = unless_refused f s (carried s (if b then refuse Setting else if c then refuse Workspace else unless_read r p))
-
-pub done_not_refused : (m : ℕ) (why : Reason) → Ok m ≡ Err why → ⊥
-done_not_refused m why both = let none : ◌≡◌ {A = ℕ} 0 1 = cc in omega arith
 
 refused_not_done : (m : ℕ) (why : Reason) → Err why ≡ Ok m → ⊥
 refused_not_done m why both = done_not_refused m why (sym both)
@@ -191,9 +193,8 @@ module _ (allowed : Bool) (w : List ℕ) (s : State) (a : Answer) (start : a ≡
     unfolding called whole_plan performed
     repair_is = refl
 
-    -- a refusal of the start ends it
-    pub whole_refused : (why : Reason) (v : List ℕ) → a ≡ Err why → Begun a s.samples w v → Ends a s v
-    whole_refused why v e kept =
+    start_refused : (why : Reason) (v : List ℕ) → a ≡ Err why → Begun a s.samples w v → Ends a s v
+    start_refused why v e kept =
         let decided = sym begins_so ∙ e in (
           ap (λ (x : Answer). ended x s) begins_so
               ∙ first_refuses s (fitting s) (not allowed) short (readable 0 s.samples) planned why decided
@@ -209,6 +210,10 @@ module _ (allowed : Bool) (w : List ℕ) (s : State) (a : Answer) (start : a ≡
             let kept : clears a ≡ false = rw begins_so (first_keeps (fitting s) (not allowed) short (readable 0 s.samples) why
             (fitting_keeps s) (read_keeps s.samples) (sym begins_so ∙ e)) in
             rw kept k
+
+    -- a refusal of the start ends it, with that answer
+    pub whole_refused : (why : Reason) (v : List ℕ) (r : Answer) → r ≡ a → a ≡ Err why → Begun a s.samples w v → Ends r s v
+    whole_refused why v r same e kept = subst (λ (x : Answer). Ends x s v) (sym same) (start_refused why v e kept)
 
     -- what the workspace holds is committed
     pub whole_done : (m : ℕ) (v u next : List ℕ) (r : Answer) (after : State) → a ≡ Ok m

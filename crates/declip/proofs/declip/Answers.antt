@@ -1,38 +1,38 @@
 -- `declip::declip` meets its contract: a refusal of the start ends it, and else what the workspace holds is committed. Assumes
 -- nothing.
-use mathlib.Core.Path.{◌≡◌}
+use mathlib.Core.Path.{◌≡◌, sym}
 use lib.ListN.{length}
-use Rattle.recording.specs.Recording.{state, called}
+use Rattle.std.proofs.Common.{rules}
+use Rattle.std.proofs.lemmas.Result.{err_from_is_err_and}
+use Rattle.recording.specs.Lent.{held}
 use Rattle.recording.specs.Marks.{cubic_declip}
-use Rattle.redraw.specs.Whole.{whole_plan}
 use Rattle.redraw.proofs.Ending.{start_room, start_finishes, start_holds, whole_refused, whole_done}
-use Rattle.declip.specs.Declip.{declipped, declip_repair}
+use Rattle.declip.specs.Declip.{declipped}
 use Rattle.declip.proofs.Laws.{declip_is}
 use Rattle.declip.proofs.declip.Goals as goal
 
-pub returns-in_default : goal.returns-in_default
-returns-in_default c =
-    let rule_is : let a = c.args in called (whole_plan c.threshold_allowed.result (length a.work.now) cubic_declip (declipped a.threshold)) (let a = c.args in state a.samples.now a.marks.now a.counts.now a.journal.now a.used.now) ≡ declip_repair a.threshold (length a.work.now) (let a = c.args in state a.samples.now a.marks.now a.counts.now a.journal.now a.used.now) = declip_is _ _ _ (let a = c.args in state a.samples.now a.marks.now a.counts.now a.journal.now a.used.now) c.threshold_allowed.ensures in
-    let a = c.args in
-    whole_refused _ a.work.now (let a = c.args in state a.samples.now a.marks.now a.counts.now a.journal.now a.used.now) _ c.begin-begun.ensures.0 cubic_declip (declipped a.threshold) _ rule_is _ _
-    c.in_default.is c.begin-begun.ensures.1
+pub returns-in_err-begin : goal.returns-in_err-begin
+returns-in_err-begin c =
+    let rule_is = declip_is c.args.threshold c.threshold_allowed.result (length c.args.work.now) (held c.args.recording.now) c.threshold_allowed.ensures in
+    let p = err_from_is_err_and c.from_residual.result c.from_residual.ensures.1 in
+    let same : c.from_residual.result ≡ c.begin.result = rw (p.1, p.2) (sym c.in_err-begin.was) in
+    let ends = whole_refused _ c.args.work.now (held c.args.recording.now) _ c.begin.ensures.0 cubic_declip (declipped c.args.threshold) _ rule_is
+    _ _ _ same c.in_err-begin.was c.begin.ensures.1 in
+    record { memory = search rules; rule = ends.0; work = ends.1 }
 
 pub bridge_runs-requires : goal.bridge_runs-requires
 bridge_runs-requires c =
-    let done = c.in-Done.is in (
-      start_room _ c.args.work.now (let a = c.args in state a.samples.now a.marks.now a.counts.now a.journal.now a.used.now) _ c.begin-begun.ensures.0 _ _ done c.work-1.given,
-      (start_holds (let a = c.args in state a.samples.now a.marks.now a.counts.now a.journal.now a.used.now).samples _ _ _ _ done c.begin-begun.ensures.1).holds,
-    )
+    let s = held c.args.recording.now in
+    (start_room _ _ s _ c.begin.ensures.0 _ _ c.in_ok-begin.was c.begin.auto.work, (start_holds s.samples _ _ _ _ c.in_ok-begin.was c.begin.ensures.1).holds)
 
 pub finish-requires : goal.finish-requires
 finish-requires c =
-    start_finishes _ c.args.work.now (let a = c.args in state a.samples.now a.marks.now a.counts.now a.journal.now a.used.now) _ c.begin-begun.ensures.0 _ _ _
-    c.in-Done.is c.work-1.given c.work-2-1.given
+    start_finishes _ _ (held c.args.recording.now) _ c.begin.ensures.0 _ _ _ c.in_ok-begin.was c.begin.auto.work c.bridge_runs.auto.work
 
 pub returns : goal.returns
 returns c =
-    let rule_is : let a = c.args in called (whole_plan c.threshold_allowed.result (length a.work.now) cubic_declip (declipped a.threshold)) (let a = c.args in state a.samples.now a.marks.now a.counts.now a.journal.now a.used.now) ≡ declip_repair a.threshold (length a.work.now) (let a = c.args in state a.samples.now a.marks.now a.counts.now a.journal.now a.used.now) = declip_is _ _ _ (let a = c.args in state a.samples.now a.marks.now a.counts.now a.journal.now a.used.now) c.threshold_allowed.ensures in
-    let a = c.args in
-    whole_done _ a.work.now (let a = c.args in state a.samples.now a.marks.now a.counts.now a.journal.now a.used.now) _ c.begin-begun.ensures.0 cubic_declip (declipped a.threshold) _ rule_is
-    _ _ _ _ _ (let l = c.finish.new in state l.samples l.marks l.counts l.journal l.used) c.in-Done.is c.begin-begun.ensures.1 c.work-1.given
-    c.bridge_runs.ensures c.work-2-1.given c.finish.ensures.0 c.finish.ensures.1
+    let rule_is = declip_is c.args.threshold c.threshold_allowed.result (length c.args.work.now) (held c.args.recording.now) c.threshold_allowed.ensures in
+    let ends = whole_done _ c.args.work.now (held c.args.recording.now) _ c.begin.ensures.0 cubic_declip (declipped c.args.threshold) _ rule_is
+    _ _ _ _ _ (held c.finish.new.recording) c.in_ok-begin.was c.begin.ensures.1 c.begin.auto.work
+    c.bridge_runs.ensures c.bridge_runs.auto.work c.finish.ensures.rule c.finish.ensures.work in
+    record { memory = c.finish.ensures.memory; rule = ends.0; work = ends.1 }

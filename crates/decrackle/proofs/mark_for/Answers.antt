@@ -1,9 +1,12 @@
 -- `decrackle::mark_for` meets its contract: each start has its mark. Assumes nothing.
-use Rattle.decrackle.proofs.Opening.{mark_mean, mark_old}
+use mathlib.Core.Path.{refl}
+use Rattle.decrackle.specs.Decrackle.{mark_for}
 use Rattle.decrackle.proofs.mark_for.Goals as goal
 
 pub returns-in-Mean : goal.returns-in-Mean
-returns-in-Mean c = mark_mean _ c.in-Mean.is
+unfolding mark_for
+returns-in-Mean c = rw c.in-Mean.is refl
 
 pub returns-in-Old : goal.returns-in-Old
-returns-in-Old c = mark_old _ c.in-Old.is
+unfolding mark_for
+returns-in-Old c = rw c.in-Old.is refl

@@ -2,22 +2,23 @@
 -- the code works it out. Assumes nothing.
 use mathlib.Core.Path.{◌≡◌, refl, sym, ap, ◌∙◌}
 use mathlib.Core.Bool.{Bool, false, not, ◌&&◌}
-use mathlib.Core.List.{List}
+use mathlib.Core.List.{List, ◌++◌}
 use Prim.Native.Nat.{ℕ, zero, suc, ◌+◌, ◌-◌, ◌*◌, ◌%◌, ◌^◌, ◌≤◌, ◌<◌, min, max}
 use native.Mathlib.Omega.{arith}
 use native.Mathlib.Nat.{sub-zero}
-use borrow.Author.Tests.{le-leb, lt-leb, lt-ltb, le-ltb, leb-true, not-false}
+use borrow.Author.Tests.{le-leb, lt-leb, leb-true, not-false}
 use lib.Dec.{leb, ltb}
 use lib.Pow.{pow_mono}
 use lib.ListN.{length, get_or, set, take, drop}
-use lib.Seq.{sets, get_or-take, length-take-le, take-set-le}
+use lib.Seq.{sets}
+use Rattle.std.proofs.lemmas.List.Edits.{sets-eq}
+use Rattle.std.specs.List.{copy_within}
 use lib.Ieee.{Float, binary32, of_bits, lt}
 use Rattle.leaves.specs.Arithmetic.{◌+₃₂◌, ◌-₃₂◌, ◌*₃₂◌, ◌/₃₂◌, count}
 use Rattle.leaves.specs.Floats.{held, rounded}
 use Rattle.leaves.proofs.Literals.{nought_word, half_word, one_word, two_word}
 use Rattle.leaves.proofs.Numbers.{one_up}
 use Rattle.leaves.proofs.Parts.{take-sets, drop-sets, part_of_sets}
-use Rattle.leaves.proofs.Stores.{copy_more, all_copied}
 use Rattle.leaves.proofs.Choice.{both_hold}
 use Rattle.redraw.specs.Whole.{drawn}
 use Rattle.redraw.specs.Inner.{words_in, flags_in, rest_of, flag_word, Holds, Room}
@@ -30,21 +31,6 @@ use Rattle.redraw.proofs.Flags.{flag_words, flags_stored}
 pub strength_is : (strength r : Float) → r ≡ held (of_bits binary32 0) (of_bits binary32 1065353216) strength → r ≡ strength_of strength
 unfolding strength_of
 strength_is strength r e = e ∙ rw (nought_word, one_word) refl
-
--- how many bits count, by the code's two tests: k is what the first leaves, and kept what both do
-module _ (bits k : ℕ) where
-  pub bits_few : bits < 4 → k ≡ 4 → k ≡ max bits 4
-  bits_few h e = omega arith
-
-  pub bits_least : 4 ≤ bits → k ≡ bits → k ≡ max bits 4
-  bits_least h e = omega arith
-
-  module _ (kept : ℕ) (e : k ≡ max bits 4) where
-    pub bits_many : 24 < bits → kept ≡ 24 → kept ≡ min (max bits 4) 24
-    bits_many h f = omega arith
-
-    pub bits_most : bits ≤ 24 → kept ≡ k → kept ≡ min (max bits 4) 24
-    bits_most h f = omega arith
 
 -- the shift, by at most 24 places
 module _ (bits kept : ℕ) (e : kept ≡ min (max bits 4) 24) where
@@ -85,27 +71,14 @@ acts_size strength least n b e h = leb-true least n (both_hold (leb least n) _ (
 
 -- ---- The snapshot
 
-pub kept_none : (n : ℕ) (w : List ℕ) → sets w (n + 0) (drop 0 (take n w)) ≡ sets w n (take n w)
-kept_none n w = let here : n + 0 ≡ n = omega arith in rw here refl
-
-module _ (n i : ℕ) (w₀ w : List ℕ) (same : take n w ≡ take n w₀) where
-  -- one word more: it is as it was at the start, and what is left to store gives the whole
-  pub kept_more : (whole : List ℕ) → i < n → n ≤ length w₀ → sets w (n + i) (drop i (take n w₀)) ≡ whole
-      → sets (set w (n + i) (get_or w i 0)) (n + (i + 1)) (drop (i + 1) (take n w₀)) ≡ whole
-  kept_more whole h room rest =
-      let there : get_or w i 0 ≡ get_or (take n w₀) i 0 = sym (get_or-take n w i 0 h) ∙ ap (λ (l : List ℕ). get_or l i 0) same in
-      let size : length (take n w₀) ≡ n = length-take-le n w₀ room in
-      ap (λ (x : ℕ). sets (set w (n + i) x) (n + (i + 1)) (drop (i + 1) (take n w₀))) there
-      ∙ copy_more w whole (take n w₀) (n + i) (n + (i + 1)) i 0 (omega arith) (omega arith) rest
-
-  -- and the words stay
-  pub kept_words : (x : ℕ) → take n (set w (n + i) x) ≡ take n w₀
-  kept_words x = take-set-le n w (n + i) x (omega arith) ∙ same
-
-  pub kept_all : (whole : List ℕ) → n ≤ i → n ≤ length w₀ → sets w (n + i) (drop i (take n w₀)) ≡ whole → w ≡ whole
-  kept_all whole h room rest =
-      let size : length (take n w₀) ≡ n = length-take-le n w₀ room in
-      all_copied w whole (take n w₀) (n + i) i (omega arith) rest
+-- the words are copied right behind themselves
+pub copied_behind : (n : ℕ) (w : List ℕ) → Room n w → copy_within w 0 n n ≡ sets w n (words_in n w)
+copied_behind n w room =
+    let size : length (take n w) ≡ n = words_count n w room in
+    let stored : sets w n (take n w) ≡ take n w ++ take n w ++ drop (n + length (take n w)) w =
+    sets-eq (take n w) w n (omega (arith, room.enough, size)) in
+    sym (stored ∙ ap (λ (k : ℕ). take n w ++ take n w ++ drop (n + k) w) size
+    ∙ ap (λ (k : ℕ). take n w ++ take k w ++ drop (n + k) w) (sym (sub-zero n)))
 
 -- what the workspace is with it: the words stay, it stands where the flags were, and beyond the 2n words all stays
 module _ (n : ℕ) (w v : List ℕ) (room : Room n w) (e : v ≡ sets w n (words_in n w)) where
@@ -125,16 +98,6 @@ pub snapped_there : (n k j : ℕ) (w : List ℕ) → k < n → n + k ≡ j → g
 snapped_there n k j w h e = flag_there n k w h ∙ ap (λ (p : ℕ). get_or w p 0) e
 
 -- ---- The places that are named
-
-module _ (edge n i : ℕ) where
-  pub outer_left : i < edge → 0 ≡ flag_word (leb edge i && ltb (i + edge) n)
-  outer_left h = rw (lt-leb edge i h) refl
-
-  pub inner_place : edge ≤ i → i + edge < n → 1 ≡ flag_word (leb edge i && ltb (i + edge) n)
-  inner_place h k = rw (le-leb edge i h, lt-ltb (i + edge) n k) refl
-
-  pub outer_right : edge ≤ i → n ≤ i + edge → 0 ≡ flag_word (leb edge i && ltb (i + edge) n)
-  outer_right h k = rw (le-leb edge i h, le-ltb (i + edge) n k) refl
 
 length_inner : (edge n i left : ℕ) → length (inner_from edge n i left) ≡ left
 unfolding inner_from

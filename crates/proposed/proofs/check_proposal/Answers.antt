@@ -1,7 +1,6 @@
 -- `proposed::check_proposal` meets its contract. The loop's invariant: the test of what is left gives the answer of the whole. The measure
 -- is how many samples are left. Assumes nothing.
 use mathlib.Core.Path.{sym, ◌∙◌}
-use native.Mathlib.Omega.{arith}
 use borrow.Author.Tests.{not-true, not-false}
 use Rattle.proposed.proofs.Laws.{taken_short, taken_all, answered_more, answered_out, answered_done}
 use Rattle.std.proofs.Common.{ap, not}
@@ -10,40 +9,21 @@ use Rattle.proposed.proofs.check_proposal.Goals as goal
 pub returns-then-proposal-samples : goal.returns-then-proposal-samples
 returns-then-proposal-samples c = taken_short _ _ _ c.if-proposal-samples.true
 
-pub loop-i-init : goal.loop-i-init
-loop-i-init c = (omega arith, c.if-proposal-samples.false, taken_all _ _ _ c.if-proposal-samples.false)
-
-pub offset_bounds-samples-i : goal.offset_bounds-samples-i
-offset_bounds-samples-i c = omega arith
-
-pub bounds-samples-i : goal.bounds-samples-i
-bounds-samples-i c = omega arith
-
-pub offset_bounds-proposal-i : goal.offset_bounds-proposal-i
-offset_bounds-proposal-i c = omega arith
-
-pub bounds-proposal-i : goal.bounds-proposal-i
-bounds-proposal-i c = omega arith
-
 pub returns-then-not-is_answered : goal.returns-then-not-is_answered
 returns-then-not-is_answered c =
     let inv = c.loop-i.invariant in
     let wrong = sym c.is_answered.ensures ∙ not-true _ (ap not c.if-not-is_answered.true) in
-    sym (answered_out _ _ _ inv.1 _ c.loop-i-test.true wrong) ∙ inv.2
-
-pub overflow_add-i : goal.overflow_add-i
-overflow_add-i c = omega arith
-
-pub loop-i-smaller : goal.loop-i-smaller
-loop-i-smaller c = omega arith
-
-pub loop-i-preserved : goal.loop-i-preserved
-loop-i-preserved c =
-    let inv = c.loop-i.invariant in
-    let right = sym c.is_answered.ensures ∙ not-false _ (ap not c.if-not-is_answered.false) in
-    (omega arith, inv.1, sym (answered_more _ _ _ inv.1 _ c.loop-i-test.true right) ∙ inv.2)
+    sym (answered_out _ _ _ c.if-proposal-samples.false _ c.loop-i-test.true wrong) ∙ inv
 
 pub returns : goal.returns
 returns c =
     let inv = c.loop-i.invariant in
-    sym (answered_done _ _ _ inv.1 _ c.loop-i-test.false) ∙ inv.2
+    sym (answered_done _ _ _ c.if-proposal-samples.false _ c.loop-i-test.false) ∙ inv
+
+pub loop-i-init : goal.loop-i-init
+loop-i-init c = taken_all _ _ _ c.if-proposal-samples.false
+
+pub loop-i-preserved : goal.loop-i-preserved
+loop-i-preserved c =
+    let right = sym c.is_answered.ensures ∙ not-false _ (ap not c.if-not-is_answered.false) in
+    sym (answered_more _ _ _ c.if-proposal-samples.false _ c.loop-i-test.true right) ∙ c.loop-i.invariant

@@ -1,6 +1,5 @@
--- `proposed::count_clipped` meets its contract. The loop's invariant: with m counted, what is left gives the whole number. The measure is
--- how many samples are left. Assumes nothing.
-use Prim.Native.Nat.{ℕ, ◌+◌, ◌-◌, ◌≤◌}
+-- `proposed::count_clipped` meets its contract. The loop's invariant: with m counted, what is left gives the whole number. Assumes nothing.
+use Prim.Native.Nat.{ℕ, ◌+◌, ◌≤◌}
 use mathlib.Core.Path.{◌≡◌}
 use mathlib.Core.List.{List}
 use lib.ListN.{length}
@@ -13,7 +12,4 @@ abbrev pub Counts : ℕ → ℕ → List ℕ → Type 0
 Counts m whole left = m + length left ≡ whole
 
 abbrev pub invariant-loop-i : goal.invariant-loop-i
-invariant-loop-i l = (l.i ≤ length l.samples) × (l.m ≤ l.i) × Counts l.m (length (clipped_places l.threshold 0 l.samples)) (rest_clipped l.threshold l.samples l.i)
-
-abbrev pub decreases-loop-i : goal.decreases-loop-i
-decreases-loop-i l = length l.samples - l.i
+invariant-loop-i l = (l.m ≤ l.i) × Counts l.m (length (clipped_places l.threshold 0 l.fn.recording.samples.now)) (rest_clipped l.threshold l.fn.recording.samples.now l.i)

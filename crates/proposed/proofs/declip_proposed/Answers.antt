@@ -1,15 +1,18 @@
 -- `proposed::declip_proposed` meets its contract: a refusal of the tests ends it, and else the proposal is committed. Assumes nothing.
-use Rattle.recording.specs.Recording.{state}
+use Rattle.std.proofs.lemmas.Result.{err_from_is_err_and}
+use Rattle.recording.specs.Lent.{held}
 use Rattle.proposed.proofs.Laws.{ends_refused, accepted_fit, ends_committed}
 use Rattle.proposed.proofs.declip_proposed.Goals as goal
 
-pub returns-in_default : goal.returns-in_default
-returns-in_default c = ends_refused _ _ (let a = c.args in state a.samples.now a.marks.now a.counts.now a.journal.now a.used.now) _ _ c.check_call-checked.ensures c.in_default.is
+pub returns-in_err-check_call-clause-rule : goal.returns-in_err-check_call-clause-rule
+returns-in_err-check_call-clause-rule c =
+    let p = err_from_is_err_and c.from_residual.result c.from_residual.ensures.1 in
+    rw (p.1, p.2, ← c.in_err-check_call.was)
+    (ends_refused _ _ (held c.args.recording.now) _ _ c.check_call.ensures c.in_err-check_call.was)
 
 pub commit_proposal-requires : goal.commit_proposal-requires
-commit_proposal-requires c =
-    accepted_fit _ _ (let a = c.args in state a.samples.now a.marks.now a.counts.now a.journal.now a.used.now) _ _ c.check_call-checked.ensures c.in-Done.is
+commit_proposal-requires c = accepted_fit _ _ (held c.args.recording.now) _ _ c.check_call.ensures c.in_ok-check_call.was
 
-pub returns : goal.returns
-returns c =
-    ends_committed _ _ (let a = c.args in state a.samples.now a.marks.now a.counts.now a.journal.now a.used.now) _ _ c.check_call-checked.ensures c.in-Done.is _ c.commit_proposal.ensures
+pub returns-clause-rule : goal.returns-clause-rule
+returns-clause-rule c =
+    ends_committed _ _ (held c.args.recording.now) _ _ c.check_call.ensures c.in_ok-check_call.was _ c.commit_proposal.ensures.rule

