@@ -1,6 +1,6 @@
 // A WAV file in memory, repaired: it is read, its samples are scanned, and the file of the result takes its place.
 ghost use Rattle.std.specs.Prelude.{◌≡◌, ◌≤◌, length};
-ghost use Rattle.riff.specs.Wav.{heard};
+ghost use Rattle.riff.specs.Wav.{answer_of, rate_of, heard};
 ghost use Rattle.wavfile.specs.Program.{most_input, taken, rewritten, told, tells_all, tells_first};
 
 use super::Repaired;
@@ -13,7 +13,8 @@ use riff::write::write_wav;
 
 // Reads the file into the two rooms, and turns a rate away that the scan would turn away, by 4 as it does.
 fn take_wav(file: &[u8], samples: &mut [u32], marks: &mut [u8]) -> Result<WavRead, Reason>
-    ensures { heard result samples.new marks.new ≡ taken file.now samples.old marks.old }
+    ensures { heard (answer_of result) (rate_of result) samples.new marks.new
+        ≡ taken file.now samples.old marks.old }
 {
     let read = read_wav(file, samples, marks)?;
     if settings_allowed(read.rate, LIMIT_MS) {

@@ -56,12 +56,14 @@ fn repair_to<R: Files + Print, W: Write>(
         × (length orders.old ≡ length samples.old) }
 {
     match repair_bytes(space, n, samples, marks, orders) {
-        Ok(Repaired {
-            written: Ok(size),
-            samples: count,
-            rate,
-            scanned,
-        }) => {
+        Ok(
+            Repaired {
+                written: Ok(size),
+                samples: count,
+                rate,
+                scanned,
+            },
+        ) => {
             if !save_file(rt, said, to, &space[..size]) {
                 return Ok(());
             }
@@ -73,7 +75,13 @@ fn repair_to<R: Files + Print, W: Write>(
                 &orders[..count],
             )
         }
-        Ok(Repaired { written: Err(why), .. }) | Err(why) => {
+        Ok(
+            Repaired {
+                written: Err(why),
+                ..
+            },
+        )
+        | Err(why) => {
             say_refused(said, why);
             Ok(())
         }

@@ -17,7 +17,8 @@ pub fn say_usage<W: Write>(to: &mut W) {
 
 // The text of an error alone, where the system's number stands behind it.
 fn words_of(text: &str) -> &str {
-    text.split_once(" (os error ").map_or(text, |(words, _)| words)
+    text.split_once(" (os error ")
+        .map_or(text, |(words, _)| words)
 }
 
 // Says the text of an error.
