@@ -7,18 +7,20 @@
 
 ghost use Rattle.std.specs.Prelude.{◌≤◌, length};
 
-use decrackle::Start;
-use inpaint::GapAnswer;
+use decrackle::{Start, decrackle};
+use inpaint::Filled;
 use inpaint::gap::inpaint_gap;
 use leaves::words::word_of_f32;
 use proposed::declip_proposed;
-use recording::Answer;
+use recording::marks::Mark;
 use recording::numbers::{number_of, value_of};
 use recording::open::open;
-use recording::undo::undo;
+use recording::{Answer, Reason, Recording};
 use splice::inpaint_gaps;
+use std::fmt::Display;
 use std::io;
 use std::io::Write;
+use std::num::nearest_u32_to_f32;
 
 // 2^-30, which stands around the gap of *quiet*, and the plain numbers 1, -1, 4096, 1/2, 1 1/2, -2 and 2.
 const SOFT: u32 = 0x3080_0000;
@@ -50,189 +52,158 @@ const LEFT_COUNT: u16 = 0xbeef;
 // Doubles of workspace: enough for a gap of 2048 samples, whatever its window.
 const WORKSPACE: usize = 289_284;
 
-// Writes a name and a number.
-fn print_number<W: Write>(out: &mut W, name: &[u8], n: u64) -> io::Result<()> {
-    out.write_all(name)?;
-    write!(out, "{n}")
+// The words of the journal that suffices for each long gap.
+const LONG_JOURNAL: usize = 12_287;
+
+// The samples of *quiet*.
+const QUIET: [u32; 6] = [SOFT, SOFT, 0, 0, SOFT, SOFT];
+
+// A recording with memory of its own: its samples, which make so many counts, and a journal of so many words.
+#[derive(Drop)]
+struct Memory<const SAMPLES: usize, const COUNTS: usize, const WORDS: usize> {
+    samples: [u32; SAMPLES],
+    marks: [u8; SAMPLES],
+    counts: [u16; COUNTS],
+    journal: [u32; WORDS],
+    used: usize,
+}
+
+impl<const SAMPLES: usize, const COUNTS: usize, const WORDS: usize> Memory<SAMPLES, COUNTS, WORDS> {
+    // These samples; all else is what was left there.
+    fn with(samples: [u32; SAMPLES]) -> Self {
+        Memory {
+            samples,
+            marks: [7; SAMPLES],
+            counts: [LEFT_COUNT; COUNTS],
+            journal: [LEFT; WORDS],
+            used: 99,
+        }
+    }
+
+    // The recording itself, to be repaired.
+    fn recording(&mut self) -> Recording<'_> {
+        Recording {
+            samples: &mut self.samples,
+            marks: &mut self.marks,
+            counts: &mut self.counts,
+            journal: &mut self.journal,
+            used: &mut self.used,
+        }
+    }
+}
+
+// Opens a recording.
+fn open_it(recording: &mut Recording) -> Answer {
+    let samples = &mut *recording.samples;
+    let marks = &mut *recording.marks;
+    let counts = &mut *recording.counts;
+    let journal = &mut *recording.journal;
+    let used = &mut *recording.used;
+    open(samples, marks, counts, journal, used)
 }
 
 // Writes a name and words in hexadecimal digits, each with zeros in front up to `width`, as a line.
-fn print_words<W: Write>(out: &mut W, name: &[u8], words: &[u32], width: usize) -> io::Result<()> {
-    out.write_all(name)?;
+fn print_words<W: Write>(out: &mut W, name: &str, words: &[u32], width: usize) -> io::Result<()> {
+    write!(out, "  {name}")?;
     for word in words {
         write!(out, " {word:0width$x}")?;
     }
     writeln!(out)
 }
 
-// Writes the marks as a line.
-fn print_marks<W: Write>(out: &mut W, marks: &[u8]) -> io::Result<()> {
-    write!(out, "  marks")?;
-    for mark in marks {
-        write!(out, " {mark}")?;
+// Writes a name and numbers as a line.
+fn print_numbers<W: Write, T: Display>(out: &mut W, name: &str, numbers: &[T]) -> io::Result<()> {
+    write!(out, "  {name}")?;
+    for number in numbers {
+        write!(out, " {number}")?;
     }
     writeln!(out)
-}
-
-// Writes the counts of the blocks as a line.
-fn print_counts<W: Write>(out: &mut W, counts: &[u16]) -> io::Result<()> {
-    write!(out, "  counts")?;
-    for count in counts {
-        write!(out, " {count}")?;
-    }
-    writeln!(out)
-}
-
-// Writes the answers of three gaps: their numbers, their values and the orders of their models.
-fn print_answers<W: Write>(
-    out: &mut W,
-    numbers: &[u32],
-    values: [usize; 3],
-    orders: &[u32],
-) -> io::Result<()> {
-    print_words(out, b"  numbers", numbers, 1)?;
-    let [first, second, third] = values;
-    writeln!(out, "  values {first} {second} {third}")?;
-    print_words(out, b"  orders", orders, 1)
 }
 
 // Writes how a call ended.
-fn print_answer<W: Write>(
-    out: &mut W,
-    title: &[u8],
-    answer: Answer,
-    used: usize,
-) -> io::Result<()> {
+fn print_answer<W: Write>(out: &mut W, title: &str, answer: Answer, used: usize) -> io::Result<()> {
     let number = number_of(answer);
     let value = value_of(answer);
-    out.write_all(title)?;
-    writeln!(out, ": answer {number}, value {value}, used {used}")
+    writeln!(out, "{title}: answer {number}, value {value}, used {used}")
 }
 
 // Writes how a call ended, and the recording after it.
 fn show<W: Write>(
     out: &mut W,
-    title: &[u8],
+    title: &str,
     answer: Answer,
-    samples: &[u32],
-    marks: &[u8],
-    counts: &[u16],
-    journal: &[u32],
-    used: usize,
+    recording: &Recording,
 ) -> io::Result<()> {
-    print_answer(out, title, answer, used)?;
-    print_words(out, b"  samples", samples, 8)?;
-    print_marks(out, marks)?;
-    print_counts(out, counts)?;
-    print_words(out, b"  journal", journal, 1)
+    print_answer(out, title, answer, *recording.used)?;
+    print_words(out, "samples", recording.samples, 8)?;
+    print_numbers(out, "marks", recording.marks)?;
+    print_numbers(out, "counts", recording.counts)?;
+    print_words(out, "journal", recording.journal, 1)
 }
 
-// Writes the order of a gap's model as a line.
-fn print_order<W: Write>(out: &mut W, order: u32) -> io::Result<()> {
-    writeln!(out, "  order {order}")
+// How the repair of a gap ended, as an answer, and the order of its model, which is 0 for a refusal.
+fn told_of(filled: Result<Filled, Reason>) -> (Answer, u32) {
+    match filled {
+        Ok(Filled { named, order }) => (Ok(named), order),
+        Err(why) => (Err(why), 0),
+    }
 }
 
 // Writes how the repair of a gap ended, and the order of its model.
 fn print_gap<W: Write>(
     out: &mut W,
-    title: &[u8],
-    filled: GapAnswer,
+    title: &str,
+    filled: Result<Filled, Reason>,
     used: usize,
 ) -> io::Result<()> {
-    let answer = filled.answer;
+    let (answer, order) = told_of(filled);
     print_answer(out, title, answer, used)?;
-    print_order(out, filled.order)
+    writeln!(out, "  order {order}")
 }
 
 // Repairs a gap at 2 by 3 passes and shows the recording.
 fn gap_at_2<W: Write>(
     out: &mut W,
-    title: &[u8],
-    samples: &mut [u32],
-    marks: &mut [u8],
-    counts: &mut [u16],
-    journal: &mut [u32],
-    used: &mut usize,
+    title: &str,
+    recording: &mut Recording,
     len: usize,
 ) -> io::Result<()> {
     let mut work = [1.5f64; 300];
-    let filled = inpaint_gap(samples, marks, counts, journal, used, 2, len, 3, &mut work);
-    let answer = filled.answer;
-    show(out, title, answer, samples, marks, counts, journal, *used)?;
-    print_order(out, filled.order)
+    let (answer, order) = told_of(inpaint_gap(recording, 2, len, 3, &mut work));
+    show(out, title, answer, recording)?;
+    writeln!(out, "  order {order}")
 }
 
 // Takes the last entry back and shows the recording.
-fn take_back<W: Write>(
-    out: &mut W,
-    samples: &mut [u32],
-    marks: &mut [u8],
-    counts: &mut [u16],
-    journal: &mut [u32],
-    used: &mut usize,
-) -> io::Result<()> {
-    let answer = undo(samples, marks, counts, journal, used);
-    show(out, b"undo", answer, samples, marks, counts, journal, *used)
+fn take_back<W: Write>(out: &mut W, recording: &mut Recording) -> io::Result<()> {
+    let answer = recording.undo();
+    show(out, "undo", answer, recording)
 }
 
-// Repairs a gap of no sample and one of two, and takes back twice.
-fn fill_and_take_back<W: Write>(
-    out: &mut W,
-    samples: &mut [u32],
-    marks: &mut [u8],
-    counts: &mut [u16],
-    journal: &mut [u32],
-    used: &mut usize,
-) -> io::Result<()> {
-    let none = b"gap of length 0";
-    gap_at_2(out, none, samples, marks, counts, journal, used, 0)?;
-    let two = b"gap of length 2";
-    gap_at_2(out, two, samples, marks, counts, journal, used, 2)?;
-    take_back(out, samples, marks, counts, journal, used)?;
-    take_back(out, samples, marks, counts, journal, used)
-}
-
-// *Quiet*, opened over what was left in the lent memory, repaired and taken back twice.
-fn quiet<W: Write>(out: &mut W, journal: &mut [u32]) -> io::Result<()> {
-    let mut samples = [SOFT, SOFT, 0, 0, SOFT, SOFT];
-    let mut marks = [7u8; 6];
-    let mut counts = [LEFT_COUNT; 1];
-    let mut used: usize = 99;
-    let opened = open(&samples, &mut marks, &mut counts, journal, &mut used);
-    show(
-        out, b"open", opened, &samples, &marks, &counts, journal, used,
-    )?;
-    fill_and_take_back(
-        out,
-        &mut samples,
-        &mut marks,
-        &mut counts,
-        journal,
-        &mut used,
-    )
+// *Quiet*, opened over what was left in the lent memory: a gap of no sample is repaired and one of two, and taken back
+// twice.
+fn quiet<W: Write>(out: &mut W, recording: &mut Recording) -> io::Result<()> {
+    let opened = open_it(recording);
+    show(out, "open", opened, recording)?;
+    gap_at_2(out, "gap of length 0", recording, 0)?;
+    gap_at_2(out, "gap of length 2", recording, 2)?;
+    take_back(out, recording)?;
+    take_back(out, recording)
 }
 
 // Repairs three gaps in one call and shows the recording: that of *quiet*, one that passes the end, and the
 // first again.
 fn three_gaps<W: Write>(
     out: &mut W,
-    title: &[u8],
-    samples: &mut [u32],
-    marks: &mut [u8],
-    counts: &mut [u16],
-    journal: &mut [u32],
-    used: &mut usize,
+    title: &str,
+    recording: &mut Recording,
     orders: &mut [u32],
 ) -> io::Result<()> {
     let mut work = [1.5f64; 300];
     let mut numbers = [LEFT; 3];
     let mut values = [99usize; 3];
     let answer = inpaint_gaps(
-        samples,
-        marks,
-        counts,
-        journal,
-        used,
+        recording,
         &[2, 5, 2],
         &[2, 2, 2],
         3,
@@ -241,140 +212,71 @@ fn three_gaps<W: Write>(
         &mut values,
         orders,
     );
-    show(out, title, answer, samples, marks, counts, journal, *used)?;
-    print_answers(out, &numbers, values, orders)
+    show(out, title, answer, recording)?;
+    print_words(out, "numbers", &numbers, 1)?;
+    print_numbers(out, "values", &values)?;
+    print_words(out, "orders", orders, 1)
 }
 
 // *Quiet* by a list of three gaps: first with too short a list for the orders; and at last an undo, which
 // takes back the third gap.
 fn quiet_in_turn<W: Write>(out: &mut W) -> io::Result<()> {
-    let mut samples = [SOFT, SOFT, 0, 0, SOFT, SOFT];
-    let mut marks = [7u8; 6];
-    let mut counts = [LEFT_COUNT; 1];
-    let mut journal = [LEFT; 16];
-    let mut used: usize = 99;
-    let mut few = [LEFT; 2];
-    let mut orders = [LEFT; 3];
-    open(&samples, &mut marks, &mut counts, &mut journal, &mut used);
-    three_gaps(
-        out,
-        b"two orders for three gaps",
-        &mut samples,
-        &mut marks,
-        &mut counts,
-        &mut journal,
-        &mut used,
-        &mut few,
-    )?;
-    three_gaps(
-        out,
-        b"three gaps",
-        &mut samples,
-        &mut marks,
-        &mut counts,
-        &mut journal,
-        &mut used,
-        &mut orders,
-    )?;
-    take_back(
-        out,
-        &mut samples,
-        &mut marks,
-        &mut counts,
-        &mut journal,
-        &mut used,
-    )
+    let mut memory = Memory::<6, 1, 16>::with(QUIET);
+    let mut recording = memory.recording();
+    let _ = open_it(&mut recording);
+    let few = "two orders for three gaps";
+    three_gaps(out, few, &mut recording, &mut [LEFT; 2])?;
+    three_gaps(out, "three gaps", &mut recording, &mut [LEFT; 3])?;
+    take_back(out, &mut recording)
 }
 
 // Opens a recording of at most 10 samples, decrackles it, and shows what is left and the workspace.
 fn decrackle_and_show<W: Write>(
     out: &mut W,
-    title: &[u8],
-    samples: &mut [u32],
-    marks: &mut [u8],
+    title: &str,
+    recording: &mut Recording,
     sensitivity: f32,
     start: Start,
 ) -> io::Result<()> {
-    let mut counts = [LEFT_COUNT; 1];
-    let mut journal = [LEFT; 12];
-    let mut used: usize = 99;
     let mut work = [LEFT; 20];
-    open(samples, marks, &mut counts, &mut journal, &mut used);
-    let answer = decrackle::decrackle(
-        samples,
-        marks,
-        &mut counts,
-        &mut journal,
-        &mut used,
-        sensitivity,
-        start,
-        &mut work,
-    );
-    show(out, title, answer, samples, marks, &counts, &journal, used)?;
-    print_words(out, b"  workspace", &work, 1)
+    let _ = open_it(recording);
+    let answer = decrackle(recording, sensitivity, start, &mut work);
+    show(out, title, answer, recording)?;
+    print_words(out, "workspace", &work, 1)
 }
 
 // 9 samples of which only place 4 is 1, decrackled at sensitivity 10 from the old start.
 fn crackle<W: Write>(out: &mut W) -> io::Result<()> {
-    let mut samples = [0u32, 0, 0, 0, ONE, 0, 0, 0, 0];
-    let mut marks = [7u8; 9];
-    decrackle_and_show(
-        out,
-        b"decrackle at 10",
-        &mut samples,
-        &mut marks,
-        10.0,
-        Start::Old,
-    )
+    let mut memory = Memory::<9, 1, 12>::with([0, 0, 0, 0, ONE, 0, 0, 0, 0]);
+    let mut recording = memory.recording();
+    decrackle_and_show(out, "decrackle at 10", &mut recording, 10.0, Start::Old)
 }
 
 // 8 samples of a steady tone, decrackled at sensitivity 5. No shorter one can be redrawn, since under 8 samples
 // nothing is named.
-fn tone<W: Write>(out: &mut W, title: &[u8], start: Start) -> io::Result<()> {
-    let mut samples = [0u32, ONE, 0, MINUS_ONE, 0, ONE, 0, MINUS_ONE];
-    let mut marks = [7u8; 8];
-    decrackle_and_show(out, title, &mut samples, &mut marks, 5.0, start)
+fn tone<W: Write>(out: &mut W, title: &str, start: Start) -> io::Result<()> {
+    let samples = [0, ONE, 0, MINUS_ONE, 0, ONE, 0, MINUS_ONE];
+    let mut memory = Memory::<8, 1, 12>::with(samples);
+    decrackle_and_show(out, title, &mut memory.recording(), 5.0, start)
 }
 
 // 1/2, 1 and -2, freshly opened, and this proposal for them at the threshold 1; then what an undo leaves.
-fn propose<W: Write>(out: &mut W, title: &[u8], proposal: &[u32]) -> io::Result<()> {
-    let mut samples = [HALF, ONE, MINUS_TWO];
-    let mut marks = [7u8; 3];
-    let mut counts = [LEFT_COUNT; 1];
-    let mut journal = [LEFT; 8];
-    let mut used: usize = 99;
-    open(&samples, &mut marks, &mut counts, &mut journal, &mut used);
-    let answer = declip_proposed(
-        &mut samples,
-        &mut marks,
-        &mut counts,
-        &mut journal,
-        &mut used,
-        1.0,
-        proposal,
-    );
-    show(
-        out, title, answer, &samples, &marks, &counts, &journal, used,
-    )?;
-    take_back(
-        out,
-        &mut samples,
-        &mut marks,
-        &mut counts,
-        &mut journal,
-        &mut used,
-    )
+fn propose<W: Write>(out: &mut W, title: &str, proposal: &[u32]) -> io::Result<()> {
+    let mut memory = Memory::<3, 1, 8>::with([HALF, ONE, MINUS_TWO]);
+    let mut recording = memory.recording();
+    let _ = open_it(&mut recording);
+    let answer = declip_proposed(&mut recording, 1.0, proposal);
+    show(out, title, answer, &recording)?;
+    take_back(out, &mut recording)
 }
 
 // One that is taken, and two that are not: the sample under the threshold has its sign changed; 1 is answered by
 // the float below it, and -2 by 2.
 fn proposals<W: Write>(out: &mut W) -> io::Result<()> {
-    let kept = [HALF, MORE, MINUS_TWO];
-    propose(out, b"1/2, 1 1/2 and -2", &kept)?;
-    let turned = [MINUS_HALF, MORE, MINUS_TWO];
-    propose(out, b"-1/2, 1 1/2 and -2", &turned)?;
+    propose(out, "1/2, 1 1/2 and -2", &[HALF, MORE, MINUS_TWO])?;
+    propose(out, "-1/2, 1 1/2 and -2", &[MINUS_HALF, MORE, MINUS_TWO])?;
     let beside = [HALF, BELOW_ONE, TWO];
-    propose(out, b"1/2, the float below 1, and 2", &beside)
+    propose(out, "1/2, the float below 1, and 2", &beside)
 }
 
 // How many samples are the number of their place.
@@ -382,11 +284,8 @@ fn own_numbers(samples: &[u32]) -> usize
     requires { length samples.now ≤ 4097 }
 {
     let mut count: usize = 0;
-    let mut i: usize = 0;
-    while i < samples.len() {
-        let place = i;
-        i += 1;
-        if samples[place] == word_of_f32(std::num::nearest_u32_to_f32(place as u32)) {
+    for (place, word) in samples.iter().enumerate() {
+        if *word == word_of_f32(nearest_u32_to_f32(place as u32)) {
             count += 1;
         }
     }
@@ -394,112 +293,71 @@ fn own_numbers(samples: &[u32]) -> usize
 }
 
 // How many samples have this mark.
-fn marked(marks: &[u8], mark: u8) -> usize {
-    let mut count: usize = 0;
-    let mut i: usize = 0;
-    while i < marks.len() {
-        let place = i;
-        i += 1;
-        if marks[place] == mark {
-            count += 1;
-        }
-    }
-    count
+fn marked(marks: &[u8], mark: Mark) -> usize {
+    marks.iter().filter(|m| **m == mark as u8).count()
 }
 
 // Opens a recording and repairs the gap of `len` samples from its second place on.
 fn open_and_fill(
-    samples: &mut [u32],
-    marks: &mut [u8],
-    counts: &mut [u16],
-    journal: &mut [u32],
-    used: &mut usize,
+    recording: &mut Recording,
     len: usize,
     passes: u32,
     work: &mut [f64],
-) -> GapAnswer {
-    open(samples, marks, counts, journal, used);
-    inpaint_gap(samples, marks, counts, journal, used, 1, len, passes, work)
+) -> Result<Filled, Reason> {
+    let _ = open_it(recording);
+    inpaint_gap(recording, 1, len, passes, work)
 }
 
 // 4097 samples whose ends are 0 and 4096, with a gap between them.
-fn line<W: Write>(out: &mut W, journal: &mut [u32], work: &mut [f64]) -> io::Result<()> {
+fn line<W: Write>(out: &mut W, work: &mut [f64]) -> io::Result<()> {
     let mut samples = [ONE; 4097];
-    let mut marks = [0u8; 4097];
-    let mut counts = [LEFT_COUNT; 17];
-    let mut used: usize = 0;
     samples[0] = 0;
     samples[4096] = LAST;
-    let filled = open_and_fill(
-        &mut samples,
-        &mut marks,
-        &mut counts,
-        journal,
-        &mut used,
-        4095,
-        3,
-        work,
-    );
-    print_gap(out, b"gap at 1 of 4095", filled, used)?;
-    let own = own_numbers(&samples);
-    let by_line = marked(&marks, 2);
+    let mut memory = Memory::<4097, 17, LONG_JOURNAL>::with(samples);
+    let filled = open_and_fill(&mut memory.recording(), 4095, 3, work);
+    print_gap(out, "gap at 1 of 4095", filled, memory.used)?;
+    let own = own_numbers(&memory.samples);
+    let by_line = marked(&memory.marks, Mark::GapByLine);
     writeln!(out, "  samples that are their place: {own}")?;
     writeln!(out, "  samples marked 2: {by_line}")?;
-    print_counts(out, &counts)
+    print_numbers(out, "counts", &memory.counts)
 }
 
 // A gap of `len` samples among ones: by which way it was filled.
-fn boundary<W: Write>(
-    out: &mut W,
-    title: &[u8],
-    journal: &mut [u32],
-    work: &mut [f64],
-    len: usize,
-) -> io::Result<()> {
-    let mut samples = [ONE; 2052];
-    let mut marks = [0u8; 2052];
-    let mut counts = [LEFT_COUNT; 9];
-    let mut used: usize = 0;
-    let filled = open_and_fill(
-        &mut samples,
-        &mut marks,
-        &mut counts,
-        journal,
-        &mut used,
-        len,
-        1,
-        work,
-    );
-    print_gap(out, title, filled, used)?;
-    let by_model = marked(&marks, 1);
-    let by_line = marked(&marks, 2);
+fn boundary<W: Write>(out: &mut W, title: &str, work: &mut [f64], len: usize) -> io::Result<()> {
+    let mut memory = Memory::<2052, 9, LONG_JOURNAL>::with([ONE; 2052]);
+    let filled = open_and_fill(&mut memory.recording(), len, 1, work);
+    print_gap(out, title, filled, memory.used)?;
+    let by_model = marked(&memory.marks, Mark::GapByModel);
+    let by_line = marked(&memory.marks, Mark::GapByLine);
     writeln!(out, "  samples marked 1: {by_model}")?;
     writeln!(out, "  samples marked 2: {by_line}")?;
-    print_counts(out, &counts)
+    print_numbers(out, "counts", &memory.counts)
 }
 
-// The long gaps, in a journal and a workspace that suffice for each.
+// The long gaps, in a workspace that suffices for each.
 fn long_gaps<W: Write>(out: &mut W) -> io::Result<()> {
-    let mut journal = [LEFT; 12_287];
     let mut work = [1.5f64; WORKSPACE];
-    line(out, &mut journal, &mut work)?;
-    boundary(out, b"gap at 1 of 2048", &mut journal, &mut work, 2048)?;
-    boundary(out, b"gap at 1 of 2049", &mut journal, &mut work, 2049)
+    line(out, &mut work)?;
+    boundary(out, "gap at 1 of 2048", &mut work, 2048)?;
+    boundary(out, "gap at 1 of 2049", &mut work, 2049)
 }
 
 // The rows, one after the other.
 fn show_all<W: Write>(out: &mut W) -> io::Result<()> {
     writeln!(out, "Quiet, with a journal of 8 words")?;
-    quiet(out, &mut [LEFT; 8])?;
+    let mut memory = Memory::<6, 1, 8>::with(QUIET);
+    quiet(out, &mut memory.recording())?;
     writeln!(out, "Quiet, with a journal of 7 words")?;
-    quiet(out, &mut [LEFT; 7])?;
+    let mut memory = Memory::<6, 1, 7>::with(QUIET);
+    quiet(out, &mut memory.recording())?;
     writeln!(out, "Quiet, by a list of three gaps")?;
     quiet_in_turn(out)?;
     writeln!(out, "Nine samples, one of them 1")?;
     crackle(out)?;
     writeln!(out, "A steady tone of eight samples")?;
-    tone(out, b"decrackle at 5 from the old start", Start::Old)?;
-    tone(out, b"decrackle at 5 from the mean", Start::Mean)?;
+    tone(out, "decrackle at 5 from the old start", Start::Old)?;
+    tone(out, "decrackle at 5 from the mean", Start::Mean)?;
     writeln!(out, "1/2, 1 and -2, with proposals at the threshold 1")?;
     proposals(out)?;
     writeln!(out, "Long gaps")?;

@@ -1,5 +1,3 @@
--- Laws of what the programs share: input that was read whole, the scan that the code makes, and that the journal and the workspace
--- suffice.
-pub mod Reading
+-- Laws of what the programs share: the scan that the code makes, and that the journal and the workspace suffice.
 pub mod Scanning
 pub mod Suffices

@@ -13,7 +13,7 @@ use Rattle.recording.specs.Counts.{blocks}
 use Rattle.recording.specs.Answer.{Answer}
 use Rattle.inpaint.specs.Auto.{Scan, automatic}
 use Rattle.inpaint.specs.Order.{scan_orders}
-use Rattle.monitor.specs.Scanning.{most_input, rate, held_words, journal_words, most_blocks, unopened, workspace, scanning, scanning_orders}
+use Rattle.monitor.specs.Scanning.{most_input, rate, held_words, journal_words, most_blocks, unopened, workspace, scanning, scanning_orders, Report, report}
 
 -- a scan with the code's limit, and its list of orders
 pub scanned_so : (s : State) (work : List Float) (orders left : List ℕ) (scanned : Scan)
@@ -54,3 +54,8 @@ pub lends : (words marks : List ℕ) (k : ℕ) → k ≡ blocks (length words) �
 lends words marks k e few =
     ap (λ (counts : List ℕ). state words marks counts (replicate journal_words 0) 0)
     (zeros_of most_blocks k (few_blocks (length words) k e few) ∙ ap (λ (n : ℕ). replicate n 0) e)
+
+-- a report of what the scan left in a recording's memory is one of what the caller finds where it lent that
+pub told_of_lent : (q r k : ℕ) (samples samples' marks marks' orders : List ℕ) (told : Report) → samples' ≡ samples → marks' ≡ marks
+    → report q r k samples marks orders ≡ told → report q r k samples' marks' orders ≡ told
+told_of_lent q r k samples samples' marks marks' orders told e e' h = rw (e, e') h

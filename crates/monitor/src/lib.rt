@@ -3,15 +3,16 @@
 #![tactic(auto)]
 
 ghost use Rattle.std.specs.Prelude.{◌≡◌, length};
-ghost use Rattle.inpaint.specs.Auto.{scan};
+ghost use Rattle.inpaint.specs.Auto.{scan, refused_number};
 ghost use Rattle.monitor.specs.Reading.{HasAll, Within};
 ghost use Rattle.monitor.specs.Scanning.{scanning, scanning_orders};
-ghost use Rattle.recording.specs.Lent.{left, lent};
+ghost use Rattle.recording.specs.Lent.{held, SameMemory};
 
 use inpaint::Scanned;
 use inpaint::auto::{HELD_RUN, inpaint_auto};
 use intake::read_full;
-use recording::marks::{GAP_BY_MODEL, MEASURED};
+use recording::Recording;
+use recording::marks::Mark;
 use std::io;
 use std::io::{Read, Write};
 
@@ -31,25 +32,16 @@ const RATE: u32 = 48_000;
 
 const LIMIT_MS: f32 = 1.0;
 
-// Standard input: how many bytes it has, all of which were read, or that it is turned away.
-#[derive(Clone, Copy)]
-pub enum Input {
-    Whole(usize),
-    Bad,
-}
-
-// Reads standard input to its end, to the start of the space. Where a further byte comes once the space is
-// full, or the reading fails, the input is turned away.
-pub fn read_input<R: Read>(reader: &mut R, space: &mut [u8]) -> Input
+// Reads standard input to its end, to the start of the space, and says how many bytes it has. Where a further byte
+// comes once the space is full, or the reading fails, the input is turned away, by None.
+pub fn read_input<R: Read>(reader: &mut R, space: &mut [u8]) -> Option<usize>
     ensures within { Within result space.new }
     ensures whole { HasAll (R.remaining reader.old) result space.new }
 {
-    let Ok(n) = read_full(reader, space) else {
-        return Input::Bad;
-    };
+    let n = read_full(reader, space).ok()?;
     match read_full(reader, &mut [0u8; 1]) {
-        Ok(0) => Input::Whole(n),
-        _ => Input::Bad,
+        Ok(0) => Some(n),
+        _ => None,
     }
 }
 
@@ -60,28 +52,13 @@ pub fn print_bad_input<W: Write>(out: &mut W) -> io::Result<()> {
 
 // Repairs the dropouts within the limit of a recording that was opened, where 16 equal words are one, and notes
 // the orders of the models.
-pub fn scan_recording(
-    samples: &mut [u32],
-    marks: &mut [u8],
-    counts: &mut [u16],
-    journal: &mut [u32],
-    used: &mut usize,
-    work: &mut [f64],
-    orders: &mut [u32],
-) -> Scanned
-    ensures { (scan result.qualified result.repaired result.refused (left samples marks counts journal used) work.new
-        ≡ scanning work.old (lent samples marks counts journal used))
-        × (orders.new ≡ scanning_orders work.old (lent samples marks counts journal used) orders.old) }
+pub fn scan_recording(recording: &mut Recording, work: &mut [f64], orders: &mut [u32]) -> Scanned
+    ensures memory { SameMemory recording.old recording.new }
+    ensures rule { (scan result.qualified result.repaired (refused_number result.refused) (held recording.new) work.new
+        ≡ scanning work.old (held recording.old))
+        × (orders.new ≡ scanning_orders work.old (held recording.old) orders.old) }
 {
-    inpaint_auto(
-        samples, marks, counts, journal, used, RATE, LIMIT_MS, HELD_RUN, work, orders,
-    )
-}
-
-// Writes a name and a number.
-pub fn print_number<W: Write>(out: &mut W, name: &[u8], n: u64) -> io::Result<()> {
-    out.write_all(name)?;
-    write!(out, "{n}")
+    inpaint_auto(recording, RATE, LIMIT_MS, HELD_RUN, work, orders)
 }
 
 // Writes the line of a sample: its place, its mark and its word, and the model's order where a model made it.
@@ -93,7 +70,7 @@ fn print_sample<W: Write>(
     order: u32,
 ) -> io::Result<()> {
     write!(out, "{place} {mark} {word:08x}")?;
-    if mark == GAP_BY_MODEL {
+    if mark == Mark::GapByModel as u8 {
         write!(out, " {order}")?;
     }
     writeln!(out)
@@ -109,7 +86,7 @@ fn print_made<W: Write>(
     requires { (length marks.now ≡ length samples.now) × (length orders.now ≡ length samples.now) }
 {
     for place in 0..samples.len() {
-        if marks[place] != MEASURED {
+        if marks[place] != Mark::Measured as u8 {
             print_sample(out, place, marks[place], samples[place], orders[place])?;
         }
     }
@@ -126,9 +103,12 @@ pub fn print_scan<W: Write>(
 ) -> io::Result<()>
     requires { (length marks.now ≡ length samples.now) × (length orders.now ≡ length samples.now) }
 {
-    let qualified = scanned.qualified;
-    let repaired = scanned.repaired;
-    let refused = scanned.refused;
+    let Scanned {
+        qualified,
+        repaired,
+        refused,
+    } = scanned;
+    let refused = refused.map_or(0, |why| why.number());
     writeln!(
         out,
         "qualified {qualified} repaired {repaired} refused {refused}"

@@ -18,17 +18,18 @@
 ghost use Rattle.std.specs.Prelude.{◌+◌, ◌*◌, ◌^◌, ◌≤◌, ◌<◌, ◌≡◌, length};
 ghost use Rattle.repairlist.specs.Layout.{word_bytes, head_bytes, row_bytes};
 
-use decrackle::Start;
+use declip::declip;
+use decrackle::{Start, decrackle};
 use dequant::cosparse::dequantize_cosparse;
 use dequant::passes::dequantize;
 use inpaint::auto::{HELD_RUN, inpaint_auto};
 use inpaint::gap::inpaint_gap;
-use inpaint::{GapAnswer, Scanned};
+use inpaint::{Filled, Scanned};
 use intake::read_full;
 use leaves::words::f32_of_word;
-use recording::Answer;
-use recording::marks::MEASURED;
+use recording::marks::Mark;
 use recording::numbers::{number_of, value_of};
+use recording::{Answer, Reason, Recording};
 use std::io;
 use std::io::Write;
 
@@ -55,23 +56,121 @@ const LETTER: usize = 2;
 // The letter and eight words, which each case begins with.
 const HEAD: usize = LETTER + 8 * WORD;
 
-// Which of the eight words is which; before these stand the settings.
-const NUMBER: usize = 3;
-
-const VALUE: usize = 4;
-
-const BESIDE: usize = 5;
-
-const SAMPLES: usize = 6;
-
-const RENEWED: usize = 7;
+// Which repair a case is of.
+#[derive(Clone, Copy)]
+enum Kind {
+    Gap,
+    Scan,
+    Declip,
+    Decrackle,
+    Dequantize,
+    Cosparse,
+}
 
 // What a call answers, as the list has it.
-#[derive(Clone, Copy)]
+#[derive(Clone, Copy, PartialEq, Eq)]
 struct Answered {
     number: u32,
     value: usize,
     beside: usize,
+}
+
+// What a case begins with, behind its letter.
+#[derive(Clone, Copy)]
+struct Head {
+    settings: [u32; 3],
+    answered: Answered,
+    samples: usize,
+    renewed: usize,
+}
+
+// The answer of a repair: nothing stands beside it.
+impl From<Answer> for Answered {
+    fn from(answer: Answer) -> Answered {
+        Answered {
+            number: number_of(answer),
+            value: value_of(answer),
+            beside: 0,
+        }
+    }
+}
+
+// The answer of a gap: beside it stands the order of its model, and 0 where it is refused.
+impl From<Result<Filled, Reason>> for Answered {
+    fn from(filled: Result<Filled, Reason>) -> Answered {
+        match filled {
+            Ok(Filled { named, order }) => Answered {
+                number: 0,
+                value: named,
+                beside: order as usize,
+            },
+            Err(why) => Answered {
+                number: why.number(),
+                value: why.place(),
+                beside: 0,
+            },
+        }
+    }
+}
+
+// The answer of a scan: beside the runs repaired stand those that qualified.
+impl From<Scanned> for Answered {
+    fn from(scanned: Scanned) -> Answered {
+        Answered {
+            number: scanned.refused.map_or(0, |why| why.number()),
+            value: scanned.repaired,
+            beside: scanned.qualified,
+        }
+    }
+}
+
+impl Kind {
+    // The letter of its cases.
+    fn letter(self) -> u8 {
+        match self {
+            Kind::Gap => b'g',
+            Kind::Scan => b's',
+            Kind::Declip => b'd',
+            Kind::Decrackle => b'c',
+            Kind::Dequantize => b'q',
+            Kind::Cosparse => b'p',
+        }
+    }
+
+    // What the report calls them.
+    fn name(self) -> &'static str {
+        match self {
+            Kind::Gap => "gaps",
+            Kind::Scan => "scans",
+            Kind::Declip => "declips",
+            Kind::Decrackle => "decrackles",
+            Kind::Dequantize => "dequantizes",
+            Kind::Cosparse => "dequantizes by cosparse",
+        }
+    }
+
+    // Repairs a recording with a case's three settings.
+    fn repair(self, recording: &mut Recording, settings: [u32; 3]) -> Answered {
+        let [first, second, third] = settings;
+        let mut doubles = [1.5f64; WORKSPACE];
+        let mut words = [7u32; WORKSPACE_WORDS];
+        let mut orders = [0u32; MOST];
+        let a = f32_of_word(first);
+        let b = f32_of_word(second);
+        match self {
+            Kind::Gap => {
+                let (start, len) = (first as usize, second as usize);
+                inpaint_gap(recording, start, len, third, &mut doubles).into()
+            }
+            Kind::Scan => {
+                inpaint_auto(recording, first, b, HELD_RUN, &mut doubles, &mut orders).into()
+            }
+            Kind::Declip => declip(recording, a, &mut words).into(),
+            Kind::Decrackle => decrackle(recording, a, Start::Old, &mut words).into(),
+            Kind::Dequantize => dequantize(recording, first, b, &mut words).into(),
+            Kind::Cosparse => dequantize_cosparse(recording, first, b, third, &mut words).into(),
+        }
+    }
 }
 
 // The number that an ASCII digit stands for; any other byte counts as 0.
@@ -85,33 +184,48 @@ fn digit(c: u8) -> u8
     }
 }
 
-// The word that the eight digits from `at` on spell. Of what stands before a digit the lowest 28 bits
-// stay, which are all there are.
-fn word(list: &[u8], at: usize) -> u32
-    requires { at + word_bytes ≤ length list.now }
+// The word that the first eight digits spell. Of what stands before a digit the lowest 28 bits stay, which are all
+// there are.
+fn word(digits: &[u8]) -> u32
+    requires { word_bytes ≤ length digits.now }
 {
     let mut n: u32 = 0;
-    let mut i: usize = 0;
-    while i < 8 {
-        n = n % 0x1000_0000 * 16 + digit(list[at + i]) as u32;
-        i += 1;
+    for c in &digits[..8] {
+        n = n % 0x1000_0000 * 16 + digit(*c) as u32;
     }
     n
 }
 
-// One of the eight words that the case at `at` begins with: which of them, from 0 on.
-fn told_word(list: &[u8], at: usize, which: usize) -> u32
-    requires { (at + head_bytes ≤ length list.now) × (which < 8) }
+// One of the eight words that a case begins with: which of them, from 0 on.
+fn told_word(case: &[u8], which: usize) -> u32
+    requires { (head_bytes ≤ length case.now) × (which < 8) }
 {
-    word(list, at + LETTER + WORD * which)
+    word(&case[LETTER + WORD * which..])
 }
 
 // The same as a count.
-fn told_count(list: &[u8], at: usize, which: usize) -> usize
-    requires { (at + head_bytes ≤ length list.now) × (which < 8) }
+fn told_count(case: &[u8], which: usize) -> usize
+    requires { (head_bytes ≤ length case.now) × (which < 8) }
     ensures { result < 2 ^ 32 }
 {
-    told_word(list, at, which) as usize
+    told_word(case, which) as usize
+}
+
+// What a case begins with.
+fn read_head(case: &[u8]) -> Head
+    requires { head_bytes ≤ length case.now }
+    ensures { (result.samples < 2 ^ 32) × (result.renewed < 2 ^ 32) }
+{
+    Head {
+        settings: [told_word(case, 0), told_word(case, 1), told_word(case, 2)],
+        answered: Answered {
+            number: told_word(case, 3),
+            value: told_count(case, 4),
+            beside: told_count(case, 5),
+        },
+        samples: told_count(case, 6),
+        renewed: told_count(case, 7),
+    }
 }
 
 // How many bytes a case takes that has so many samples, and so many of them renewed. Each is a count of the list.
@@ -122,335 +236,146 @@ fn case_length(samples: usize, renewed: usize) -> usize
     HEAD + WORD * samples + (samples + 1) + WORD * renewed
 }
 
-// Fills the samples with the words of the list from `at` on.
-fn load(list: &[u8], at: usize, samples: &mut [u32])
-    requires { at + word_bytes * length samples.old ≤ length list.now }
+// Fills the samples with the words of a row.
+fn load(row: &[u8], samples: &mut [u32])
+    requires { word_bytes * length samples.old ≤ length row.now }
 {
-    let mut i: usize = 0;
-    while i < samples.len() {
-        samples[i] = word(list, at + WORD * i);
-        i += 1;
+    for (i, sample) in samples.iter_mut().enumerate() {
+        *sample = word(&row[WORD * i..]);
     }
 }
 
-// Whether the marks are the digits of the list from `at` on.
-fn same_marks(list: &[u8], at: usize, marks: &[u8]) -> bool
-    requires { at + length marks.now ≤ length list.now }
+// Whether the marks are these digits.
+fn same_marks(digits: &[u8], marks: &[u8]) -> bool
+    requires { length marks.now ≤ length digits.now }
 {
-    let mut i: usize = 0;
-    while i < marks.len() {
-        if marks[i] != digit(list[at + i]) {
-            return false;
-        }
-        i += 1;
-    }
-    true
+    let digits = &digits[..marks.len()];
+    marks.iter().zip(digits).all(|(mark, c)| *mark == digit(*c))
 }
 
-// Whether the samples are what the list says of them from `at` on, where their words before the repair stand,
-// their marks and the words of those renewed. A sample with a mark is the next of these, and any other is
-// what it was.
-fn same_samples(list: &[u8], at: usize, renewed: usize, samples: &[u32]) -> bool
-    requires { at + row_bytes (length samples.now) renewed ≤ length list.now }
+// Whether the samples are what a row says of them, where their words before the repair stand, their marks and the
+// words of those renewed. A sample with a mark is the next of these, and any other is what it was.
+fn same_samples(row: &[u8], renewed: usize, samples: &[u32]) -> bool
+    requires { row_bytes (length samples.now) renewed ≤ length row.now }
 {
     let n = samples.len();
-    let marks = at + WORD * n;
+    let marks = WORD * n;
     let mut passed: usize = 0;
-    let mut i: usize = 0;
-    while i < n {
-        let mut from = at + WORD * i;
-        if digit(list[marks + i]) != MEASURED {
+    for (i, sample) in samples.iter().enumerate() {
+        let mut from = WORD * i;
+        if digit(row[marks + i]) != Mark::Measured as u8 {
             if passed == renewed {
                 return false;
             }
             from = marks + n + 1 + WORD * passed;
             passed += 1;
         }
-        if samples[i] != word(list, from) {
+        if *sample != word(&row[from..]) {
             return false;
         }
-        i += 1;
     }
     passed == renewed
 }
 
-// Whether a call answered what the case that begins at `at` says.
-fn same_answer(list: &[u8], at: usize, answered: Answered) -> bool
-    requires { at + head_bytes ≤ length list.now }
-{
-    if answered.number != told_word(list, at, NUMBER) {
-        return false;
-    }
-    if answered.value != told_count(list, at, VALUE) {
-        return false;
-    }
-    answered.beside == told_count(list, at, BESIDE)
-}
-
-// The answer of a repair, as the list has it: nothing stands beside it.
-fn of_repair(answer: Answer) -> Answered {
-    Answered {
-        number: number_of(answer),
-        value: value_of(answer),
-        beside: 0,
-    }
-}
-
-// The answer of a gap: beside it stands the order of its model.
-fn of_gap(filled: GapAnswer) -> Answered {
-    let answer = filled.answer;
-    Answered {
-        number: number_of(answer),
-        value: value_of(answer),
-        beside: filled.order as usize,
-    }
-}
-
-// The answer of a scan: beside the runs repaired stand those that qualified.
-fn of_scan(scanned: Scanned) -> Answered {
-    Answered {
-        number: scanned.refused,
-        value: scanned.repaired,
-        beside: scanned.qualified,
-    }
-}
-
-// Repairs one gap.
-fn repair_gap(
-    start: u32,
-    len: u32,
-    passes: u32,
-    samples: &mut [u32],
-    marks: &mut [u8],
-    counts: &mut [u16],
-    journal: &mut [u32],
-) -> Answered {
-    let mut work = [1.5f64; WORKSPACE];
-    let mut used: usize = 0;
-    of_gap(inpaint_gap(
-        samples,
-        marks,
-        counts,
-        journal,
-        &mut used,
-        start as usize,
-        len as usize,
-        passes,
-        &mut work,
-    ))
-}
-
-// Scans for dropouts up to a limit in milliseconds, which is given by its word.
-fn scan(
-    rate: u32,
-    limit: u32,
-    samples: &mut [u32],
-    marks: &mut [u8],
-    counts: &mut [u16],
-    journal: &mut [u32],
-) -> Answered {
-    let mut work = [1.5f64; WORKSPACE];
-    let mut orders = [0u32; MOST];
-    let mut used: usize = 0;
-    let millis = f32_of_word(limit);
-    of_scan(inpaint_auto(
-        samples,
-        marks,
-        counts,
-        journal,
-        &mut used,
-        rate,
-        millis,
-        HELD_RUN,
-        &mut work,
-        &mut orders,
-    ))
-}
-
-// Repairs a recording over the whole of it, as a case's letter and its three settings say.
-fn repair_whole(
-    letter: u8,
-    first: u32,
-    second: u32,
-    third: u32,
-    samples: &mut [u32],
-    marks: &mut [u8],
-    counts: &mut [u16],
-    journal: &mut [u32],
-    work: &mut [u32],
-) -> Answer {
-    let a = f32_of_word(first);
-    let b = f32_of_word(second);
-    let mut used: usize = 0;
-    match letter {
-        b'd' => declip::declip(samples, marks, counts, journal, &mut used, a, work),
-        b'c' => decrackle::decrackle(
-            samples,
-            marks,
-            counts,
-            journal,
-            &mut used,
-            a,
-            Start::Old,
-            work,
-        ),
-        b'q' => dequantize(samples, marks, counts, journal, &mut used, first, b, work),
-        _ => dequantize_cosparse(
-            samples, marks, counts, journal, &mut used, first, b, third, work,
-        ),
-    }
-}
-
-// Repairs the samples as the case that begins at `at` says.
-fn repair(list: &[u8], at: usize, samples: &mut [u32], marks: &mut [u8]) -> Answered
-    requires { at + head_bytes ≤ length list.now }
-{
-    let letter = list[at];
-    let first = told_word(list, at, 0);
-    let second = told_word(list, at, 1);
-    let third = told_word(list, at, 2);
+// Repairs the samples with these settings, in a recording that is made of them.
+fn repair(kind: Kind, settings: [u32; 3], samples: &mut [u32], marks: &mut [u8]) -> Answered {
     let mut counts = [0u16; COUNTS];
     let mut journal = [0u32; JOURNAL_WORDS];
-    match letter {
-        b'g' => repair_gap(
-            first,
-            second,
-            third,
-            samples,
-            marks,
-            &mut counts,
-            &mut journal,
-        ),
-        b's' => scan(first, second, samples, marks, &mut counts, &mut journal),
-        _ => {
-            let mut work = [7u32; WORKSPACE_WORDS];
-            of_repair(repair_whole(
-                letter,
-                first,
-                second,
-                third,
-                samples,
-                marks,
-                &mut counts,
-                &mut journal,
-                &mut work,
-            ))
-        }
-    }
+    let mut used: usize = 0;
+    let mut recording = Recording {
+        samples,
+        marks,
+        counts: &mut counts,
+        journal: &mut journal,
+        used: &mut used,
+    };
+    kind.repair(&mut recording, settings)
 }
 
-// Whether the case that begins at `at` agrees in its answer, its marks and its samples. Samples and marks are
-// lent, as many as the case has.
-fn repaired_so(
-    list: &[u8],
-    at: usize,
-    renewed: usize,
-    samples: &mut [u32],
-    marks: &mut [u8],
-) -> bool
-    requires { (at + (head_bytes + row_bytes (length samples.old) renewed) ≤ length list.now)
+// Whether a case agrees in its answer, its marks and its samples, which stand in its row. Samples and marks are lent,
+// as many as the case has.
+fn repaired_so(kind: Kind, head: Head, row: &[u8], samples: &mut [u32], marks: &mut [u8]) -> bool
+    requires { (row_bytes (length samples.old) head.renewed ≤ length row.now)
         × (length marks.old ≡ length samples.old) }
 {
-    let row = at + HEAD;
-    load(list, row, samples);
-    let answered = repair(list, at, samples, marks);
-    if !same_answer(list, at, answered) {
-        return false;
-    }
-    if !same_marks(list, row + WORD * samples.len(), marks) {
-        return false;
-    }
-    same_samples(list, row, renewed, samples)
+    load(row, samples);
+    repair(kind, head.settings, samples, marks) == head.answered
+        && same_marks(&row[WORD * samples.len()..], marks)
+        && same_samples(row, head.renewed, samples)
 }
 
-// Whether the case that begins at `at` agrees; one that is cut off or has too many samples does not.
-fn agrees(list: &[u8], at: usize) -> bool
-    requires { at < length list.now }
-{
-    if list.len() - at < HEAD {
+// Whether a case agrees; one that is cut off or has too many samples does not.
+fn agrees(kind: Kind, case: &[u8]) -> bool {
+    if case.len() < HEAD {
         return false;
     }
-    let n = told_count(list, at, SAMPLES);
-    let renewed = told_count(list, at, RENEWED);
-    if MOST < n {
-        return false;
-    }
-    if list.len() - at < case_length(n, renewed) {
+    let head = read_head(case);
+    let n = head.samples;
+    if MOST < n || case.len() < case_length(n, head.renewed) {
         return false;
     }
     let mut samples = [0u32; MOST];
-    let mut marks = [MEASURED; MOST];
-    repaired_so(list, at, renewed, &mut samples[..n], &mut marks[..n])
+    let mut marks = [Mark::Measured as u8; MOST];
+    let row = &case[HEAD..];
+    repaired_so(kind, head, row, &mut samples[..n], &mut marks[..n])
 }
 
-// Where the case that begins at `at` ends, or the list's end where that comes first.
-fn case_end(list: &[u8], at: usize) -> usize
-    requires { at < length list.now }
-    ensures { (at < result) × (result ≤ length list.now) }
+// How many bytes the first case takes, or all where it is cut off.
+fn case_end(cases: &[u8]) -> usize
+    requires { 0 < length cases.now }
+    ensures { (0 < result) × (result ≤ length cases.now) }
 {
-    let full = list.len();
-    if full - at < HEAD {
+    let full = cases.len();
+    if full < HEAD {
         return full;
     }
-    let length = case_length(told_count(list, at, SAMPLES), told_count(list, at, RENEWED));
-    if full - at < length {
-        full
-    } else {
-        at + length
-    }
+    let Head {
+        samples,
+        renewed,
+        ..
+    } = read_head(cases);
+    case_length(samples, renewed).min(full)
 }
 
-// How many cases with this letter there are.
-fn cases(list: &[u8], letter: u8) -> usize {
-    let mut n: usize = 0;
-    let mut next: usize = 0;
-    while next < list.len() {
-        let at = next;
-        next = case_end(list, at);
-        if list[at] == letter {
-            n += 1;
-        }
-    }
-    n
+// How many cases of a kind there are, and how many of them agree.
+#[derive(Clone, Copy)]
+struct Tally {
+    cases: usize,
+    agreeing: usize,
 }
 
-// How many of them agree.
-fn agreeing(list: &[u8], letter: u8) -> usize {
-    let mut n: usize = 0;
-    let mut next: usize = 0;
-    while next < list.len() {
-        let at = next;
-        next = case_end(list, at);
-        if list[at] == letter {
-            if agrees(list, at) {
-                n += 1;
+// Goes through the list, case after case.
+fn count_cases(list: &[u8], kind: Kind) -> Tally {
+    let mut cases: usize = 0;
+    let mut agreeing: usize = 0;
+    let mut rest = list;
+    while !rest.is_empty() {
+        if rest[0] == kind.letter() {
+            cases += 1;
+            if agrees(kind, rest) {
+                agreeing += 1;
             }
         }
+        rest = &rest[case_end(rest)..];
     }
-    n
+    Tally { cases, agreeing }
 }
 
-// Writes a name and a number.
-fn print_number<W: Write>(out: &mut W, name: &[u8], n: usize) -> io::Result<()> {
-    out.write_all(name)?;
-    write!(out, "{n}")
-}
-
-// Writes, as a line, how many cases with a letter there are and how many of them agree.
-fn report<W: Write>(out: &mut W, list: &[u8], name: &[u8], letter: u8) -> io::Result<()> {
-    print_number(out, name, cases(list, letter))?;
-    print_number(out, b" agree ", agreeing(list, letter))?;
-    writeln!(out)
+// Writes, as a line, how many cases of a kind there are and how many of them agree.
+fn report<W: Write>(out: &mut W, list: &[u8], kind: Kind) -> io::Result<()> {
+    let name = kind.name();
+    let Tally { cases, agreeing } = count_cases(list, kind);
+    writeln!(out, "{name} {cases} agree {agreeing}")
 }
 
 // Writes these lines for every repair.
 fn report_all<W: Write>(out: &mut W, list: &[u8]) -> io::Result<()> {
-    report(out, list, b"gaps ", b'g')?;
-    report(out, list, b"scans ", b's')?;
-    report(out, list, b"declips ", b'd')?;
-    report(out, list, b"decrackles ", b'c')?;
-    report(out, list, b"dequantizes ", b'q')?;
-    report(out, list, b"dequantizes by cosparse ", b'p')
+    report(out, list, Kind::Gap)?;
+    report(out, list, Kind::Scan)?;
+    report(out, list, Kind::Declip)?;
+    report(out, list, Kind::Decrackle)?;
+    report(out, list, Kind::Dequantize)?;
+    report(out, list, Kind::Cosparse)
 }
 
 fn main(rt: HostRuntime) -> io::Result<()> {

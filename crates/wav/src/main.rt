@@ -5,8 +5,11 @@
 // and `end`. Whatever is turned away is named in one line on standard error, and OUT is then not written.
 #![tactic(auto)]
 
+ghost use Rattle.std.specs.Prelude.{◌≤◌, length, IfSome};
+
 use std::env::FillError;
 use std::io;
+use std::io::Write;
 use std::rt::Env;
 use wavfile::{repair_file, say_error, say_usage};
 
@@ -32,6 +35,25 @@ fn error_of(error: FillError) -> io::Error {
     })
 }
 
+// Takes the argument of this number whole and gives how many bytes it has, or None and says of which it cannot.
+fn take_name<W: Write>(
+    rt: &impl Env,
+    said: &mut W,
+    i: usize,
+    title: &[u8],
+    name: &mut [u8],
+) -> Option<usize>
+    ensures { IfSome result (λ n. n ≤ length name.new) }
+{
+    match rt.arg(i, name) {
+        Ok(n) => Some(n),
+        Err(error) => {
+            say_error(said, title, error_of(error));
+            None
+        }
+    }
+}
+
 // Two names that are whole are answered.
 fn main(rt: HostRuntime) -> io::Result<()> {
     let mut said = rt.stderr();
@@ -40,20 +62,12 @@ fn main(rt: HostRuntime) -> io::Result<()> {
         return Ok(());
     }
     let mut from = [0u8; NAME_BYTES];
-    let n = match rt.arg(1, &mut from) {
-        Ok(n) => n,
-        Err(error) => {
-            say_error(&mut said, b"IN", error_of(error));
-            return Ok(());
-        }
+    let Some(n) = take_name(&rt, &mut said, 1, b"IN", &mut from) else {
+        return Ok(());
     };
     let mut to = [0u8; NAME_BYTES];
-    let m = match rt.arg(2, &mut to) {
-        Ok(m) => m,
-        Err(error) => {
-            say_error(&mut said, b"OUT", error_of(error));
-            return Ok(());
-        }
+    let Some(m) = take_name(&rt, &mut said, 2, b"OUT", &mut to) else {
+        return Ok(());
     };
     repair_file(&rt, &mut said, &from[..n], &to[..m])
 }

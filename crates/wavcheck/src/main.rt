@@ -8,7 +8,7 @@ ghost use Rattle.wavcheck.specs.Same.{same_bytes};
 use std::io;
 use std::io::Write;
 use std::rt::Files;
-use wavfile::{Loaded, load_file, repair_file};
+use wavfile::{load_file, repair_file};
 
 // The bytes of the largest file that is compared.
 const MOST_BYTES: usize = 65_536;
@@ -17,17 +17,12 @@ const MOST_BYTES: usize = 65_536;
 fn same_bytes(a: &[u8], b: &[u8]) -> usize
     ensures { result ≡ same_bytes a.now b.now }
 {
-    let mut i: usize = 0;
-    while i < a.len() {
-        if b.len() <= i {
+    for i in 0..a.len() {
+        if b.len() <= i || a[i] != b[i] {
             return i;
         }
-        if a[i] != b[i] {
-            return i;
-        }
-        i += 1;
     }
-    i
+    a.len()
 }
 
 // Writes whether two files are the same.
@@ -48,8 +43,7 @@ fn compare_with<R: Files + Print, W: Write>(
     name: &[u8],
 ) -> io::Result<()> {
     let mut space = [0u8; MOST_BYTES];
-    let loaded = load_file(rt, said, name, &mut space);
-    let Loaded::Bytes(n) = loaded else {
+    let Some(n) = load_file(rt, said, name, &mut space) else {
         return Ok(());
     };
     compare(rt, a, &space[..n])
@@ -63,8 +57,7 @@ fn compare_files<R: Files + Print, W: Write>(
     other: &[u8],
 ) -> io::Result<()> {
     let mut space = [0u8; MOST_BYTES];
-    let loaded = load_file(rt, said, name, &mut space);
-    let Loaded::Bytes(n) = loaded else {
+    let Some(n) = load_file(rt, said, name, &mut space) else {
         return Ok(());
     };
     compare_with(rt, said, &space[..n], other)

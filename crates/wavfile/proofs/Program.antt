@@ -14,7 +14,7 @@ use Rattle.recording.specs.declared.Reason.{Reason}
 use Rattle.recording.specs.declared.Reason.TheVariants.{Setting}
 use Rattle.recording.specs.Answer.{Answer}
 use Rattle.std.specs.Prelude.{Ok, Err}
-use Rattle.inpaint.specs.Auto.{allowed}
+use Rattle.inpaint.specs.Auto.{allowed, refused_number}
 use Rattle.inpaint.specs.declared.Scanned.{Scanned}
 use Rattle.monitor.specs.Scanning.{Report, report}
 use Rattle.riff.specs.Wav.{Heard, heard, unheard, wav_read}
@@ -23,7 +23,7 @@ use Rattle.riff.proofs.Reading.{read_done}
 use Rattle.riff.proofs.Writing.{written_done}
 use Rattle.recording.proofs.Answers.{never_both}
 use Rattle.wavfile.specs.declared.Repaired.{Repaired}
-use Rattle.wavfile.specs.Program.{limit_ms, reported, taken, Told, telling, rewritten, turned_away, of_taken, told, tells_all, tells_first}
+use Rattle.wavfile.specs.Program.{limit_ms, reported, taken, Told, telling, rewritten, of_taken, told, tells_all, tells_first}
 
 -- ---- What is taken
 
@@ -49,6 +49,13 @@ module _ (file samples marks : List ℕ) where
     pub takes_no_rate : b ≡ false → unheard Setting h.samples h.marks ≡ taken file samples marks
     takes_no_rate is = ap (chosen h) (sym is) ∙ chosen_so
 
+  -- what the reader turns away has the rate 0, which is allowed
+  pub takes_none : (why : Reason) (samples' marks' : List ℕ) → unheard why samples' marks' ≡ wav_read file samples marks
+      → unheard why samples' marks' ≡ taken file samples marks
+  unfolding of_bits
+  takes_none why samples' marks' e =
+      takes_it (unheard why samples' marks') e (allowed 0 (of_bits binary32 1065353216)) refl refl
+
   -- where n samples are taken, both rooms have as many places, and as many as before
   abbrev Fitting : ℕ → Heard → Type 0
   Fitting n h =
@@ -73,14 +80,14 @@ module _ (file samples marks : List ℕ) where
 
 -- the scan of all samples, and the file of what it leaves
 pub rewrites : (rate : ℕ) (samples marks orders space samples' marks' orders' space' : List ℕ) (s : Scanned) (a : Answer)
-    → report s.qualified s.repaired s.refused samples' marks' orders' ≡ reported rate samples marks orders
+    → report s.qualified s.repaired (refused_number s.refused) samples' marks' orders' ≡ reported rate samples marks orders
     → written a space' ≡ wav_written samples' rate space
-    → tells_all (record { answer = a; samples = length samples; rate = rate; scanned = s }) samples' marks' orders' space'
+    → tells_all (record { written = a; samples = length samples; rate = rate; scanned = s }) samples' marks' orders' space'
     ≡ rewritten rate samples marks orders space
 unfolding rewritten
 rewrites rate samples marks orders space samples' marks' orders' space' s a scanned laid =
     let n = length samples in
-    let made = report s.qualified s.repaired s.refused samples' marks' orders' in
+    let made = report s.qualified s.repaired (refused_number s.refused) samples' marks' orders' in
     ap (λ (w : Written). telling w.answer n rate made w.out) laid
     ∙ ap (λ (r : Report). telling (wav_written r.samples rate space).answer n rate r (wav_written r.samples rate space).out) scanned
 
@@ -97,16 +104,6 @@ module _ (n : ℕ) (space samples marks orders : List ℕ) (a : Answer) (rate : 
   unfolding told
   told_so = ap (λ (h : Heard). of_taken h.answer h orders space) read
 
-  -- of a file that is turned away
-  pub tells_away : (why : Reason) (r : Repaired) → a ≡ Err why
-      → r ≡ record { answer = a; samples = 0; rate = 0; scanned = record { qualified = 0; repaired = 0; refused = 0 } }
-      → tells_first r samples' marks' orders space ≡ told n space samples marks orders
-  tells_away why r e is =
-      ap (λ (x : Repaired). tells_first x samples' marks' orders space) is
-      ∙ ap (λ (x : Answer). turned_away x space) e
-      ∙ ap (λ (x : Answer). of_taken x (heard a rate samples' marks') orders space) (sym e)
-      ∙ told_so
-
   module _ (m : ℕ) (e : a ≡ Ok m) where
     -- the rooms have as many places as samples are taken
     pub rooms : (m ≤ length samples) × (m ≤ length marks) × (m ≤ length samples') × (m ≤ length marks')
@@ -120,7 +117,7 @@ module _ (n : ℕ) (space samples marks orders : List ℕ) (a : Answer) (rate : 
     pub tells_scan : (r : Repaired) (part part' part'' space' : List ℕ) → length orders ≡ length samples → length part ≡ length (take m samples')
         → length part' ≡ length (take m marks') → length part'' ≡ length (take m orders)
         → tells_all r part part' part'' space' ≡ rewritten rate (take m samples') (take m marks') (take m orders) space
-        → tells_first r (part ++ drop m samples') (part' ++ drop m marks') (part'' ++ drop m orders) space' ≡ told n space samples marks orders
+        → tells_first (Ok r) (part ++ drop m samples') (part' ++ drop m marks') (part'' ++ drop m orders) space' ≡ told n space samples marks orders
     tells_scan r part part' part'' space' as_many count count' count'' h =
         let room : m ≤ length orders = omega (arith, as_many, rooms.0) in
         let size : r.samples ≡ m =
@@ -131,6 +128,12 @@ module _ (n : ℕ) (space samples marks orders : List ℕ) (a : Answer) (rate : 
           take_at part'' (drop m orders) r.samples (count'' ∙ length-take-le _ _ room ∙ sym size),
         )
         (h ∙ ap (λ (x : Answer). of_taken x (heard a rate samples' marks') orders space) (sym e) ∙ told_so)
+
+-- of a file that is turned away
+pub tells_away : (n : ℕ) (space samples marks orders : List ℕ) (why : Reason) (samples' marks' : List ℕ)
+    → unheard why samples' marks' ≡ taken (take n space) samples marks
+    → tells_first (Err why) samples' marks' orders space ≡ told n space samples marks orders
+tells_away n space samples marks orders why samples' marks' read = told_so n space samples marks orders (Err why) 0 samples' marks' read
 
 -- ---- What is told fits
 
@@ -148,7 +151,7 @@ rewritten_fits rate samples marks orders space size e = written_fits (reported r
 -- and there are no more samples than the rooms have places
 module _ (n : ℕ) (space samples marks orders : List ℕ) (size : ℕ) where
   pub told_fits : (r : Repaired) (samples' marks' orders' space' : List ℕ)
-      → tells_first r samples' marks' orders' space' ≡ told n space samples marks orders → r.answer ≡ Ok size
+      → tells_first (Ok r) samples' marks' orders' space' ≡ told n space samples marks orders → r.written ≡ Ok size
       → (size ≤ length space) × (r.samples ≤ length samples) × (r.samples ≤ length marks)
   unfolding told
   told_fits r samples' marks' orders' space' so is = go h.answer refl so
@@ -156,7 +159,7 @@ module _ (n : ℕ) (space samples marks orders : List ℕ) (size : ℕ) where
       h : Heard
       h = taken (take n space) samples marks
 
-      go : (a : Answer) → h.answer ≡ a → tells_first r samples' marks' orders' space' ≡ of_taken a h orders space
+      go : (a : Answer) → h.answer ≡ a → tells_first (Ok r) samples' marks' orders' space' ≡ of_taken a h orders space
           → (size ≤ length space) × (r.samples ≤ length samples) × (r.samples ≤ length marks)
       go (Err why) e so = never_both (sym is ∙ ap (λ (t : Told). t.answer) so)
       go (Ok m) e so =

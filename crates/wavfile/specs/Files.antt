@@ -1,12 +1,10 @@
 -- Files by name. Definitions only.
-use Rattle.std.specs.Prelude.{ℕ, ◌≤◌, List, [], ◌∷◌, ◌++◌}
-use Rattle.wavfile.specs.declared.Loaded.{Loaded}
-use Rattle.wavfile.specs.declared.Loaded.TheVariants.{Bytes, Away}
+use Rattle.std.specs.Prelude.{ℕ, ◌≤◌, List, [], ◌∷◌, ◌++◌, Option, Some, None}
 
 -- a file that was read whole has no more bytes than the space that it was read to
-abbrev pub Within : Loaded → ℕ → Type 0
-Within (Bytes n) room = n ≤ room
-Within Away room = Unit {0}
+abbrev pub Within : Option ℕ → ℕ → Type 0
+Within (Some n) room = n ≤ room
+Within None room = Unit {0}
 
 -- `.part`, which stands behind the name of a file that is not whole yet
 abbrev pub suffix : List ℕ

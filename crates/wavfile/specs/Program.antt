@@ -2,16 +2,15 @@
 -- rules of the crate `riff`, opens the recording, scans it as `repair` does (`monitor`, specs/Scanning.antt), but at the file's own rate,
 -- and writes the file of what the scan leaves. Definitions, and then three statements, which are proved in proofs/Suffices.antt and
 -- Limits.antt under the same names, written small.
-use Rattle.std.specs.Prelude.{ℕ, ◌≤◌, List, [], length, take, replicate, Float}
+use Rattle.std.specs.Prelude.{ℕ, ◌≤◌, List, [], length, take, replicate, Float, Result, Ok, Err, if◌then◌else◌}
 use Rattle.leaves.specs.Arithmetic.{nought, one}
-use Rattle.std.specs.Prelude.{if◌then◌else◌}
 use Rattle.recording.specs.Recording.{State, state, opened}
 use Rattle.recording.specs.Counts.{blocks}
 use Rattle.recording.specs.History.{fresh}
+use Rattle.recording.specs.declared.Reason.{Reason}
 use Rattle.recording.specs.declared.Reason.TheVariants.{Setting}
 use Rattle.recording.specs.Answer.{Answer}
-use Rattle.std.specs.Prelude.{Ok, Err}
-use Rattle.inpaint.specs.Auto.{Scan, allowed, limit, held_run, automatic}
+use Rattle.inpaint.specs.Auto.{Scan, refused_number, allowed, limit, held_run, automatic}
 use Rattle.inpaint.specs.Order.{scan_orders}
 use Rattle.inpaint.specs.Runs.{run_answers}
 use Rattle.inpaint.specs.Consequences.{NoneHas}
@@ -121,13 +120,14 @@ told n space samples marks orders =
 abbrev pub tells_all : Repaired → List ℕ → List ℕ → List ℕ → List ℕ → Told
 tells_all r samples marks orders space =
     let s = r.scanned in
-    telling r.answer r.samples r.rate (report s.qualified s.repaired s.refused samples marks orders) space
+    telling r.written r.samples r.rate (report s.qualified s.repaired (refused_number s.refused) samples marks orders) space
 
 -- and of rooms, whose first places they stand in, as many as it says
-abbrev pub tells_first : Repaired → List ℕ → List ℕ → List ℕ → List ℕ → Told
-tells_first r samples marks orders space =
+abbrev pub tells_first : Result Repaired Reason → List ℕ → List ℕ → List ℕ → List ℕ → Told
+tells_first (Ok r) samples marks orders space =
     let m = r.samples in
     tells_all r (take m samples) (take m marks) (take m orders) space
+tells_first (Err why) samples marks orders space = telling (Err why) 0 0 (report 0 0 0 [] [] []) space
 
 -- ---- What suffices
 

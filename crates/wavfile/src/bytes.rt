@@ -1,29 +1,26 @@
 // A WAV file in memory, repaired: it is read, its samples are scanned, and the file of the result takes its place.
 ghost use Rattle.std.specs.Prelude.{◌≡◌, ◌≤◌, length};
-ghost use Rattle.riff.specs.Wav.{heard};
+ghost use Rattle.riff.specs.Wav.{answer_of, rate_of, heard};
 ghost use Rattle.wavfile.specs.Program.{most_input, taken, rewritten, told, tells_all, tells_first};
 
 use super::Repaired;
 use super::scan::{LIMIT_MS, scan_samples};
-use inpaint::Scanned;
 use inpaint::auto::settings_allowed;
-use recording::{Answer, Reason};
+use recording::Reason;
 use riff::WavRead;
 use riff::read::read_wav;
 use riff::write::write_wav;
 
 // Reads the file into the two rooms, and turns a rate away that the scan would turn away, by 4 as it does.
-fn take_wav(file: &[u8], samples: &mut [u32], marks: &mut [u8]) -> WavRead
-    ensures { heard result.answer result.rate samples.new marks.new
+fn take_wav(file: &[u8], samples: &mut [u32], marks: &mut [u8]) -> Result<WavRead, Reason>
+    ensures { heard (answer_of result) (rate_of result) samples.new marks.new
         ≡ taken file.now samples.old marks.old }
 {
-    let read = read_wav(file, samples, marks);
+    let read = read_wav(file, samples, marks)?;
     if settings_allowed(read.rate, LIMIT_MS) {
-        return read;
-    }
-    WavRead {
-        answer: Err(Reason::Setting),
-        rate: 0,
+        Ok(read)
+    } else {
+        Err(Reason::Setting)
     }
 }
 
@@ -41,55 +38,36 @@ fn repair_samples(
 {
     let count = samples.len();
     let scanned = scan_samples(samples, marks, orders, rate);
-    let answer = write_wav(samples, rate, space);
+    let written = write_wav(samples, rate, space);
     Repaired {
-        answer,
+        written,
         samples: count,
         rate,
         scanned,
     }
 }
 
-// A file that is turned away: nothing is scanned.
-fn away(why: Answer) -> Repaired
-    ensures { result ≡ record { answer = why; samples = 0; rate = 0; scanned = record { qualified = 0; repaired = 0; refused = 0 } } }
-{
-    Repaired {
-        answer: why,
-        samples: 0,
-        rate: 0,
-        scanned: Scanned {
-            qualified: 0,
-            repaired: 0,
-            refused: 0,
-        },
-    }
-}
-
 // Repairs the file that stands in the first n bytes of the space. The file of the result stands there then, and
 // the samples, their marks and the orders of the models in the first places of their rooms. Where the file is
-// turned away, the space stays as it was.
+// turned away, nothing is scanned and the space stays as it was.
 pub fn repair_bytes(
     space: &mut [u8],
     n: usize,
     samples: &mut [u32],
     marks: &mut [u8],
     orders: &mut [u32],
-) -> Repaired
+) -> Result<Repaired, Reason>
     requires { (n ≤ length space.old) × (length samples.old ≤ most_input) × (length orders.old ≡ length samples.old) }
     ensures { tells_first result samples.new marks.new orders.new space.new
         ≡ told n space.old samples.old marks.old orders.old }
 {
-    let read = take_wav(&space[..n], samples, marks);
-    let answer = read.answer;
-    let Ok(count) = answer else {
-        return away(answer);
-    };
-    repair_samples(
+    let read = take_wav(&space[..n], samples, marks)?;
+    let count = read.samples;
+    Ok(repair_samples(
         &mut samples[..count],
         &mut marks[..count],
         &mut orders[..count],
         read.rate,
         space,
-    )
+    ))
 }

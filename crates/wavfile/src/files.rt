@@ -1,10 +1,9 @@
 // Files by name: one read whole, and one written so that nobody ever sees a part of it.
-ghost use Rattle.std.specs.Prelude.{◌≡◌, ◌+◌, ◌≤◌, length};
+ghost use Rattle.std.specs.Prelude.{◌≡◌, ◌+◌, ◌≤◌, length, IfOk};
 ghost use Rattle.std.proofs.lemmas.List.Edits.{sets};
 ghost use Rattle.wavfile.specs.Program.{most_name};
 ghost use Rattle.wavfile.specs.Files.{Within, suffix, part_name};
 
-use super::Loaded;
 use super::say::{say_error, say_too_long};
 use std::fs::{File, OpenFile, OpenOptions, remove_file, rename};
 use std::io;
@@ -38,74 +37,80 @@ fn text_of(name: &[u8]) -> io::Result<&str> {
     str::from_utf8(name).map_err(|_| io::Error::from_raw_os_error(EILSEQ))
 }
 
-// Whether a file ends here, which a further byte shows where it does not: a space that is full may have held all
-// of it.
-fn ends_here<F: Read, W: Write>(file: &mut F, said: &mut W, name: &[u8]) -> bool {
-    let mut more = [0u8; 1];
-    match file.read(&mut more) {
-        Ok(0) => true,
-        Ok(_) => {
-            say_too_long(said);
-            false
-        }
-        Err(error) => {
-            say_error(said, name, error);
-            false
-        }
+// Why a file was not read whole: a call failed, or it has more bytes than there is space for.
+#[derive(Drop)]
+enum Unread {
+    Failed(io::Error),
+    TooLong,
+}
+
+impl From<io::Error> for Unread {
+    fn from(error: io::Error) -> Unread {
+        Unread::Failed(error)
     }
 }
 
-// One read, to the start of what is left of the space: how many bytes came, none at the file's end, or that it
-// failed, which is said.
-fn load_some<F: Read, W: Write>(file: &mut F, said: &mut W, name: &[u8], rest: &mut [u8]) -> Loaded
-    ensures { Within result (length rest.new) }
-{
-    match file.read(rest) {
-        Ok(got) => Loaded::Bytes(got),
-        Err(error) => {
-            say_error(said, name, error);
-            Loaded::Away
-        }
+// A file that does not end here is too long, which a further byte shows: a space that is full may have held all of
+// it.
+fn end_here<F: Read>(file: &mut F) -> Result<(), Unread> {
+    let mut more = [0u8; 1];
+    if file.read(&mut more)? == 0 {
+        Ok(())
+    } else {
+        Err(Unread::TooLong)
     }
+}
+
+// One read, to the start of what is left of the space: how many bytes came, none at the file's end.
+fn load_some<F: Read>(file: &mut F, rest: &mut [u8]) -> io::Result<usize>
+    ensures { IfOk result (λ n. n ≤ length rest.new) }
+{
+    file.read(rest)
 }
 
 // Reads a file that is open to its end, to the start of the space: each read goes on where the one before it
 // ended, so that less of the space is left.
-fn load_open<F: Read, W: Write>(file: &mut F, said: &mut W, name: &[u8], space: &mut [u8]) -> Loaded
-    ensures { Within result (length space.new) }
+fn load_open<F: Read>(file: &mut F, space: &mut [u8]) -> Result<usize, Unread>
+    ensures { IfOk result (λ n. n ≤ length space.new) }
 {
     let mut at: usize = 0;
     while at < space.len() {
-        let some = load_some(file, said, name, &mut space[at..]);
-        let Loaded::Bytes(more) = some else {
-            return Loaded::Away;
-        };
+        let more = load_some(file, &mut space[at..])?;
         if more == 0 {
-            return Loaded::Bytes(at);
+            return Ok(at);
         }
         at += more;
     }
-    if ends_here(file, said, name) {
-        Loaded::Bytes(at)
-    } else {
-        Loaded::Away
-    }
+    end_here(file)?;
+    Ok(at)
 }
 
-// Opens the file of this name to be read.
-fn open_to_read<R: Files>(rt: &R, name: &[u8]) -> io::Result<R::File> {
-    File::open(rt, text_of(name)?)
+// Opens the file of this name and reads it to the start of `into`.
+fn open_and_load<R: Files>(rt: &R, name: &[u8], into: &mut [u8]) -> Result<usize, Unread>
+    ensures { IfOk result (λ n. n ≤ length into.new) }
+{
+    let mut file = File::open(rt, text_of(name)?)?;
+    load_open(&mut file, into)
 }
 
-// Reads the file of this name to the start of `into`, or says why not.
-pub fn load_file<R: Files, W: Write>(rt: &R, said: &mut W, name: &[u8], into: &mut [u8]) -> Loaded
+// Reads the file of this name to the start of `into` and gives how many bytes it has, or None and says why not.
+pub fn load_file<R: Files, W: Write>(
+    rt: &R,
+    said: &mut W,
+    name: &[u8],
+    into: &mut [u8],
+) -> Option<usize>
     ensures { Within result (length into.new) }
 {
-    match open_to_read(rt, name) {
-        Ok(mut file) => load_open(&mut file, said, name, into),
-        Err(error) => {
+    match open_and_load(rt, name, into) {
+        Ok(n) => Some(n),
+        Err(Unread::Failed(error)) => {
             say_error(said, name, error);
-            Loaded::Away
+            None
+        }
+        Err(Unread::TooLong) => {
+            say_too_long(said);
+            None
         }
     }
 }
@@ -115,11 +120,7 @@ fn copy_to(bytes: &[u8], to: &mut [u8], at: usize)
     requires { at + length bytes.now ≤ length to.old }
     ensures { to.new ≡ sets to.old at bytes.now }
 {
-    let mut i: usize = 0;
-    while i < bytes.len() {
-        to[at + i] = bytes[i];
-        i += 1;
-    }
+    to[at..at + bytes.len()].copy_from_slice(bytes);
 }
 
 // Writes the name of the file that is not whole yet, `.part` behind that of the whole one, and gives its length.
@@ -182,28 +183,24 @@ fn take_name<R: Files>(rt: &R, part: &[u8], name: &[u8]) -> io::Result<()> {
     taken
 }
 
-// Makes a new file of the one name with these bytes, which then takes the other, or says why not. Where it was
-// made and anything fails, it is removed.
-fn save_as<R: Files, W: Write>(
+// Why a file was not saved: which of its two names a call failed on, and by which error.
+#[derive(Drop)]
+struct Unsaved<'a> {
+    name: &'a [u8],
+    error: io::Error,
+}
+
+// Makes a new file of the one name with these bytes, which then takes the other. Where it was made and anything
+// fails, it is removed.
+fn save_as<'a, R: Files>(
     rt: &R,
-    said: &mut W,
-    part: &[u8],
-    name: &[u8],
+    part: &'a [u8],
+    name: &'a [u8],
     bytes: &[u8],
-) -> bool {
-    if let Err(error) = may_take(rt, name) {
-        say_error(said, name, error);
-        return false;
-    }
-    if let Err(error) = make(rt, part, bytes) {
-        say_error(said, part, error);
-        return false;
-    }
-    if let Err(error) = take_name(rt, part, name) {
-        say_error(said, name, error);
-        return false;
-    }
-    true
+) -> Result<(), Unsaved<'a>> {
+    may_take(rt, name).map_err(|error| Unsaved { name, error })?;
+    make(rt, part, bytes).map_err(|error| Unsaved { name: part, error })?;
+    take_name(rt, part, name).map_err(|error| Unsaved { name, error })
 }
 
 // Saves a file whole under its name: it is written beside it first, and takes the name once all of it is stored,
@@ -213,5 +210,11 @@ pub fn save_file<R: Files, W: Write>(rt: &R, said: &mut W, name: &[u8], bytes: &
 {
     let mut part = [0u8; NAME_BYTES];
     let n = part_name(name, &mut part);
-    save_as(rt, said, &part[..n], name, bytes)
+    match save_as(rt, &part[..n], name, bytes) {
+        Ok(()) => true,
+        Err(Unsaved { name, error }) => {
+            say_error(said, name, error);
+            false
+        }
+    }
 }

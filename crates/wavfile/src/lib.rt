@@ -17,7 +17,6 @@ pub use files::load_file;
 use files::save_file;
 use inpaint::Scanned;
 use recording::Answer;
-use recording::numbers::number_of;
 use report::print_report;
 use say::say_refused;
 pub use say::{say_error, say_usage};
@@ -31,18 +30,11 @@ pub const MOST_SAMPLES: usize = 262_144;
 // The bytes of the largest file that is taken: those of the most samples, and 131,072 for all else.
 pub const MOST_BYTES: usize = 655_360;
 
-// A file as it was read: all of its bytes, which are so many, or that it is turned away, which was said.
-#[derive(Clone, Copy)]
-pub enum Loaded {
-    Bytes(usize),
-    Away,
-}
-
-// What the repair of a file in memory gives: the bytes of the file that stands there now, or a refusal; how many
-// samples there are, at which rate; and what the scan counted.
+// What the repair of a file in memory gives: how the writing of the repaired one ended, with the bytes of the file
+// that stands there now; how many samples there are, at which rate; and what the scan counted.
 #[derive(Clone, Copy)]
 struct Repaired {
-    answer: Answer,
+    written: Answer,
     samples: usize,
     rate: u32,
     scanned: Scanned,
@@ -63,23 +55,37 @@ fn repair_to<R: Files + Print, W: Write>(
     requires { (n ≤ length space.old) × (length to.now ≤ most_name) × (length samples.old ≤ most_input)
         × (length orders.old ≡ length samples.old) }
 {
-    let repaired = repair_bytes(space, n, samples, marks, orders);
-    let answer = repaired.answer;
-    let Ok(size) = answer else {
-        say_refused(said, number_of(answer));
-        return Ok(());
-    };
-    if !save_file(rt, said, to, &space[..size]) {
-        return Ok(());
+    match repair_bytes(space, n, samples, marks, orders) {
+        Ok(
+            Repaired {
+                written: Ok(size),
+                samples: count,
+                rate,
+                scanned,
+            },
+        ) => {
+            if !save_file(rt, said, to, &space[..size]) {
+                return Ok(());
+            }
+            print_report(
+                &mut io::writer(rt),
+                rate,
+                scanned,
+                &marks[..count],
+                &orders[..count],
+            )
+        }
+        Ok(
+            Repaired {
+                written: Err(why),
+                ..
+            },
+        )
+        | Err(why) => {
+            say_refused(said, why);
+            Ok(())
+        }
     }
-    let count = repaired.samples;
-    print_report(
-        &mut io::writer(rt),
-        repaired.rate,
-        repaired.scanned,
-        &marks[..count],
-        &orders[..count],
-    )
 }
 
 // Does so with rooms of its own.
@@ -118,8 +124,7 @@ pub fn repair_file<R: Files + Print, W: Write>(
     requires { length to.now ≤ most_name }
 {
     let mut space = [0u8; MOST_BYTES];
-    let loaded = load_file(rt, said, from, &mut space);
-    let Loaded::Bytes(n) = loaded else {
+    let Some(n) = load_file(rt, said, from, &mut space) else {
         return Ok(());
     };
     repair_loaded(rt, said, &mut space, n, to)

@@ -3,8 +3,7 @@ ghost use Rattle.std.specs.Prelude.{◌≡◌, ◌<◌, length};
 ghost use Rattle.wavfile.specs.Stretches.{alike_at, stretch_end};
 
 use inpaint::Scanned;
-use monitor::print_number;
-use recording::marks::{GAP_BY_MODEL, MEASURED};
+use recording::marks::Mark;
 use std::io;
 use std::io::Write;
 
@@ -13,10 +12,7 @@ fn is_alike(marks: &[u8], orders: &[u32], start: usize, i: usize) -> bool
     requires { (start < length marks.now) × (i < length marks.now) × (length orders.now ≡ length marks.now) }
     ensures { result ≡ alike_at marks.now orders.now start i }
 {
-    if marks[i] != marks[start] {
-        return false;
-    }
-    orders[i] == orders[start]
+    marks[i] == marks[start] && orders[i] == orders[start]
 }
 
 // Where the longest stretch of places from `start` on ends that have its mark and its order: one place after the
@@ -25,14 +21,12 @@ fn stretch_end(marks: &[u8], orders: &[u32], start: usize) -> usize
     requires { (start < length marks.now) × (length orders.now ≡ length marks.now) }
     ensures { result ≡ stretch_end marks.now orders.now start }
 {
-    let mut end = start + 1;
-    while end < marks.len() {
+    for end in start + 1..marks.len() {
         if !is_alike(marks, orders, start, end) {
             return end;
         }
-        end += 1;
     }
-    end
+    marks.len()
 }
 
 // Writes the line of a stretch: its first place, how many samples it has, and their mark, and the model's order
@@ -44,16 +38,15 @@ fn print_stretch<W: Write>(
     mark: u8,
     order: u32,
 ) -> io::Result<()> {
-    print_number(out, b"", place as u64)?;
-    print_number(out, b" ", count as u64)?;
-    print_number(out, b" ", mark as u64)?;
-    if mark == GAP_BY_MODEL {
-        print_number(out, b" ", order as u64)?;
+    write!(out, "{place} {count} {mark}")?;
+    if mark == Mark::GapByModel as u8 {
+        write!(out, " {order}")?;
     }
-    out.write_all(b"\n")
+    writeln!(out)
 }
 
-// Writes a line for each stretch of samples that are not measured.
+// Writes a line for each stretch of samples that are not measured. Each stretch begins where the one before it
+// ended, so that the loop goes on by a whole one.
 fn print_stretches<W: Write>(out: &mut W, marks: &[u8], orders: &[u32]) -> io::Result<()>
     requires { length orders.now ≡ length marks.now }
 {
@@ -61,11 +54,25 @@ fn print_stretches<W: Write>(out: &mut W, marks: &[u8], orders: &[u32]) -> io::R
     while i < marks.len() {
         let start = i;
         i = stretch_end(marks, orders, start);
-        if marks[start] != MEASURED {
+        if marks[start] != Mark::Measured as u8 {
             print_stretch(out, start, i - start, marks[start], orders[start])?;
         }
     }
     Ok(())
+}
+
+// Writes what the scan counted, with the number of the first refusal, or 0.
+fn print_counts<W: Write>(out: &mut W, scanned: Scanned) -> io::Result<()> {
+    let Scanned {
+        qualified,
+        repaired,
+        refused,
+    } = scanned;
+    let refused = refused.map_or(0, |why| why.number());
+    writeln!(
+        out,
+        "qualified {qualified} repaired {repaired} refused {refused}"
+    )
 }
 
 // Writes how many samples there are, at which rate, what the scan counted, what it made, and that this is the end.
@@ -78,12 +85,9 @@ pub fn print_report<W: Write>(
 ) -> io::Result<()>
     requires { length orders.now ≡ length marks.now }
 {
-    print_number(out, b"samples ", marks.len() as u64)?;
-    print_number(out, b" rate ", rate as u64)?;
-    print_number(out, b"\nqualified ", scanned.qualified as u64)?;
-    print_number(out, b" repaired ", scanned.repaired as u64)?;
-    print_number(out, b" refused ", scanned.refused as u64)?;
-    out.write_all(b"\n")?;
+    let count = marks.len();
+    writeln!(out, "samples {count} rate {rate}")?;
+    print_counts(out, scanned)?;
     print_stretches(out, marks, orders)?;
-    out.write_all(b"end\n")
+    writeln!(out, "end")
 }

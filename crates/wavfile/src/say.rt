@@ -1,4 +1,5 @@
 // What is turned away, in one line on standard error. Where that cannot be written, nothing can be said of it.
+use recording::Reason;
 use std::io;
 use std::io::Write;
 
@@ -9,27 +10,15 @@ fn say<W: Write>(to: &mut W, text: &[u8]) {
     let _ = to.write_all(text);
 }
 
-// Says a number in decimal.
-fn say_number<W: Write>(to: &mut W, n: u64) {
-    let _ = write!(to, "{n}");
-}
-
 // Says how the program is called.
 pub fn say_usage<W: Write>(to: &mut W) {
     say(to, b"wav: usage: wav IN OUT\n");
 }
 
-// The system's number of an error, which is above 0.
-fn error_number(error: i32) -> u64 {
-    if 0 < error { error as u64 } else { 0 }
-}
-
 // The text of an error alone, where the system's number stands behind it.
 fn words_of(text: &str) -> &str {
-    match text.split_once(" (os error ") {
-        Some((words, _)) => words,
-        None => text,
-    }
+    text.split_once(" (os error ")
+        .map_or(text, |(words, _)| words)
 }
 
 // Says the text of an error.
@@ -42,12 +31,11 @@ fn say_text<W: Write>(to: &mut W, error: io::Error) -> io::Result<()> {
     to.write_all(words_of(text).as_bytes())
 }
 
-// Says which error a call gave, by its number and its text, and on which file.
+// Says which error a call gave, by its number, which is above 0, or 0 where the system gave none, and its text, and
+// on which file.
 pub fn say_error<W: Write>(to: &mut W, name: &[u8], error: io::Error) {
-    let number = error.raw_os_error().unwrap_or(0);
-    say(to, b"wav: error ");
-    say_number(to, error_number(number));
-    say(to, b": ");
+    let number = error.raw_os_error().unwrap_or(0).max(0);
+    let _ = write!(to, "wav: error {number}: ");
     say(to, name);
     say(to, b": ");
     let _ = say_text(to, error);
@@ -60,22 +48,21 @@ pub fn say_too_long<W: Write>(to: &mut W) {
     say(to, text);
 }
 
-// Says what the number of a refusal stands for.
-fn say_reason<W: Write>(to: &mut W, number: u32) {
-    let reason = match number {
-        2 => ": more than 1,048,576 samples\n",
-        4 => ": a rate above 16,777,216 a second\n",
-        19 => ": not a whole RIFF WAVE file with fmt before data and an even data length\n",
-        20 => ": not mono 16-bit PCM (an extensible header is none either)\n",
-        21 => ": more than 262,144 samples, which is what this program takes\n",
-        _ => "\n",
-    };
-    say(to, reason.as_bytes());
+// What a refusal stands for, as the end of its line; those that no file is turned away by have none.
+fn text_of(why: Reason) -> &'static str {
+    match why {
+        Reason::TooMany => ": more than 1,048,576 samples",
+        Reason::Setting => ": a rate above 16,777,216 a second",
+        Reason::Wave => ": not a whole RIFF WAVE file with fmt before data and an even data length",
+        Reason::Coding => ": not mono 16-bit PCM (an extensible header is none either)",
+        Reason::Output => ": more than 262,144 samples, which is what this program takes",
+        _ => "",
+    }
 }
 
-// Says with which number a file is refused.
-pub fn say_refused<W: Write>(to: &mut W, number: u32) {
-    say(to, b"wav: refused ");
-    say_number(to, number as u64);
-    say_reason(to, number);
+// Says with which number a file is refused, and what that stands for.
+pub fn say_refused<W: Write>(to: &mut W, why: Reason) {
+    let number = why.number();
+    let text = text_of(why);
+    let _ = writeln!(to, "wav: refused {number}{text}");
 }

@@ -1,10 +1,6 @@
--- `own_numbers` is safe and ends: each index is below the number of samples, which fits, and no more are counted than
--- were passed. Assumes nothing.
-use Rattle.std.proofs.Common.{◌-◌, ◌≤◌, length}
+-- `own_numbers` is safe: no more are counted than were passed. Assumes nothing.
+use Rattle.std.proofs.Common.{◌≤◌}
 use Rattle.byhand.proofs.own_numbers.Given as goal
 
-abbrev pub invariant-loop-i : goal.invariant-loop-i
-invariant-loop-i l = (l.i ≤ length l.samples) × (l.count ≤ l.i)
-
-abbrev pub decreases-loop-i : goal.decreases-loop-i
-decreases-loop-i l = length l.samples - l.i
+abbrev pub invariant-loop-place : goal.invariant-loop-place
+invariant-loop-place l = l.count ≤ l.place

@@ -2,6 +2,5 @@
 use Rattle.monitor.proofs.Scanning.{scanned_so}
 use Rattle.monitor.proofs.scan_recording.Goals as goal
 
-pub returns : goal.returns
-returns c =
-    scanned_so _ _ _ _ _ c.inpaint_auto.ensures
+pub returns-clause-rule : goal.returns-clause-rule
+returns-clause-rule c = scanned_so _ _ _ _ _ (c.inpaint_auto.ensures.rule, c.inpaint_auto.ensures.orders)

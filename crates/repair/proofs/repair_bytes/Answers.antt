@@ -1,6 +1,6 @@
 -- `repair_bytes` meets its contract: it repairs what it decoded, with counts, a journal and a workspace that are empty. Assumes nothing.
-use native.Mathlib.Omega.{arith}
-use Rattle.monitor.proofs.Scanning.{few_blocks}
+use Rattle.std.proofs.Common.{rules, arith}
+use Rattle.monitor.proofs.Scanning.{few_blocks, told_of_lent}
 use Rattle.repair.proofs.Program.{reports}
 use Rattle.repair.proofs.repair_bytes.Goals as goal
 
@@ -11,5 +11,7 @@ slice_bounds-counts-end c =
 
 pub returns : goal.returns
 returns c =
-    reports _ c.args.samples.now _ _ _ _ _ _ c.requires.1 c.requires.2 c.decode.ensures c.block_count-blocks.ensures
-    c.repair_recording.ensures
+    let same = c.repair_recording.ensures.memory in
+    told_of_lent _ _ _ _ _ _ _ _ _ (search (rules, same.0)) (search (rules, same.1))
+    (reports _ c.args.samples.now _ _ _ _ _ _ c.requires.1 c.requires.2 c.decode.ensures c.block_count-blocks.ensures
+    c.repair_recording.ensures.rule)

@@ -3,7 +3,6 @@ use Rattle.monitor.proofs.Scanning.{opened_then}
 use Rattle.repair.specs.Program.{repairing, repairing_orders}
 use Rattle.repair.proofs.repair_recording.Goals as goal
 
-pub returns : goal.returns
+pub returns-clause-rule : goal.returns-clause-rule
 unfolding repairing repairing_orders
-returns c =
-    opened_then _ _ _ _ _ _ _ c.«open».ensures c.scan_recording.ensures
+returns-clause-rule c = opened_then _ _ _ _ _ _ _ c.«open».ensures c.scan_recording.ensures.rule

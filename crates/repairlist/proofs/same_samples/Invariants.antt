@@ -1,11 +1,6 @@
--- `same_samples` is safe and ends: the list has a word and a digit for each sample, and no more of the words of those
--- renewed are read than it has. Assumes nothing.
-use Prim.Native.Nat.{◌-◌, ◌≤◌}
-use lib.ListN.{length}
+-- `same_samples` is safe: no more of the words of those renewed are read than the row has. Assumes nothing.
+use Rattle.std.proofs.Common.{◌≤◌}
 use Rattle.repairlist.proofs.same_samples.Given as goal
 
 abbrev pub invariant-loop-i : goal.invariant-loop-i
-invariant-loop-i l = (l.i ≤ length l.samples) × (l.passed ≤ l.renewed)
-
-abbrev pub decreases-loop-i : goal.decreases-loop-i
-decreases-loop-i l = length l.samples - l.i
+invariant-loop-i l = l.passed ≤ l.renewed

@@ -4,4 +4,4 @@ use Rattle.wavfile.proofs.bytes.repair_samples.Goals as goal
 
 pub returns : goal.returns
 returns c =
-    rewrites _ _ _ _ _ _ _ _ _ _ _ c.scan_samples-scanned.ensures c.write_wav-answer.ensures
+    rewrites _ _ _ _ _ _ _ _ _ _ _ c.scan_samples-scanned.ensures c.write_wav-written.ensures

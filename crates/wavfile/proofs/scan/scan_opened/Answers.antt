@@ -2,6 +2,6 @@
 use Rattle.wavfile.proofs.Scanning.{scanned_so}
 use Rattle.wavfile.proofs.scan.scan_opened.Goals as goal
 
-pub returns : goal.returns
-returns c =
-    scanned_so _ _ _ _ _ _ _ _ c.«open».ensures c.inpaint_auto.ensures
+pub returns-clause-rule : goal.returns-clause-rule
+returns-clause-rule c =
+    scanned_so _ _ _ _ _ _ _ _ c.«open».ensures (c.inpaint_auto.ensures.rule, c.inpaint_auto.ensures.orders)
