@@ -54,8 +54,8 @@ fn write_values(samples: &[u32], out: &mut [u8])
         × ((i : ℕ) → i < length samples.now → in_range (slice_index samples.now i) ≡ true) }
     ensures { out.new ≡ sets out.old 44 (encoded_halves (map value_of samples.now)) }
 {
-    for (i, sample) in samples.iter().enumerate() {
-        store_half(out, HEADER_BYTES + 2 * i, value_of(*sample));
+    for i in 0..samples.len() {
+        store_half(out, HEADER_BYTES + 2 * i, value_of(samples[i]));
     }
 }
 
