@@ -158,42 +158,36 @@ fn run_qualifies(n: usize, most: usize, held: usize, word: u32, start: usize, le
     is_long_enough(held, word, len) && is_gap_allowed(n, most, start + kept, len - kept)
 }
 
-// How many samples the run has that begins at a place: those behind it, as far as each continues the one
-// before it, and itself.
-fn length_of_run(samples: &[u32], start: usize) -> usize
-    requires { start < length samples.now }
-    ensures { result ≡ run_at samples.now start }
-{
-    for end in start + 1..samples.len() {
-        if !continues_run(samples[end - 1], samples[end]) {
-            return end - start;
-        }
-    }
-    samples.len() - start
-}
-
-// The gap of the first run from place `from` on that meets every condition: a run is followed to its end from
-// the place where it begins, so that each is followed once. What stands before place `from`, where a gap may
-// have been filled, is not looked at.
+// The gap of the first run from place `from` on that meets every condition: the outer scan looks at each
+// place, and the inner one follows a run that begins there to its end. A run that reaches the recording's
+// end does not qualify, so that the inner scan has nothing to say of it. Each run is followed once, and what
+// stands before place `from`, where a gap may have been filled, is not looked at.
 pub fn next_run(recording: &Recording, most: usize, held: usize, from: usize) -> Option<Stretch>
     ensures { result ≡ next_run recording.now.samples.now most held from }
 {
     let samples = &*recording.samples;
     let n = samples.len();
-    for start in from..n {
+    let mut found = None;
+    // The requirements name this form: a label leaves both scans at once, with the run found.
+    'search: for start in from..n {
         if run_begins(samples, from, start) {
             let word = samples[start];
-            let len = length_of_run(samples, start);
-            if run_qualifies(n, most, held, word, start, len) {
-                let kept = kept_of(word);
-                return Some(Stretch {
-                    start: start + kept,
-                    len: len - kept,
-                });
+            for end in start + 1..n {
+                if !continues_run(samples[end - 1], samples[end]) {
+                    if run_qualifies(n, most, held, word, start, end - start) {
+                        let kept = kept_of(word);
+                        found = Some(Stretch {
+                            start: start + kept,
+                            len: end - start - kept,
+                        });
+                        break 'search;
+                    }
+                    break;
+                }
             }
         }
     }
-    None
+    found
 }
 
 // Refusals 1, 14, 2, 3 and 4, in this order; accepted, with 0, where none of them applies.
@@ -252,15 +246,19 @@ fn repair_runs(
     let mut repaired: usize = 0;
     let mut refused: Option<Reason> = None;
     let mut at: usize = 0;
-    while let Some(gap) = next_run(recording, most, held, at) {
-        let filled = inpaint_gap(recording, gap.start, gap.len, PASSES, work);
-        note_order(orders, gap, filled);
+    loop {
+        // The requirements name this form: let-else takes the answer apart into start and length, or ends the scan.
+        let Some(Stretch { start, len }) = next_run(recording, most, held, at) else {
+            break;
+        };
+        let filled = inpaint_gap(recording, start, len, PASSES, work);
+        note_order(orders, Stretch { start, len }, filled);
         qualified += 1;
         match filled {
             Ok(_) => repaired += 1,
             Err(why) => refused = refused.or(Some(why)),
         }
-        at = gap.start + gap.len;
+        at = start + len;
     }
     Scanned {
         qualified,

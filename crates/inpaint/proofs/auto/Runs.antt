@@ -1,6 +1,6 @@
 -- Dropout runs: what the code's tests tell of a word and of a run, the search for a run place by place, and what a run that is found is. Assumes
 -- nothing.
-use Rattle.std.proofs.Common.{◌≡◌, ℕ, zero, suc, ◌+◌, ◌-◌, ◌<◌, ◌≤◌, Bool, true, false, not, ◌&&◌, ◌||◌, eqb, ltb, leb, ◌⊎◌, List, length, get_or, sym, refl, ap, ◌∙◌, subst, inl, inr, true≢false, arith, ltb-true, eq-eqb, ne_eqb, eqb-true, leb-true}
+use Rattle.std.proofs.Common.{◌≡◌, ℕ, zero, suc, ◌+◌, ◌-◌, ◌<◌, ◌≤◌, Bool, true, false, not, ◌&&◌, ◌||◌, eqb, ltb, leb, ◌⊎◌, List, length, get_or, sym, refl, ap, ◌∙◌, subst, inl, inr, true≢false, arith, ltb-true, le-ltb, eq-eqb, ne_eqb, eqb-true, leb-true}
 use mathlib.Core.Bool.{and-false, or-false}
 use native.Mathlib.Decide.{ℕ_discrete}
 use lib.Ieee.{Float, binary32, eq, ne, is_nan, of_bits}
@@ -9,7 +9,6 @@ use Rattle.leaves.specs.Floats.{in_range}
 use Rattle.leaves.proofs.words.Laws.{nan_test, one_nan}
 use Rattle.std.specs.Prelude.{if◌then◌else◌}
 use Rattle.recording.specs.Runs.{run_length}
-use Rattle.recording.proofs.Runs.{run_within}
 use Rattle.leaves.proofs.Choice.{truth, EitherWay, both_hold}
 use Rattle.inpaint.specs.Auto.{zero_or_nan, holdable, continues, continues_at, run_begins, run_at, long_enough, kept}
 use Rattle.inpaint.specs.Auto.{gap_at, gap_length, gap_allowed, qualifies, starts, next_among, next_run}
@@ -157,15 +156,18 @@ at_most_kept w = elim (truth (holdable w)) [ inl h ↦ omega (arith, kept_held w
 pub keeps_one : (w k : ℕ) → k ≡ kept w → k ≤ 1
 keeps_one w k e = omega (arith, at_most_kept w)
 
+-- a run that reaches the end does not qualify
+touching : (n most held w i len : ℕ) → 1 ≤ len → n ≤ i + len → qualifies n most held w i len ≡ false
+unfolding qualifies
+touching n most held w i len some reach =
+    let past : n ≤ i + kept w + (len - kept w) = omega (arith, at_most_kept w) in
+    rw (le-ltb (i + kept w + (len - kept w)) n past, and-false, and-false) refl
+
 -- ---- the search, place by place
 
 -- how many places from i on continue a run
 abbrev pub more : List ℕ → ℕ → ℕ
 more samples i = run_length (continues_at samples) i (length samples - i)
-
--- a run is within its recording
-pub run_fits : (samples : List ℕ) (i : ℕ) → i < length samples → i + run_at samples i ≤ length samples
-run_fits samples i h = omega (arith, run_within (continues_at samples) (i + 1) (length samples - (i + 1)))
 
 -- the search of the places from `from` on, as it goes on at place i
 abbrev pub searched : List ℕ → ℕ → ℕ → ℕ → ℕ → Option Stretch
@@ -188,22 +190,30 @@ module _ (samples : List ℕ) (most held from i : ℕ) (whole : Option Stretch) 
   pub search_passes : (b : Bool) → b ≡ run_begins samples from i → b ≡ false → searched samples most held from (i + 1) ≡ whole
   search_passes b e h = passed (rw (← e, h) refl)
 
-  -- one does, of so many samples
-  module _ (len : ℕ) (long : len ≡ run_at samples i) where
+  -- one does, and ends before place `end`
+  module _ (end : ℕ) (ends : end ≡ i + 1 + more samples (i + 1)) where
+    run : run_at samples i ≡ end - i
+    run = omega (arith, ends)
+
     -- it does not qualify
-    pub search_fails : (q : Bool) → q ≡ qualifies (length samples) most held (get_or samples i 0) i len → q ≡ false
+    pub search_fails : (q : Bool) → q ≡ qualifies (length samples) most held (get_or samples i 0) i (end - i) → q ≡ false
         → searched samples most held from (i + 1) ≡ whole
     search_fails q e h =
-        let no : qualifies (length samples) most held (get_or samples i 0) i (run_at samples i) ≡ false = rw (← long, ← e, h) refl in
+        let no : qualifies (length samples) most held (get_or samples i 0) i (run_at samples i) ≡ false = rw (run, ← e, h) refl in
         passed (rw (no, and-false) refl)
+
+    -- it touches the recording's end
+    pub search_touches : length samples ≤ end → searched samples most held from (i + 1) ≡ whole
+    search_touches h =
+        search_fails _ refl (touching (length samples) most held (get_or samples i 0) i (end - i) (omega (arith, ends)) (omega (arith, ends)))
 
     -- it qualifies
     pub search_finds : (b q : Bool) (k : ℕ) → b ≡ run_begins samples from i → b ≡ true
-        → q ≡ qualifies (length samples) most held (get_or samples i 0) i len → q ≡ true → k ≡ kept (get_or samples i 0)
-        → Some (stretch (i + k) (len - k)) ≡ whole
+        → q ≡ qualifies (length samples) most held (get_or samples i 0) i (end - i) → q ≡ true → k ≡ kept (get_or samples i 0)
+        → Some (stretch (i + k) (end - i - k)) ≡ whole
     search_finds b q k e h f t g =
-        let yes : qualifies (length samples) most held (get_or samples i 0) i (run_at samples i) ≡ true = rw (← long, ← f, t) refl in
-        sym (at_place ∙ rw (← e, h, yes, ← long, ← g) refl) ∙ search
+        let yes : qualifies (length samples) most held (get_or samples i 0) i (run_at samples i) ≡ true = rw (run, ← f, t) refl in
+        sym (at_place ∙ rw (← e, h, yes, run, ← g) refl) ∙ search
 
 -- past the end nothing is found
 pub search_ends : (samples : List ℕ) (most held from i : ℕ) (whole : Option Stretch) → length samples ≤ i → searched samples most held from i ≡ whole

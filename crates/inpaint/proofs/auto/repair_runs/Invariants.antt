@@ -9,8 +9,8 @@ use Rattle.inpaint.specs.Runs.{runs_among, runs_of}
 use Rattle.inpaint.specs.Order.{orders_over}
 use Rattle.inpaint.proofs.auto.repair_runs.Given as goal
 
-abbrev pub invariant-loop-gap : goal.invariant-loop-gap
-invariant-loop-gap l =
+abbrev pub invariant-loop-start : goal.invariant-loop-start
+invariant-loop-start l =
     let s = held l.recording in
     let t = held l.initial.recording in
     let n = length t.samples in
@@ -24,5 +24,5 @@ invariant-loop-gap l =
     × (orders_over (length l.initial.work) (runs_among s.samples l.most l.held l.at l.at (n - l.at)) s l.orders
     ≡ orders_over (length l.initial.work) (runs_of t.samples l.most l.held) t l.initial.orders)
 
-abbrev pub decreases-loop-gap : goal.decreases-loop-gap
-decreases-loop-gap l = length l.initial.recording.samples.now - l.at
+abbrev pub decreases-loop-start : goal.decreases-loop-start
+decreases-loop-start l = length l.initial.recording.samples.now - l.at
