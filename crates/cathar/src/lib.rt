@@ -27,7 +27,7 @@ use dequant::passes::dequantize;
 use inpaint::auto::inpaint_auto;
 use inpaint::gap::inpaint_gap;
 use inpaint::{answer_of, order_of};
-use recording::numbers::{number_of, value_of, verdict_number, verdict_yes};
+use recording::numbers::{number_of, value_of, verdict_yes};
 use recording::{Answer, Recording};
 
 // What an answer tells a caller that takes numbers: its number, and beside it its value.
@@ -425,7 +425,7 @@ pub extern "C" fn cathar_measured(
 {
     let verdict = recording::question::measured(marks, counts, start, len);
     *yes = verdict_yes(verdict);
-    verdict_number(verdict)
+    number_of(verdict)
 }
 
 // Announces a recording of so many samples to the crackle detector, whose floor starts from the mean, and which is

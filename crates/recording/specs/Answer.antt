@@ -2,6 +2,10 @@
 use Rattle.std.specs.Prelude.{ℕ, Bool, Result}
 use Rattle.recording.specs.declared.Reason.{Reason}
 
+-- a call that is accepted with something of any type
+abbrev pub AnswerWith : Type 0 → Type 0
+AnswerWith T = Result T Reason
+
 abbrev pub Answer : Type 0
 Answer = Result ℕ Reason
 

@@ -4,7 +4,7 @@ use Rattle.recording.specs.declared.Reason.{Reason}
 use Rattle.recording.specs.declared.Reason.TheVariants.{Counts, TooMany, Used, Setting, Gap, Workspace, Read}
 use Rattle.recording.specs.declared.Reason.TheVariants.{Result, Room, Nothing, Malformed, Frames, Pieces, Blocks, Proposal, Version, Stored}
 use Rattle.recording.specs.declared.Reason.TheVariants.{Wave, Coding, Output}
-use Rattle.recording.specs.Answer.{Answer}
+use Rattle.recording.specs.Answer.{Answer, AnswerWith}
 use Rattle.std.specs.Prelude.{Ok, Err}
 use Rattle.recording.specs.Answer.{Verdict}
 
@@ -55,10 +55,14 @@ reason_place Wave = 0
 reason_place Coding = 0
 reason_place Output = 0
 
--- 0 for an acceptance, and else the number of the refusal
+-- 0 for an acceptance, whatever it gives, and else the number of the refusal
+abbrev pub refusal_number : {T : Type 0} → AnswerWith T → ℕ
+refusal_number (Ok m) = 0
+refusal_number (Err why) = reason_number why
+
+-- of an answer
 abbrev pub number : Answer → ℕ
-number (Ok m) = 0
-number (Err why) = reason_number why
+number = refusal_number
 
 -- "An accepted repair returns m; an accepted undo returns the m it took back." For a refusal it is the place.
 abbrev pub value : Answer → ℕ
@@ -67,8 +71,7 @@ value (Err why) = reason_place why
 
 -- of the span question: 0 where it is answered, and else the number of the refusal
 abbrev pub verdict_number : Verdict → ℕ
-verdict_number (Ok says) = 0
-verdict_number (Err why) = reason_number why
+verdict_number = refusal_number
 
 -- 1 for yes, and else 0
 abbrev pub verdict_yes : Verdict → ℕ

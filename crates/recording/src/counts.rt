@@ -13,15 +13,14 @@ pub const BLOCK: usize = 256;
 pub fn block_count(n: usize) -> usize
     ensures { result ≡ blocks n }
 {
-    let whole = n / BLOCK;
-    if whole * BLOCK == n { whole } else { whole + 1 }
+    n.div_ceil(BLOCK)
 }
 
 // What a mark adds to the count of its block.
 fn counted_mark(mark: u8) -> u16
     ensures { result ≡ counted_mark mark }
 {
-    if mark == Mark::Measured as u8 { 0 } else { 1 }
+    u16::from(mark != Mark::Measured as u8)
 }
 
 // The count of a block, from its marks, one after the other.

@@ -1,6 +1,6 @@
 // An answer as document 01's number and value, for callers that take numbers.
 ghost use Rattle.std.specs.Prelude.{◌≡◌};
-ghost use Rattle.recording.specs.Answers.{reason_number, reason_place, number, value, verdict_number, verdict_yes};
+ghost use Rattle.recording.specs.Answers.{reason_number, reason_place, refusal_number, value, verdict_yes};
 
 use super::{Answer, Reason, Verdict};
 
@@ -44,9 +44,9 @@ impl Reason {
     }
 }
 
-// 0 for an acceptance, and else the number of the refusal.
-pub fn number_of(answer: Answer) -> u32
-    ensures { result ≡ number answer }
+// 0 for an acceptance, whatever it gives, and else the number of the refusal.
+pub fn number_of<T: Copy>(answer: Result<T, Reason>) -> u32
+    ensures { result ≡ refusal_number answer }
 {
     match answer {
         Ok(_) => 0,
@@ -61,17 +61,6 @@ pub fn value_of(answer: Answer) -> usize
     match answer {
         Ok(m) => m,
         Err(why) => why.place(),
-    }
-}
-
-// 0 where the question of a span is answered, and else the number of the refusal.
-pub fn verdict_number(verdict: Verdict) -> u32
-    ensures { result ≡ verdict_number verdict }
-{
-    if let Err(why) = verdict {
-        why.number()
-    } else {
-        0
     }
 }
 

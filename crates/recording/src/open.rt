@@ -2,7 +2,7 @@
 ghost use Rattle.std.specs.Prelude.{◌≡◌, [], map, length, replicate};
 ghost use Rattle.recording.specs.Counts.{blocks, counted};
 ghost use Rattle.recording.specs.Recording.{state, ended, alike, fitting, opened, kept_mark, opened_received};
-ghost use Rattle.recording.specs.Lent.{held, lent_reading, left_reading};
+ghost use Rattle.recording.specs.Lent.{held, SameMemory, lent_reading, left_reading};
 
 use super::clear::set_all;
 use super::counts::{block_count, count_all};
@@ -114,4 +114,32 @@ pub fn open_received(
     keep_received(marks);
     begin_afresh(marks, counts, journal, used);
     Ok(0)
+}
+
+impl Recording<'_> {
+    // Opens a recording that is held as one: what `open` does to its five parts.
+    pub fn open_as_measured(&mut self) -> Answer
+        ensures memory { SameMemory self.old self.new }
+        ensures rule { ended result (held self.new) ≡ opened (held self.old) }
+    {
+        let samples = &mut *self.samples;
+        let marks = &mut *self.marks;
+        let counts = &mut *self.counts;
+        let journal = &mut *self.journal;
+        let used = &mut *self.used;
+        open(samples, marks, counts, journal, used)
+    }
+
+    // Opens one that is held as one as the bus's frames left it: what `open_received` does to its five parts.
+    pub fn open_as_received(&mut self) -> Answer
+        ensures memory { SameMemory self.old self.new }
+        ensures rule { ended result (held self.new) ≡ opened_received (held self.old) }
+    {
+        let samples = &mut *self.samples;
+        let marks = &mut *self.marks;
+        let counts = &mut *self.counts;
+        let journal = &mut *self.journal;
+        let used = &mut *self.used;
+        open_received(samples, marks, counts, journal, used)
+    }
 }

@@ -12,13 +12,6 @@ use super::{Answer, Reason, Recording};
 // The largest mark that a byte holds.
 const LAST_BYTE: u32 = 255;
 
-// A journal word as a number of samples or a place.
-fn index(word: u32) -> usize
-    ensures { result ≡ word }
-{
-    word as usize
-}
-
 // Whether one of the m saved samples from journal word `begin` on is wrong: its place does not rise
 // above the one before or is none of the n samples, or its mark is no byte. `least` is the least place
 // that still rises.
@@ -29,7 +22,7 @@ fn saved_wrong(journal: &[u32], begin: usize, m: usize, n: usize) -> bool
     let mut least: usize = 0;
     for i in 0..m {
         let at = begin + 3 * i;
-        let place = index(journal[at]);
+        let place = journal[at] as usize;
         if place < least || n <= place || LAST_BYTE < journal[at + 2] {
             return true;
         }
@@ -46,7 +39,7 @@ fn last_malformed(n: usize, journal: &[u32], used: usize) -> bool
     if used == 1 {
         return true;
     }
-    let m = index(journal[used - 2]);
+    let m = journal[used - 2] as usize;
     m == 0
         || n < m
         || used < 3 * m + 2
@@ -62,7 +55,7 @@ fn give_back(samples: &mut [u32], marks: &mut [u8], journal: &[u32], begin: usiz
 {
     for i in 0..m {
         let at = begin + 3 * i;
-        let place = index(journal[at]);
+        let place = journal[at] as usize;
         samples[place] = journal[at + 1];
         marks[place] = journal[at + 2] as u8;
     }
@@ -82,7 +75,7 @@ impl Recording<'_> {
         if last_malformed(self.samples.len(), self.journal, end) {
             return Err(Reason::Malformed);
         }
-        Ok(index(self.journal[end - 2]))
+        Ok(self.journal[end - 2] as usize)
     }
 
     // Takes back the last entry: its samples get their old words and marks, their blocks are recounted, and its

@@ -12,10 +12,10 @@ pub returns-then-last_malformed : goal.returns-then-last_malformed
 returns-then-last_malformed c =
     entry_bad (held c.args.self.now) c.if-end-eq0.false _ c.last_malformed.ensures c.if-last_malformed.true
 
-pub overflow_sub-end : goal.overflow_sub-end
-overflow_sub-end c =
+pub overflow_sub-result : goal.overflow_sub-result
+overflow_sub-result c =
     omega (arith, (sound (held c.args.self.now) _ refl (sym c.last_malformed.ensures ∙ c.if-last_malformed.false)).there)
 
 pub returns : goal.returns
 returns c =
-    entry_good (held c.args.self.now) c.if-end-eq0.false _ c.last_malformed.ensures c.if-last_malformed.false _ c.index.ensures
+    entry_good (held c.args.self.now) c.if-end-eq0.false _ c.last_malformed.ensures c.if-last_malformed.false _ refl

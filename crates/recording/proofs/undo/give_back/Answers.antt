@@ -1,4 +1,5 @@
 -- `recording::undo::give_back` meets its contract. Assumes nothing.
+use mathlib.Core.Path.{refl}
 use native.Mathlib.Omega.{arith}
 use Rattle.recording.proofs.undo.Laws.{none_back, place_below, mark_byte, one_back, all_back}
 use Rattle.recording.proofs.undo.give_back.Goals as goal
@@ -16,7 +17,7 @@ pub bounds-marks-place : goal.bounds-marks-place
 bounds-marks-place c = omega (arith, place_below _ _ _ _ _ _ _ _ c.loop-i.invariant c.loop-i-test.true)
 
 pub loop-i-preserved : goal.loop-i-preserved
-loop-i-preserved c = one_back _ _ _ _ _ _ _ _ c.loop-i.invariant c.loop-i-test.true _ c.index-place.ensures
+loop-i-preserved c = one_back _ _ _ _ _ _ _ _ c.loop-i.invariant c.loop-i-test.true _ refl
 
 pub returns : goal.returns
 returns c = all_back _ _ _ _ _ _ _ _ c.loop-i.invariant c.loop-i-test.false
