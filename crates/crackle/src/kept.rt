@@ -54,7 +54,7 @@ fn read_detector(words: &[u32]) -> Detector
 fn running_word(running: bool) -> u32
     ensures { result ≡ running_word running }
 {
-    if running { RUNNING } else { 0 }
+    u32::from(running)
 }
 
 // The word of a start.
@@ -83,8 +83,8 @@ fn write_detector(detector: Detector, words: &mut [u32])
     words[7] = start_word(detector.start);
 }
 
-// Keeps the detector that a call left, and hands its answer on; after refusal 6, which takes nothing in, the words stay as
-// they are.
+// Keeps the detector that a call left, and hands its answer on; after refusal 6, which takes nothing in, the words
+// stay as they are.
 fn keep(heard: Heard, words: &mut [u32]) -> Answer
     requires { head_words ≤ length words.old }
     ensures { (result ≡ heard.answer) × (words.new ≡ head_after heard.answer heard.detector words.old) }

@@ -112,11 +112,7 @@ fn flags_due(start: Start, taken: usize, n: usize) -> usize
 fn flag_byte(detector: Detector, floor: f32, a: f32) -> u8
     ensures { result ≡ flag_byte (flag_against detector floor a) }
 {
-    if LEAST_SAMPLES <= detector.total as usize && stands_out(detector.factor, floor, a) {
-        1
-    } else {
-        0
-    }
+    u8::from(LEAST_SAMPLES <= detector.total as usize && stands_out(detector.factor, floor, a))
 }
 
 // The sum of the magnitudes of the first n values that are held, in order.
@@ -283,6 +279,16 @@ fn not_all(detector: Detector) -> bool
     !detector.running || detector.taken != detector.total
 }
 
+// How a call ends that refuses for a reason, with the detector that it leaves.
+fn refused(why: Reason, detector: Detector) -> Heard
+    ensures { (result.answer ≡ Err why) × (result.detector ≡ detector) }
+{
+    Heard {
+        answer: Err(why),
+        detector,
+    }
+}
+
 // Gives the detector a piece, and writes the flags that this brings from the first place of the room on: refusals 6,
 // for room for fewer than 1,024 held values, 13, 6 and 7, in this order, leave both rooms as they were.
 pub fn piece(detector: Detector, held: &mut [u32], piece: &[u32], flags: &mut [u8]) -> Heard
@@ -291,29 +297,17 @@ pub fn piece(detector: Detector, held: &mut [u32], piece: &[u32], flags: &mut [u
 {
     let n = piece.len();
     if held.len() < MEAN_OVER {
-        return Heard {
-            answer: Err(Reason::Workspace),
-            detector,
-        };
+        return refused(Reason::Workspace, detector);
     }
     if too_much(detector, n) {
-        return Heard {
-            answer: Err(Reason::Pieces),
-            detector: close(detector),
-        };
+        return refused(Reason::Pieces, close(detector));
     }
     let due = flags_due(detector.start, detector.taken as usize, n);
     if flags.len() < due {
-        return Heard {
-            answer: Err(Reason::Workspace),
-            detector,
-        };
+        return refused(Reason::Workspace, detector);
     }
     if let Err(why) = check_words(piece, detector.taken as usize) {
-        return Heard {
-            answer: Err(why),
-            detector: close(detector),
-        };
+        return refused(why, close(detector));
     }
     Heard {
         answer: Ok(due),
@@ -328,16 +322,10 @@ pub fn finish(detector: Detector, held: &mut [u32], flags: &mut [u8]) -> Heard
         ≡ end_told (holding detector held.old) flags.old }
 {
     if held.len() < MEAN_OVER {
-        return Heard {
-            answer: Err(Reason::Workspace),
-            detector,
-        };
+        return refused(Reason::Workspace, detector);
     }
     if not_all(detector) {
-        return Heard {
-            answer: Err(Reason::Pieces),
-            detector: close(detector),
-        };
+        return refused(Reason::Pieces, close(detector));
     }
     let taken = detector.taken as usize;
     if taken == 0 {
@@ -348,10 +336,7 @@ pub fn finish(detector: Detector, held: &mut [u32], flags: &mut [u8]) -> Heard
     }
     let due = taken - given_by(detector.start, taken);
     if flags.len() < due {
-        return Heard {
-            answer: Err(Reason::Workspace),
-            detector,
-        };
+        return refused(Reason::Workspace, detector);
     }
     judge(detector, held, 0.0, true, flags, 0);
     Heard {

@@ -10,8 +10,7 @@ use native.Mathlib.Nat.{sub-zero}
 use borrow.Author.Tests.{lt-ltb, le-ltb}
 use lib.Dec.{eqb}
 use lib.ListN.{length, get_or, drop, length-map}
-use lib.Ieee.{Float, eq}
-use Rattle.leaves.proofs.words.Laws.{number_test}
+use lib.Ieee.{Float, is_nan}
 use Rattle.recording.specs.Recording.{State, called}
 use Rattle.recording.specs.Inner.{flags}
 use Rattle.recording.specs.Runs.{begins, run_length}
@@ -149,9 +148,8 @@ module _ (start : Start) (sensitivity : Float) (samples w v : List ℕ) (laid : 
 -- ---- The call
 
 -- its whole rule, with the code's test of its sensitivity, and the mark under another name
-pub decrackle_is : (start : Start) (sensitivity : Float) (room mark : ℕ) (s : State) → mark ≡ mark_for start
-    → called (whole_plan (eq sensitivity sensitivity) room mark (decrackled start sensitivity)) s ≡ decrackle_repair start sensitivity room s
+pub decrackle_is : (start : Start) (sensitivity : Float) (room mark : ℕ) (s : State) (b : Bool) → b ≡ is_nan sensitivity
+    → mark ≡ mark_for start
+    → called (whole_plan (not b) room mark (decrackled start sensitivity)) s ≡ decrackle_repair start sensitivity room s
 unfolding decrackle_repair decrackle_plan
-decrackle_is start sensitivity room mark s e =
-    ap (λ (k : ℕ). called (whole_plan (eq sensitivity sensitivity) room k (decrackled start sensitivity)) s) e
-    ∙ ap (λ (b : Bool). called (whole_plan b room (mark_for start) (decrackled start sensitivity)) s) (number_test sensitivity)
+decrackle_is start sensitivity room mark s b h e = rw (h, e) refl

@@ -1,5 +1,6 @@
 // Decrackle: samples that stand out from their neighbours by more than a running floor are flagged, and
-// each flagged run is rewritten by a curve between the samples on either side of it.
+// each flagged run is rewritten by a curve between the samples on either side of it. The workspace and the number of
+// samples stay two parameters: `Room n work` and `Holds n`, which the promises cite, take them one by one.
 #![tactic(auto)]
 
 ghost use Rattle.std.specs.Prelude.{◌≡◌, false, ◌+◌, ◌-◌, ◌*◌, ◌≤◌, ◌<◌, length, drop};
@@ -121,7 +122,7 @@ pub fn stands_out(factor: f32, floor: f32, a: f32) -> bool
 fn flag_word(factor: f32, floor: f32, a: f32) -> u32
     ensures { result ≡ flag_word (flagged factor floor a) }
 {
-    if stands_out(factor, floor, a) { 1 } else { 0 }
+    u32::from(stands_out(factor, floor, a))
 }
 
 // Flags the samples that stand out: each raises the floor first, and is then held against it.
@@ -245,7 +246,7 @@ pub fn decrackle(
     ensures rule { ended result (held recording.new) ≡ decrackle_repair start sensitivity (length work.old) (held recording.old) }
     ensures work { work.new ≡ work_after 0 (needed (length recording.old.samples.now)) result work.old }
 {
-    begin(recording, sensitivity == sensitivity, work)?;
+    begin(recording, !sensitivity.is_nan(), work)?;
     draw(recording, sensitivity, start, work);
     finish(recording, work, mark_for(start))
 }

@@ -120,7 +120,7 @@ pub fn dequantize_cosparse(
         ≡ cosparse_repair bits strength iterations (length work.old) (held recording.old) }
     ensures work { work.new ≡ work_after 0 (needed (length recording.old.samples.now)) result work.old }
 {
-    begin(recording, strength == strength, work)?;
+    begin(recording, !strength.is_nan(), work)?;
     draw(work, recording.samples.len(), bits, strength, iterations);
     finish(recording, work, Mark::Dequantize)
 }

@@ -26,7 +26,7 @@ pub fn strength_of(strength: f32) -> f32
 pub fn step_of(bits: u32) -> f32
     ensures { result ≡ step_of bits }
 {
-    let kept = bits.max(LEAST_BITS).min(MOST_BITS);
+    let kept = bits.clamp(LEAST_BITS, MOST_BITS);
     2.0 / count_as_f32((1u32 << kept) as usize)
 }
 

@@ -100,7 +100,7 @@ pub fn dequantize(recording: &mut Recording, bits: u32, strength: f32, work: &mu
     ensures rule { ended result (held recording.new) ≡ dequantize_repair bits strength (length work.old) (held recording.old) }
     ensures work { work.new ≡ work_after 0 (needed (length recording.old.samples.now)) result work.old }
 {
-    begin(recording, strength == strength, work)?;
+    begin(recording, !strength.is_nan(), work)?;
     draw(work, recording.samples.len(), bits, strength);
     finish(recording, work, Mark::Dequantize)
 }

@@ -17,6 +17,7 @@ use super::window::MAX_SOLVE;
 use super::{Filled, Scanned, Stretch};
 use leaves::order::larger;
 use leaves::words::{count_as_f32, f32_of_word, in_range};
+use recording::clear::set_all;
 use recording::{Answer, Reason, Recording};
 
 // The largest rate, up to which an f32 holds every whole number.
@@ -45,10 +46,10 @@ fn whole_part(x: f32) -> u64
         } else {
             0
         }
-    } else if x == x {
-        18446744073709551615
-    } else {
+    } else if x.is_nan() {
         0
+    } else {
+        18446744073709551615
     }
 }
 
@@ -90,7 +91,7 @@ fn is_zero_or_nan(word: u32) -> bool
     ensures { result ≡ zero_or_nan word }
 {
     let x = f32_of_word(word);
-    x == 0.0 || x != x
+    x == 0.0 || x.is_nan()
 }
 
 // Whether a silent bus can hold a word: one in range that is not zero.
@@ -137,7 +138,7 @@ fn is_long_enough(held: usize, word: u32, len: usize) -> bool
 fn kept_of(word: u32) -> usize
     ensures { result ≡ kept word }
 {
-    if is_holdable(word) { 1 } else { 0 }
+    usize::from(is_holdable(word))
 }
 
 // Whether a gap is within the limit and touches neither end of a recording of n samples.
@@ -207,8 +208,8 @@ fn write_order(orders: &mut [u32], start: usize, len: usize, order: u32)
     ensures { orders.new ≡ sets orders.old start (replicate len order) }
 {
     let end = orders.len().min(start.saturating_add(len));
-    for at in start..end {
-        orders[at] = order;
+    if start < end {
+        set_all(orders, start, end - start, order);
     }
 }
 

@@ -1,5 +1,6 @@
 // The banded normal equations of the gap: laid down, factored and solved within a band of p + 1 places
-// for each of the gap's samples.
+// for each of the gap's samples. The places of the areas, p and len stay single parameters: `area work at len` and the
+// rules of specs/Model.antt, which the promises cite, take them one by one.
 ghost use Rattle.std.specs.Prelude.{◌≡◌, [], ◌+◌, ◌-◌, ◌*◌, ◌≤◌, ◌<◌, length};
 ghost use Rattle.std.proofs.lemmas.List.Edits.{sets};
 ghost use Rattle.model.specs.Model.{laid, cell_at, cells, factored, forward_at, forward, backward_at, backward};

@@ -79,8 +79,8 @@ fn check_call(recording: &Recording, threshold: f32, proposal: &[u32]) -> Answer
     check_proposal(recording.samples, proposal, threshold)
 }
 
-// The next three walk the clipped samples as `Recording::commit_picked` walks those that a workspace names. One walk for
-// both is no plainer: here the test reads the samples that the walk writes, which no closure can hold meanwhile.
+// The next three walk the clipped samples as `Recording::commit_picked` walks those that a workspace names. One walk
+// for both is no plainer: here the test reads the samples that the walk writes, which no closure can hold meanwhile.
 
 // How many samples are clipped.
 fn count_clipped(recording: &Recording, threshold: f32) -> usize

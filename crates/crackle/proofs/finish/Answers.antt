@@ -5,11 +5,12 @@ use Rattle.crackle.proofs.Steps.{end_few, end_early, end_empty, end_short, end_s
 use Rattle.crackle.proofs.finish.Goals as goal
 
 pub returns-then-held-lt-MEAN_OVER : goal.returns-then-held-lt-MEAN_OVER
-returns-then-held-lt-MEAN_OVER c = end_few _ _ _ c.if-held-lt-MEAN_OVER.true
+returns-then-held-lt-MEAN_OVER c = rw (c.refused.ensures.0, c.refused.ensures.1) (end_few _ _ _ c.if-held-lt-MEAN_OVER.true)
 
 pub returns-then-not_all : goal.returns-then-not_all
 returns-then-not_all c =
-    end_early _ _ _ c.if-held-lt-MEAN_OVER.false _ c.not_all.ensures _ c.if-not_all.true c.close.ensures
+    rw (c.refused-then-not_all.ensures.0, c.refused-then-not_all.ensures.1)
+    (end_early _ _ _ c.if-held-lt-MEAN_OVER.false _ c.not_all.ensures _ c.if-not_all.true c.close.ensures)
 
 pub returns-then-taken-eq0 : goal.returns-then-taken-eq0
 returns-then-taken-eq0 c =
@@ -22,7 +23,8 @@ overflow_sub-due c =
 
 pub returns-then-flags-due : goal.returns-then-flags-due
 returns-then-flags-due c =
-    end_short _ _ _ c.if-held-lt-MEAN_OVER.false _ c.not_all.ensures c.if-not_all.false _ c.given_by.ensures c.if-flags-due.true
+    rw (c.refused-then-flags-due.ensures.0, c.refused-then-flags-due.ensures.1)
+    (end_short _ _ _ c.if-held-lt-MEAN_OVER.false _ c.not_all.ensures c.if-not_all.false _ c.given_by.ensures c.if-flags-due.true)
 
 pub judge-requires : goal.judge-requires
 judge-requires c = (

@@ -4,20 +4,23 @@ use Rattle.crackle.proofs.Steps.{not_much, piece_few, piece_much, piece_short, p
 use Rattle.crackle.proofs.piece.Goals as goal
 
 pub returns-then-held-lt-MEAN_OVER : goal.returns-then-held-lt-MEAN_OVER
-returns-then-held-lt-MEAN_OVER c = piece_few _ _ _ _ c.if-held-lt-MEAN_OVER.true
+returns-then-held-lt-MEAN_OVER c = rw (c.refused.ensures.0, c.refused.ensures.1) (piece_few _ _ _ _ c.if-held-lt-MEAN_OVER.true)
 
 pub returns-then-too_much : goal.returns-then-too_much
 returns-then-too_much c =
-    piece_much _ _ _ _ c.if-held-lt-MEAN_OVER.false _ c.too_much.ensures _ c.if-too_much.true c.close.ensures
+    rw (c.refused-then-too_much.ensures.0, c.refused-then-too_much.ensures.1)
+    (piece_much _ _ _ _ c.if-held-lt-MEAN_OVER.false _ c.too_much.ensures _ c.if-too_much.true c.close.ensures)
 
 pub returns-then-flags-due : goal.returns-then-flags-due
 returns-then-flags-due c =
-    piece_short _ _ _ _ c.if-held-lt-MEAN_OVER.false _ c.too_much.ensures c.if-too_much.false _ c.flags_due-due.ensures c.if-flags-due.true
+    rw (c.refused-then-flags-due.ensures.0, c.refused-then-flags-due.ensures.1)
+    (piece_short _ _ _ _ c.if-held-lt-MEAN_OVER.false _ c.too_much.ensures c.if-too_much.false _ c.flags_due-due.ensures c.if-flags-due.true)
 
 pub returns-in-Err : goal.returns-in-Err
 returns-in-Err c =
-    piece_out _ _ _ _ c.if-held-lt-MEAN_OVER.false _ c.too_much.ensures c.if-too_much.false _ c.flags_due-due.ensures c.if-flags-due.false _
-    c.in-Err.ensures _ _ refl c.close-in-Err.ensures
+    rw (c.refused-in-Err.ensures.0, c.refused-in-Err.ensures.1)
+    (piece_out _ _ _ _ c.if-held-lt-MEAN_OVER.false _ c.too_much.ensures c.if-too_much.false _ c.flags_due-due.ensures c.if-flags-due.false _
+    c.in-Err.ensures _ _ refl c.close-in-Err.ensures)
 
 pub take_in-requires : goal.take_in-requires
 take_in-requires c =

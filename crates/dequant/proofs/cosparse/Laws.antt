@@ -1,7 +1,7 @@
 -- `dequantize_cosparse`: its formulas with the code's literals, an iteration place by place, the iterations one after the
 -- other, and what is drawn. Assumes nothing.
 use mathlib.Core.Path.{◌≡◌, refl, sym, ap, ◌∙◌}
-use mathlib.Core.Bool.{Bool, true, false, ◌&&◌}
+use mathlib.Core.Bool.{Bool, true, false, not, ◌&&◌}
 use mathlib.Core.List.{List}
 use Prim.Native.Nat.{ℕ, zero, suc, ◌+◌, ◌-◌, ◌≤◌, ◌<◌, min}
 use native.Mathlib.Omega.{arith}
@@ -10,11 +10,10 @@ use borrow.Author.Tests.{lt-ltb, le-ltb, leb-true}
 use lib.Dec.{leb, ltb}
 use lib.ListN.{length, get_or, set, drop, length-set}
 use lib.Seq.{sets}
-use lib.Ieee.{Float, binary32, of_bits, to_bits, of_int, round, neg, eq, lt}
+use lib.Ieee.{Float, binary32, of_bits, to_bits, of_int, round, neg, is_nan, lt}
 use Rattle.leaves.specs.Arithmetic.{◌+₃₂◌, ◌-₃₂◌, ◌*₃₂◌, ◌/₃₂◌, nought, near, float, count}
 use Rattle.leaves.specs.Floats.{magnitude, held}
 use Rattle.leaves.proofs.Parts.{take-sets, drop-sets, part_of_sets}
-use Rattle.leaves.proofs.words.Laws.{number_test}
 use Rattle.recording.specs.Recording.{State, called}
 use Rattle.recording.specs.Marks.{dequantize}
 use Rattle.std.specs.Prelude.{if◌then◌else◌}
@@ -217,11 +216,10 @@ module _ (bits iterations n : ℕ) (strength : Float) (w : List ℕ) (room : Roo
 -- ---- The call
 
 -- its whole rule, with the code's test of its strength
-pub cosparse_is : (bits : ℕ) (strength : Float) (iterations room : ℕ) (s : State)
-    → called (whole_plan (eq strength strength) room dequantize (cosparse bits strength iterations)) s ≡ cosparse_repair bits strength iterations room s
+pub cosparse_is : (bits : ℕ) (strength : Float) (iterations room : ℕ) (s : State) (b : Bool) → b ≡ is_nan strength
+    → called (whole_plan (not b) room dequantize (cosparse bits strength iterations)) s ≡ cosparse_repair bits strength iterations room s
 unfolding cosparse_repair cosparse_plan
-cosparse_is bits strength iterations room s =
-    ap (λ (b : Bool). called (whole_plan b room dequantize (cosparse bits strength iterations)) s) (number_test strength)
+cosparse_is bits strength iterations room s b h = rw h refl
 
 -- ---- How many words there are
 

@@ -8,7 +8,7 @@ use borrow.Author.Tests.{le-leb, lt-leb, leb-true, not-true, not-false}
 use lib.Dec.{leb}
 use lib.ListN.{length, get_or, set, drop}
 use lib.Seq.{sets}
-use lib.Ieee.{Float, binary32, of_bits, to_bits, lt, eq, round}
+use lib.Ieee.{Float, binary32, of_bits, to_bits, lt, is_nan, round}
 use Rattle.leaves.specs.Arithmetic.{◌+₃₂◌, ◌-₃₂◌, ◌*₃₂◌, near, float}
 use Rattle.recording.specs.Recording.{State, called}
 use Rattle.recording.specs.Marks as marks
@@ -17,7 +17,6 @@ use Rattle.redraw.specs.Inner.{words_in, flags_in, rest_of, drawn_in, Holds, Roo
 use Rattle.redraw.proofs.Workspace.{store_words, store_behind, word_there, flags_behind, rest_behind, words_count}
 use Rattle.dequant.specs.Dequant.{strength_of, step_of, target, first_at, first_pass, quarter, second_at, second_pass, wide, widened}
 use Rattle.dequant.specs.Dequant.{acts, inner, dequantized, dequantize_plan, dequantize_repair}
-use Rattle.leaves.proofs.words.Laws.{number_test}
 use Rattle.leaves.proofs.Literals.{half_word}
 use Rattle.leaves.proofs.Choice.{both_hold}
 use Rattle.dequant.proofs.lattice.Laws.{snapped_words, snapped_flags, snapped_rest, snapped_there}
@@ -184,8 +183,7 @@ module _ (n bits : ℕ) (strength h : Float) (w : List ℕ) (held : h ≡ streng
 -- ---- The call
 
 -- its whole rule, with the code's test of its strength
-pub dequantize_is : (bits : ℕ) (strength : Float) (room : ℕ) (s : State)
-    → called (whole_plan (eq strength strength) room marks.dequantize (dequantized bits strength)) s ≡ dequantize_repair bits strength room s
+pub dequantize_is : (bits : ℕ) (strength : Float) (room : ℕ) (s : State) (b : Bool) → b ≡ is_nan strength
+    → called (whole_plan (not b) room marks.dequantize (dequantized bits strength)) s ≡ dequantize_repair bits strength room s
 unfolding dequantize_repair dequantize_plan
-dequantize_is bits strength room s =
-    ap (λ (b : Bool). called (whole_plan b room marks.dequantize (dequantized bits strength)) s) (number_test strength)
+dequantize_is bits strength room s b h = rw h refl

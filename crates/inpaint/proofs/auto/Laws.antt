@@ -1,15 +1,15 @@
 -- The scan for dropouts: its settings, its limit and its refusals, and the scan run by run. Assumes nothing.
-use Rattle.std.proofs.Common.{◌≡◌, ℕ, zero, suc, ◌+◌, ◌-◌, ◌*◌, ◌/◌, ◌<◌, ◌≤◌, min, Bool, true, false, cond, not, ◌&&◌, T, eqb, leb, List, length, replicate, pos, sym, refl, ap, ◌∙◌, subst, inl, inr, true≢false, le-div_iff_mul-le, add-zero, arith, ltb-false, le-ltb, lt-ltb, ne_eqb, le-leb, leb-true}
+use Rattle.std.proofs.Common.{◌≡◌, ℕ, zero, suc, ◌+◌, ◌-◌, ◌*◌, ◌/◌, ◌<◌, ◌≤◌, min, Bool, true, false, cond, ◌&&◌, T, eqb, leb, List, length, replicate, pos, sym, refl, ap, ◌∙◌, subst, inl, inr, true≢false, le-div_iff_mul-le, add-zero, arith, ltb-false, le-ltb, lt-ltb, ne_eqb, le-leb, leb-true}
 use mathlib.Core.Bool.{false≢true}
 use lib.Seq.{sets}
-use lib.Ieee.{Float, nan, inf, fin, binary32, up, down, neg, div, mul, lt, eq, ne, to_unsigned, of_bits, of_int}
+use lib.Ieee.{Float, nan, inf, fin, binary32, up, down, neg, div, mul, lt, is_nan, to_unsigned, of_bits, of_int}
 use lib.Ieee.Fits.{down_pos}
 use lib.Ieee.Scale.{finite}
 use borrow.Author.Tests.{lt-leb}
 use Rattle.leaves.proofs.Literals.{unbounded, plus_infinity, one_word}
 use Rattle.leaves.specs.Arithmetic.{nought, one, count}
 use Rattle.leaves.specs.Floats.{larger}
-use Rattle.leaves.proofs.words.Laws.{nan_test, one_nan}
+use Rattle.leaves.proofs.words.Laws.{one_nan}
 use Rattle.recording.specs.Answers.{number, reason_number}
 use Rattle.recording.specs.Recording.{State, Ended, ended, fitting, or_else, work_after}
 use Rattle.std.specs.Prelude.{if◌then◌else◌}
@@ -110,9 +110,9 @@ capped p a d h k =
     omega arith
 
 -- what is not below 2 ^ 64, and no NaN, has no sign, and is cut to the largest number
-pub cut_past : (x : Float) → lt x past_word ≡ false → eq x x ≡ true → 18446744073709551615 ≡ to_unsigned 64 x
-unfolding of_bits lt eq to_unsigned
-cut_past nan h k = absurd (false≢true k)
+pub cut_past : (x : Float) → lt x past_word ≡ false → is_nan x ≡ false → 18446744073709551615 ≡ to_unsigned 64 x
+unfolding of_bits lt is_nan to_unsigned
+cut_past nan h k = absurd (true≢false k)
 cut_past (inf true) h k = absurd (true≢false h)
 cut_past (inf false) h k = refl
 cut_past (fin true m e) h k =
@@ -122,9 +122,9 @@ cut_past (fin false m e) h k =
     capped 18446744073709551616 (m * up e) (down e) (down_pos e) (omega (arith, past))
 
 -- a NaN alone differs from itself
-pub cut_nan : (x : Float) → eq x x ≡ false → 0 ≡ to_unsigned 64 x
-unfolding to_unsigned ne
-cut_nan x h = sym (ap (to_unsigned 64) (one_nan x (nan_test x ∙ ap not h)))
+pub cut_nan : (x : Float) → is_nan x ≡ true → 0 ≡ to_unsigned 64 x
+unfolding to_unsigned
+cut_nan x h = sym (ap (to_unsigned 64) (one_nan x h))
 
 -- ---- the limit
 

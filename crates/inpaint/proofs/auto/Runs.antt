@@ -3,10 +3,11 @@
 use Rattle.std.proofs.Common.{◌≡◌, ℕ, zero, suc, ◌+◌, ◌-◌, ◌<◌, ◌≤◌, Bool, true, false, not, ◌&&◌, ◌||◌, eqb, ltb, leb, ◌⊎◌, List, length, get_or, sym, refl, ap, ◌∙◌, subst, inl, inr, true≢false, arith, ltb-true, le-ltb, eq-eqb, ne_eqb, eqb-true, leb-true}
 use mathlib.Core.Bool.{and-false, or-false}
 use native.Mathlib.Decide.{ℕ_discrete}
+use mir.Val.{bool_byte}
 use lib.Ieee.{Float, binary32, eq, ne, is_nan, of_bits}
 use Rattle.leaves.specs.Arithmetic.{nought, float}
 use Rattle.leaves.specs.Floats.{in_range}
-use Rattle.leaves.proofs.words.Laws.{nan_test, one_nan}
+use Rattle.leaves.proofs.words.Laws.{one_nan}
 use Rattle.std.specs.Prelude.{if◌then◌else◌}
 use Rattle.recording.specs.Runs.{run_length}
 use Rattle.leaves.proofs.Choice.{truth, EitherWay, both_hold}
@@ -26,9 +27,9 @@ pub zero_word : (w : ℕ) (x : Float) → x ≡ of_bits binary32 w → eq x (of_
 unfolding zero_or_nan float of_bits
 zero_word w x e h = rw (← e, h) refl
 
-pub no_zero_word : (w : ℕ) (x : Float) → x ≡ of_bits binary32 w → eq x (of_bits binary32 0) ≡ false → ne x x ≡ zero_or_nan w
+pub no_zero_word : (w : ℕ) (x : Float) → x ≡ of_bits binary32 w → eq x (of_bits binary32 0) ≡ false → is_nan x ≡ zero_or_nan w
 unfolding zero_or_nan float of_bits
-no_zero_word w x e h = rw (← e, h, ← nan_test x) refl
+no_zero_word w x e h = rw (← e, h) refl
 
 pub holdable_out : (w : ℕ) → in_range w ≡ false → false ≡ holdable w
 unfolding holdable
@@ -108,6 +109,10 @@ kept_zeros w h = rw h refl
 pub kept_held : (w : ℕ) → holdable w ≡ true → kept w ≡ 1
 unfolding kept
 kept_held w h = rw h refl
+
+pub kept_is : (w : ℕ) (b : Bool) → b ≡ holdable w → bool_byte b ≡ kept w
+kept_is w true h = sym (kept_held w (sym h))
+kept_is w false h = sym (kept_zeros w (sym h))
 
 pub kind_of : (held w len : ℕ) → long_enough held w len ≡ true → OfZeros w len ⊎ OfHeld held w len
 kind_of held w len h = go (truth (zero_or_nan w)) (truth (holdable w))

@@ -17,7 +17,7 @@ returns-in_err-begin c =
     let p = err_from_is_err_and c.from_residual.result c.from_residual.ensures.1 in
     let same : c.from_residual.result ≡ c.begin.result = rw (p.1, p.2) (sym c.in_err-begin.was) in
     let ends = whole_refused _ a.work.now (held a.recording.now) _ c.begin.ensures.0 dequantize (dequantized a.bits a.strength) _
-    (dequantize_is a.bits a.strength (length a.work.now) (held a.recording.now)) _ _ _ same c.in_err-begin.was c.begin.ensures.1 in
+    (dequantize_is a.bits a.strength (length a.work.now) (held a.recording.now) _ c.is_nan.ensures.value) _ _ _ same c.in_err-begin.was c.begin.ensures.1 in
     record { memory = search rules; rule = ends.0; work = ends.1 }
 
 pub draw-requires : goal.draw-requires
@@ -33,6 +33,6 @@ pub returns : goal.returns
 returns c =
     let a = c.args in
     let ends = whole_drawn _ a.work.now (held a.recording.now) _ c.begin.ensures.0 dequantize (dequantized a.bits a.strength) _
-    (dequantize_is a.bits a.strength (length a.work.now) (held a.recording.now)) _ _ _ _ _ (held c.finish.new.recording) c.in_ok-begin.was c.begin.ensures.1 c.begin.auto.work
+    (dequantize_is a.bits a.strength (length a.work.now) (held a.recording.now) _ c.is_nan.ensures.value) _ _ _ _ _ (held c.finish.new.recording) c.in_ok-begin.was c.begin.ensures.1 c.begin.auto.work
     c.draw.ensures c.draw.auto.work c.finish.ensures.rule c.finish.ensures.work in
     record { memory = c.finish.ensures.memory; rule = ends.0; work = ends.1 }

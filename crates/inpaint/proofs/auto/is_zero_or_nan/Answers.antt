@@ -7,4 +7,4 @@ pub returns-then-x : goal.returns-then-x
 returns-then-x c = c.if-x.true ∙ zero_word _ _ c.f32_of_word-x.ensures c.if-x.true
 
 pub returns-else-x : goal.returns-else-x
-returns-else-x c = no_zero_word _ _ c.f32_of_word-x.ensures c.if-x.false
+returns-else-x c = c.is_nan.ensures.value ∙ no_zero_word _ _ c.f32_of_word-x.ensures c.if-x.false

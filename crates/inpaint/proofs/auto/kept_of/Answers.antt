@@ -1,10 +1,7 @@
--- `inpaint::auto::kept_of` meets its contract: each way out is a line of the rule. Assumes nothing.
-use Rattle.std.proofs.Common.{sym, ◌∙◌}
-use Rattle.inpaint.proofs.auto.Runs.{kept_zeros, kept_held}
+-- `inpaint::auto::kept_of` meets its contract: the test's number is the rule's. Assumes nothing.
+use Rattle.std.proofs.Common.{◌∙◌}
+use Rattle.inpaint.proofs.auto.Runs.{kept_is}
 use Rattle.inpaint.proofs.auto.kept_of.Goals as goal
 
-pub returns-then-is_holdable : goal.returns-then-is_holdable
-returns-then-is_holdable c = sym (kept_held _ (sym c.is_holdable.ensures ∙ c.if-is_holdable.true))
-
-pub returns-else-is_holdable : goal.returns-else-is_holdable
-returns-else-is_holdable c = sym (kept_zeros _ (sym c.is_holdable.ensures ∙ c.if-is_holdable.false))
+pub returns : goal.returns
+returns c = c.from.ensures ∙ kept_is _ _ c.is_holdable.ensures

@@ -1,5 +1,6 @@
 -- `inpaint::auto::whole_part` meets its contract: each way out is a line of the cut, by cases on the float.
 -- Assumes nothing.
+use Rattle.std.proofs.Common.{sym}
 use Rattle.inpaint.proofs.auto.Laws.{cut_below, cut_negative, cut_past, cut_nan}
 use Rattle.inpaint.proofs.auto.whole_part.Goals as goal
 
@@ -11,8 +12,8 @@ truncating_f32_to_u64-requires c =
 pub returns-else-x-2 : goal.returns-else-x-2
 returns-else-x-2 c = cut_negative _ c.if-x-2.false
 
-pub returns-then-x-3 : goal.returns-then-x-3
-returns-then-x-3 c = cut_past _ c.if-x.false c.if-x-3.true
+pub returns-then-is_nan : goal.returns-then-is_nan
+returns-then-is_nan c = cut_nan _ (sym c.if-is_nan.ensures.value)
 
-pub returns-else-x-3 : goal.returns-else-x-3
-returns-else-x-3 c = cut_nan _ c.if-x-3.false
+pub returns-else-is_nan : goal.returns-else-is_nan
+returns-else-is_nan c = cut_past _ c.if-x.false (sym c.if-is_nan.ensures.value)
