@@ -1,5 +1,6 @@
 // The coefficients of the model, from what is known of the window. The ranges end before p + 1, which is how many
-// places an area has: of a loop up to `..=p` that writes, what it leaves would have to be proved twice, at either way out.
+// places an area has: of a loop up to `..=p` that writes, what it leaves would have to be proved twice, at either
+// way out.
 ghost use Rattle.std.specs.Prelude.{◌≡◌, ◌+◌, ◌*◌, ◌≤◌, ◌<◌, length};
 ghost use Rattle.std.proofs.lemmas.List.Edits.{sets};
 ghost use Rattle.model.specs.Model.{lags, unit, raised_at, raised, levinson, estimate_ar_known};

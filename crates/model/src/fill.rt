@@ -66,8 +66,9 @@ pub fn results_at(size: usize, len: usize, p: usize) -> usize
 
 // The gap's doubles by one pass over the window at the front of the workspace, written at its end; the answer
 // is the highest order that the model used.
-// The size, the gap and the order stay four parameters here and in the stages: `Laid` and the rules of specs/Model.antt,
-// which the promises cite, take them one by one, so that a struct would be taken apart again in each clause.
+// The size, the gap and the order stay four parameters here and in the stages: `Laid` and the rules of
+// specs/Model.antt, which the promises cite, take them one by one, so that a struct would be taken apart again in
+// each clause.
 pub fn fill_by_model(work: &mut [f64], size: usize, g: usize, len: usize, p: usize) -> usize
     requires { Laid size g len p work.old }
     ensures { (area work.new (results_at size len p) len ≡ solved (area work.old 0 size) g len p)
