@@ -1,5 +1,6 @@
 // Numbers as bytes, the lowest byte first: one of 16 bits, one of 32, and a row of words; and the bytes of
-// each.
+// each. One function for both sizes would be no plainer: the library reads and writes each size by a function of
+// its own, so that a trait would have to hand these two on, and every caller knows the size.
 #![tactic(auto)]
 
 ghost use Rattle.std.specs.Prelude.{◌≡◌, ◌+◌, ◌*◌, ◌≤◌, length};
