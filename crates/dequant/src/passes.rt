@@ -58,7 +58,8 @@ fn second_word(work: &[u32], n: usize, i: usize, step: f32, strength: f32) -> u3
     word_of_f32(x + strength * 0.5 * (goal - x))
 }
 
-// The second pass over n words: all but two at either end, from the snapshot that stands behind them.
+// The second pass over n words: all but two at either end, from the snapshot that stands behind them. (One walk over
+// a closure would be no plainer: `first_pass` and `second_pass`, which the promises cite, are rules of their own.)
 fn second_pass(work: &mut [u32], n: usize, step: f32, strength: f32)
     requires { Room n work.old × (5 ≤ n) }
     ensures { (words_in n work.new ≡ second_pass step strength (snapshot_in n work.old) 2 (n - 4) (words_in n work.old))

@@ -1,4 +1,5 @@
-// Settings as words in the order of the parts, floats as their patterns.
+// Settings as words in the order of the parts, floats as their patterns. Each version has functions of its own, since
+// its fields are its own; what readers and writers do with either is generic, by the trait `Stored`, which calls them.
 ghost use Rattle.std.specs.Prelude.{◌≡◌, ◌≤◌, length};
 ghost use Rattle.std.proofs.lemmas.List.Edits.{sets};
 ghost use Rattle.settings.specs.Settings.{parts_v1, parts, words_v1, words, settings_v1, settings};
