@@ -8,13 +8,12 @@
 ghost use Rattle.std.specs.Prelude.{◌≤◌, length};
 
 use decrackle::{Start, decrackle};
-use inpaint::Filled;
 use inpaint::gap::inpaint_gap;
+use inpaint::{Filled, answer_of, order_of};
 use leaves::words::word_of_f32;
 use proposed::declip_proposed;
 use recording::marks::Mark;
 use recording::numbers::{number_of, value_of};
-use recording::open::open;
 use recording::{Answer, Reason, Recording};
 use splice::inpaint_gaps;
 use std::fmt::Display;
@@ -92,16 +91,6 @@ impl<const SAMPLES: usize, const COUNTS: usize, const WORDS: usize> Memory<SAMPL
     }
 }
 
-// Opens a recording.
-fn open_it(recording: &mut Recording) -> Answer {
-    let samples = &mut *recording.samples;
-    let marks = &mut *recording.marks;
-    let counts = &mut *recording.counts;
-    let journal = &mut *recording.journal;
-    let used = &mut *recording.used;
-    open(samples, marks, counts, journal, used)
-}
-
 // Writes a name and words in hexadecimal digits, each with zeros in front up to `width`, as a line.
 fn print_words<W: Write>(out: &mut W, name: &str, words: &[u32], width: usize) -> io::Result<()> {
     write!(out, "  {name}")?;
@@ -141,14 +130,6 @@ fn show<W: Write>(
     print_words(out, "journal", recording.journal, 1)
 }
 
-// How the repair of a gap ended, as an answer, and the order of its model, which is 0 for a refusal.
-fn told_of(filled: Result<Filled, Reason>) -> (Answer, u32) {
-    match filled {
-        Ok(Filled { named, order }) => (Ok(named), order),
-        Err(why) => (Err(why), 0),
-    }
-}
-
 // Writes how the repair of a gap ended, and the order of its model.
 fn print_gap<W: Write>(
     out: &mut W,
@@ -156,8 +137,8 @@ fn print_gap<W: Write>(
     filled: Result<Filled, Reason>,
     used: usize,
 ) -> io::Result<()> {
-    let (answer, order) = told_of(filled);
-    print_answer(out, title, answer, used)?;
+    let order = order_of(filled);
+    print_answer(out, title, answer_of(filled), used)?;
     writeln!(out, "  order {order}")
 }
 
@@ -169,8 +150,9 @@ fn gap_at_2<W: Write>(
     len: usize,
 ) -> io::Result<()> {
     let mut work = [1.5f64; 300];
-    let (answer, order) = told_of(inpaint_gap(recording, 2, len, 3, &mut work));
-    show(out, title, answer, recording)?;
+    let filled = inpaint_gap(recording, 2, len, 3, &mut work);
+    let order = order_of(filled);
+    show(out, title, answer_of(filled), recording)?;
     writeln!(out, "  order {order}")
 }
 
@@ -183,7 +165,7 @@ fn take_back<W: Write>(out: &mut W, recording: &mut Recording) -> io::Result<()>
 // *Quiet*, opened over what was left in the lent memory: a gap of no sample is repaired and one of two, and taken back
 // twice.
 fn quiet<W: Write>(out: &mut W, recording: &mut Recording) -> io::Result<()> {
-    let opened = open_it(recording);
+    let opened = recording.open_as_measured();
     show(out, "open", opened, recording)?;
     gap_at_2(out, "gap of length 0", recording, 0)?;
     gap_at_2(out, "gap of length 2", recording, 2)?;
@@ -223,7 +205,7 @@ fn three_gaps<W: Write>(
 fn quiet_in_turn<W: Write>(out: &mut W) -> io::Result<()> {
     let mut memory = Memory::<6, 1, 16>::with(QUIET);
     let mut recording = memory.recording();
-    let _ = open_it(&mut recording);
+    let _ = recording.open_as_measured();
     let few = "two orders for three gaps";
     three_gaps(out, few, &mut recording, &mut [LEFT; 2])?;
     three_gaps(out, "three gaps", &mut recording, &mut [LEFT; 3])?;
@@ -239,7 +221,7 @@ fn decrackle_and_show<W: Write>(
     start: Start,
 ) -> io::Result<()> {
     let mut work = [LEFT; 20];
-    let _ = open_it(recording);
+    let _ = recording.open_as_measured();
     let answer = decrackle(recording, sensitivity, start, &mut work);
     show(out, title, answer, recording)?;
     print_words(out, "workspace", &work, 1)
@@ -264,7 +246,7 @@ fn tone<W: Write>(out: &mut W, title: &str, start: Start) -> io::Result<()> {
 fn propose<W: Write>(out: &mut W, title: &str, proposal: &[u32]) -> io::Result<()> {
     let mut memory = Memory::<3, 1, 8>::with([HALF, ONE, MINUS_TWO]);
     let mut recording = memory.recording();
-    let _ = open_it(&mut recording);
+    let _ = recording.open_as_measured();
     let answer = declip_proposed(&mut recording, 1.0, proposal);
     show(out, title, answer, &recording)?;
     take_back(out, &mut recording)
@@ -283,13 +265,11 @@ fn proposals<W: Write>(out: &mut W) -> io::Result<()> {
 fn own_numbers(samples: &[u32]) -> usize
     requires { length samples.now ≤ 4097 }
 {
-    let mut count: usize = 0;
-    for (place, word) in samples.iter().enumerate() {
-        if *word == word_of_f32(nearest_u32_to_f32(place as u32)) {
-            count += 1;
-        }
-    }
-    count
+    samples
+        .iter()
+        .enumerate()
+        .filter(|(place, word)| **word == word_of_f32(nearest_u32_to_f32(*place as u32)))
+        .count()
 }
 
 // How many samples have this mark.
@@ -304,7 +284,7 @@ fn open_and_fill(
     passes: u32,
     work: &mut [f64],
 ) -> Result<Filled, Reason> {
-    let _ = open_it(recording);
+    let _ = recording.open_as_measured();
     inpaint_gap(recording, 1, len, passes, work)
 }
 

@@ -76,7 +76,8 @@ fn print_sample<W: Write>(
     writeln!(out)
 }
 
-// Writes a line for each sample that is not measured.
+// Writes a line for each sample that is not measured. Samples, marks and orders stay apart, since the definition that
+// the promises quote (`report`) takes them one by one.
 fn print_made<W: Write>(
     out: &mut W,
     samples: &[u32],
@@ -106,9 +107,9 @@ pub fn print_scan<W: Write>(
     let Scanned {
         qualified,
         repaired,
-        refused,
+        ..
     } = scanned;
-    let refused = refused.map_or(0, |why| why.number());
+    let refused = scanned.refused_number();
     writeln!(
         out,
         "qualified {qualified} repaired {repaired} refused {refused}"

@@ -24,7 +24,7 @@ use dequant::cosparse::dequantize_cosparse;
 use dequant::passes::dequantize;
 use inpaint::auto::{HELD_RUN, inpaint_auto};
 use inpaint::gap::inpaint_gap;
-use inpaint::{Filled, Scanned};
+use inpaint::{Filled, Scanned, answer_of, order_of};
 use intake::read_full;
 use leaves::words::f32_of_word;
 use recording::marks::Mark;
@@ -98,17 +98,9 @@ impl From<Answer> for Answered {
 // The answer of a gap: beside it stands the order of its model, and 0 where it is refused.
 impl From<Result<Filled, Reason>> for Answered {
     fn from(filled: Result<Filled, Reason>) -> Answered {
-        match filled {
-            Ok(Filled { named, order }) => Answered {
-                number: 0,
-                value: named,
-                beside: order as usize,
-            },
-            Err(why) => Answered {
-                number: why.number(),
-                value: why.place(),
-                beside: 0,
-            },
+        Answered {
+            beside: order_of(filled) as usize,
+            ..answer_of(filled).into()
         }
     }
 }
@@ -117,7 +109,7 @@ impl From<Result<Filled, Reason>> for Answered {
 impl From<Scanned> for Answered {
     fn from(scanned: Scanned) -> Answered {
         Answered {
-            number: scanned.refused.map_or(0, |why| why.number()),
+            number: scanned.refused_number(),
             value: scanned.repaired,
             beside: scanned.qualified,
         }

@@ -13,7 +13,8 @@ use Rattle.leaves.proofs.Literals.{one_word}
 use Rattle.recording.specs.declared.Reason.{Reason}
 use Rattle.recording.specs.declared.Reason.TheVariants.{Setting}
 use Rattle.recording.specs.Answer.{Answer}
-use Rattle.std.specs.Prelude.{Ok, Err}
+use Rattle.std.specs.Prelude.{Ok, Err, IfOk}
+use Rattle.std.proofs.Common.{rules}
 use Rattle.inpaint.specs.Auto.{allowed, refused_number}
 use Rattle.inpaint.specs.declared.Scanned.{Scanned}
 use Rattle.monitor.specs.Scanning.{Report, report}
@@ -171,3 +172,14 @@ module _ (n : ℕ) (space samples marks orders : List ℕ) (size : ℕ) where
             omega (arith, count, fit.0),
             omega (arith, count, fit.1),
           )
+
+-- as a promise says it: where the file is written
+pub told_within : (n : ℕ) (space samples marks orders : List ℕ) (r : Repaired) (samples' marks' orders' space' : List ℕ)
+    → tells_first (Ok r) samples' marks' orders' space' ≡ told n space samples marks orders
+    → IfOk r.written (λ size. (size ≤ length space) × (r.samples ≤ length samples) × (r.samples ≤ length marks))
+told_within n space samples marks orders r samples' marks' orders' space' so = go r.written refl
+  where
+    go : (a : Answer) → r.written ≡ a
+        → IfOk a (λ size. (size ≤ length space) × (r.samples ≤ length samples) × (r.samples ≤ length marks))
+    go (Ok size) is = told_fits n space samples marks orders size r samples' marks' orders' space' so is
+    go (Err why) is = search rules

@@ -24,7 +24,9 @@ fn take_wav(file: &[u8], samples: &mut [u32], marks: &mut [u8]) -> Result<WavRea
     }
 }
 
-// Scans all samples at this rate and writes the file of what the scan leaves to the first bytes of the space.
+// Scans all samples at this rate and writes the file of what the scan leaves to the first bytes of the space. Samples,
+// marks and orders stay apart, since the definitions that the promises quote (`reported`, `tells_all`) take them one by
+// one.
 fn repair_samples(
     samples: &mut [u32],
     marks: &mut [u8],

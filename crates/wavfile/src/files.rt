@@ -5,6 +5,7 @@ ghost use Rattle.wavfile.specs.Program.{most_name};
 ghost use Rattle.wavfile.specs.Files.{Within, suffix, part_name};
 
 use super::say::{say_error, say_too_long};
+use intake::read_full;
 use std::fs::{File, OpenFile, OpenOptions, remove_file, rename};
 use std::io;
 use std::io::{ErrorKind, Read, Write};
@@ -61,28 +62,15 @@ fn end_here<F: Read>(file: &mut F) -> Result<(), Unread> {
     }
 }
 
-// One read, to the start of what is left of the space: how many bytes came, none at the file's end.
-fn load_some<F: Read>(file: &mut F, rest: &mut [u8]) -> io::Result<usize>
-    ensures { IfOk result (λ n. n ≤ length rest.new) }
-{
-    file.read(rest)
-}
-
-// Reads a file that is open to its end, to the start of the space: each read goes on where the one before it
-// ended, so that less of the space is left.
+// Reads a file that is open to its end, to the start of the space.
 fn load_open<F: Read>(file: &mut F, space: &mut [u8]) -> Result<usize, Unread>
     ensures { IfOk result (λ n. n ≤ length space.new) }
 {
-    let mut at: usize = 0;
-    while at < space.len() {
-        let more = load_some(file, &mut space[at..])?;
-        if more == 0 {
-            return Ok(at);
-        }
-        at += more;
+    let bytes = read_full(file, space)?;
+    if bytes == space.len() {
+        end_here(file)?;
     }
-    end_here(file)?;
-    Ok(at)
+    Ok(bytes)
 }
 
 // Opens the file of this name and reads it to the start of `into`.

@@ -9,7 +9,7 @@ mod report;
 mod say;
 mod scan;
 
-ghost use Rattle.std.specs.Prelude.{◌≡◌, ◌≤◌, length};
+ghost use Rattle.std.specs.Prelude.{◌≡◌, ◌≤◌, length, IfOk};
 ghost use Rattle.wavfile.specs.Program.{most_input, most_name};
 
 use bytes::repair_bytes;
@@ -40,8 +40,41 @@ struct Repaired {
     scanned: Scanned,
 }
 
+// Saves the repaired file, which stands in the first bytes of the space, under the name `to`, and then writes the
+// report, of the first places of the rooms; or says why it was not written.
+fn save_and_report<R: Files + Print, W: Write>(
+    rt: &R,
+    said: &mut W,
+    to: &[u8],
+    repaired: Repaired,
+    space: &[u8],
+    marks: &[u8],
+    orders: &[u32],
+) -> io::Result<()>
+    requires { (length to.now ≤ most_name)
+        × IfOk repaired.written (λ size. (size ≤ length space.now) × (repaired.samples ≤ length marks.now)
+        × (repaired.samples ≤ length orders.now)) }
+{
+    match repaired.written {
+        Ok(size) => {
+            if !save_file(rt, said, to, &space[..size]) {
+                return Ok(());
+            }
+            let marks = &marks[..repaired.samples];
+            let orders = &orders[..repaired.samples];
+            let mut out = io::writer(rt);
+            print_report(&mut out, repaired.rate, repaired.scanned, marks, orders)
+        }
+        Err(why) => {
+            say_refused(said, why);
+            Ok(())
+        }
+    }
+}
+
 // Repairs the file that stands in the first n bytes of the space, saves what comes of it under the name `to`, and
-// then writes the report; or says why not. The rooms are for samples, marks and the orders of the models.
+// then writes the report; or says why not. The rooms are for samples, marks and the orders of the models: they stay
+// apart, since the definitions that the promises quote (`tells_first`) take them one by one.
 fn repair_to<R: Files + Print, W: Write>(
     rt: &R,
     said: &mut W,
@@ -56,32 +89,8 @@ fn repair_to<R: Files + Print, W: Write>(
         × (length orders.old ≡ length samples.old) }
 {
     match repair_bytes(space, n, samples, marks, orders) {
-        Ok(
-            Repaired {
-                written: Ok(size),
-                samples: count,
-                rate,
-                scanned,
-            },
-        ) => {
-            if !save_file(rt, said, to, &space[..size]) {
-                return Ok(());
-            }
-            print_report(
-                &mut io::writer(rt),
-                rate,
-                scanned,
-                &marks[..count],
-                &orders[..count],
-            )
-        }
-        Ok(
-            Repaired {
-                written: Err(why),
-                ..
-            },
-        )
-        | Err(why) => {
+        Ok(repaired) => save_and_report(rt, said, to, repaired, space, marks, orders),
+        Err(why) => {
             say_refused(said, why);
             Ok(())
         }

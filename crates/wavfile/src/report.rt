@@ -46,7 +46,7 @@ fn print_stretch<W: Write>(
 }
 
 // Writes a line for each stretch of samples that are not measured. Each stretch begins where the one before it
-// ended, so that the loop goes on by a whole one.
+// ended: a `while` steps by a whole one, where a `for` would look at every place of it.
 fn print_stretches<W: Write>(out: &mut W, marks: &[u8], orders: &[u32]) -> io::Result<()>
     requires { length orders.now ≡ length marks.now }
 {
@@ -66,9 +66,9 @@ fn print_counts<W: Write>(out: &mut W, scanned: Scanned) -> io::Result<()> {
     let Scanned {
         qualified,
         repaired,
-        refused,
+        ..
     } = scanned;
-    let refused = refused.map_or(0, |why| why.number());
+    let refused = scanned.refused_number();
     writeln!(
         out,
         "qualified {qualified} repaired {repaired} refused {refused}"

@@ -5,4 +5,4 @@ use Rattle.repair.proofs.repair_recording.Goals as goal
 
 pub returns-clause-rule : goal.returns-clause-rule
 unfolding repairing repairing_orders
-returns-clause-rule c = opened_then _ _ _ _ _ _ _ c.«open».ensures c.scan_recording.ensures.rule
+returns-clause-rule c = opened_then _ _ _ _ _ _ _ c.open_as_measured.ensures.rule c.scan_recording.ensures.rule

@@ -4,4 +4,4 @@ use Rattle.wavfile.proofs.scan.scan_opened.Goals as goal
 
 pub returns-clause-rule : goal.returns-clause-rule
 returns-clause-rule c =
-    scanned_so _ _ _ _ _ _ _ _ c.«open».ensures (c.inpaint_auto.ensures.rule, c.inpaint_auto.ensures.orders)
+    scanned_so _ _ _ _ _ _ _ _ c.open_as_measured.ensures.rule (c.inpaint_auto.ensures.rule, c.inpaint_auto.ensures.orders)
