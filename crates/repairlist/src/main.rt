@@ -336,7 +336,8 @@ struct Tally {
     agreeing: usize,
 }
 
-// Goes through the list, case after case.
+// Goes through the list, case after case. A case is as long as its own head says, so that the walk steps by what is
+// left and counts no place.
 fn count_cases(list: &[u8], kind: Kind) -> Tally {
     let mut cases: usize = 0;
     let mut agreeing: usize = 0;
