@@ -97,5 +97,5 @@ pub fn declip(recording: &mut Recording, threshold: f32, work: &mut [u32]) -> An
 {
     begin(recording, threshold_allowed(threshold), work)?;
     bridge_runs(recording, threshold, work);
-    finish(recording, work, Mark::CubicDeclip)
+    finish(recording, work, Mark::CubicDeclip as u8)
 }

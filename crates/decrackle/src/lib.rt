@@ -8,7 +8,6 @@ ghost use Rattle.std.specs.Float.{binary32};
 ghost use Rattle.std.specs.Float.Ieee.{to_bits};
 ghost use Rattle.recording.specs.Recording.{ended, most_samples, work_after};
 ghost use Rattle.recording.specs.Lent.{held, SameMemory};
-ghost use Rattle.recording.specs.Marks.{byte_of};
 ghost use Rattle.recording.specs.Inner.{flags};
 ghost use Rattle.redraw.specs.Whole.{drawn, untouched, needed};
 ghost use Rattle.redraw.specs.Inner.{words_in, flags_in, drawn_in, flag_word, flagged_at, Holds, Room};
@@ -226,12 +225,12 @@ fn draw(recording: &Recording, sensitivity: f32, start: Start, work: &mut [u32])
 }
 
 // The mark of what is redrawn, which tells where the floor started.
-fn mark_for(start: Start) -> Mark
-    ensures { byte_of result ≡ mark_for start }
+fn mark_for(start: Start) -> u8
+    ensures { result ≡ mark_for start }
 {
     match start {
-        Start::Mean => Mark::DecrackleFromMean,
-        Start::Old => Mark::Decrackle,
+        Start::Mean => Mark::DecrackleFromMean as u8,
+        Start::Old => Mark::Decrackle as u8,
     }
 }
 

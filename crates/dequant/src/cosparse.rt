@@ -122,5 +122,5 @@ pub fn dequantize_cosparse(
 {
     begin(recording, !strength.is_nan(), work)?;
     draw(work, recording.samples.len(), bits, strength, iterations);
-    finish(recording, work, Mark::Dequantize)
+    finish(recording, work, Mark::Dequantize as u8)
 }

@@ -103,5 +103,5 @@ pub fn dequantize(recording: &mut Recording, bits: u32, strength: f32, work: &mu
 {
     begin(recording, !strength.is_nan(), work)?;
     draw(work, recording.samples.len(), bits, strength);
-    finish(recording, work, Mark::Dequantize)
+    finish(recording, work, Mark::Dequantize as u8)
 }

@@ -85,7 +85,7 @@ pub fn repair_by_model(
     let order = fill_by_model(work, size, start - window_from(start, len), len, p) as u32;
     let at = results_at(size, len, p);
     check_results(&work[at..at + len], start)?;
-    let named = recording.enter_span(start, len, Mark::GapByModel)?;
+    let named = recording.enter_span(start, len, Mark::GapByModel as u8)?;
     model_fill(
         &mut recording.samples[start..start + len],
         &work[at..at + len],

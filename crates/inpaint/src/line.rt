@@ -83,7 +83,7 @@ pub fn repair_by_line(recording: &mut Recording, start: usize, len: usize) -> Re
     let left = left_of(samples, start);
     let right = right_of(samples, end);
     check_line(left, right, len, start)?;
-    let named = recording.enter_span(start, len, Mark::GapByLine)?;
+    let named = recording.enter_span(start, len, Mark::GapByLine as u8)?;
     line_fill(&mut recording.samples[start..end], left, right);
     Ok(Filled { named, order: 0 })
 }

@@ -3,13 +3,11 @@
 ghost use Rattle.std.specs.Prelude.{ℕ, ◌+◌, ◌*◌, ◌≤◌, ◌<◌, ◌≡◌, List, [], ◌∷◌, length};
 ghost use Rattle.std.proofs.lemmas.List.Edits.{sets};
 ghost use Rattle.recording.specs.Recording.{ended, most_samples, places, put, each, saved, three_words, entered, ranged, change, span, carried};
-ghost use Rattle.recording.specs.Marks.{byte_of};
 ghost use Rattle.recording.specs.Lent.{held, SameMemory};
 ghost use Rattle.recording.specs.Inner.{Fits, consecutive, filled, picked_by};
 
 use super::clear::set_all;
 use super::counts::recount;
-use super::marks::Mark;
 use super::{Answer, Reason, Recording};
 use leaves::words::in_range;
 
@@ -58,12 +56,12 @@ fn save_span(
 impl Recording<'_> {
     // Refusal 9 for a repair that names the len samples from `start` on, and else all of its commit but the
     // new words: they are the caller's to write, whatever they are.
-    pub fn enter_span(&mut self, start: usize, len: usize, mark: Mark) -> Answer
+    pub fn enter_span(&mut self, start: usize, len: usize, mark: u8) -> Answer
         requires { Fits (held self.old) × (start + len ≤ length self.old.samples.now) }
         ensures memory { SameMemory self.old self.new }
         ensures samples { self.new.samples.now ≡ self.old.samples.now }
         ensures rule { (words : List ℕ) → length words ≡ len
-            → ended result (filled result start words (held self.new)) ≡ entered (held self.old) (byte_of mark) (span start words) }
+            → ended result (filled result start words (held self.new)) ≡ entered (held self.old) mark (span start words) }
     {
         if len == 0 {
             return Ok(0);
@@ -72,26 +70,25 @@ impl Recording<'_> {
         if self.journal.len() - at < 3 * len + 2 {
             return Err(Reason::Room);
         }
-        let byte = mark.byte();
         let samples = &mut *self.samples;
         let marks = &mut *self.marks;
         let counts = &mut *self.counts;
         let journal = &mut *self.journal;
         let used = &mut *self.used;
         save_span(samples, marks, journal, at, start, len);
-        set_all(marks, start, len, byte);
+        set_all(marks, start, len, mark);
         recount(marks, counts, journal, at, len);
-        seal(journal, used, len, byte);
+        seal(journal, used, len, mark);
         Ok(len)
     }
 
     // Commits a repair whose named samples and new words stand in a workspace of 2n words (see `picked_by`):
     // refusals 8 and 9 in their order, and else the entry, the marks, the counts and the words.
-    pub fn commit_picked(&mut self, work: &[u32], mark: Mark) -> Answer
+    pub fn commit_picked(&mut self, work: &[u32], mark: u8) -> Answer
         requires { Fits (held self.old) × (length self.old.samples.now + length self.old.samples.now ≤ length work.now) }
         ensures memory { SameMemory self.old self.new }
         ensures rule { ended result (held self.new)
-            ≡ carried (held self.old) (change (byte_of mark) (picked_by work.now (length self.old.samples.now))) }
+            ≡ carried (held self.old) (change mark (picked_by work.now (length self.old.samples.now))) }
     {
         let n = self.samples.len();
         check_picked(work, n)?;
@@ -103,16 +100,15 @@ impl Recording<'_> {
         if self.journal.len() - at < 3 * m + 2 {
             return Err(Reason::Room);
         }
-        let byte = mark.byte();
         let samples = &mut *self.samples;
         let marks = &mut *self.marks;
         let counts = &mut *self.counts;
         let journal = &mut *self.journal;
         let used = &mut *self.used;
         save_picked(samples, marks, journal, at, work);
-        write_picked(samples, marks, work, byte);
+        write_picked(samples, marks, work, mark);
         recount(marks, counts, journal, at, m);
-        seal(journal, used, m, byte);
+        seal(journal, used, m, mark);
         Ok(m)
     }
 }

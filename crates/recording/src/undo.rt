@@ -31,7 +31,7 @@ fn saved_wrong(journal: &[u32], begin: usize, m: usize, n: usize) -> bool
     false
 }
 
-// Refusal 11's test of the last entry, clause by clause, for a recording of n samples.
+// Refusal 11's test of the last entry, clause by clause, for a recording of n samples, of which it needs no more.
 fn last_malformed(n: usize, journal: &[u32], used: usize) -> bool
     requires { (0 < used) × (used ≤ length journal.now) }
     ensures { result ≡ malformed n journal.now used }

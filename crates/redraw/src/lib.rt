@@ -4,7 +4,6 @@
 
 ghost use Rattle.std.specs.Prelude.{◌≡◌, ℕ, ◌+◌, ◌-◌, ◌*◌, ◌≤◌, ◌<◌, Bool, length};
 ghost use Rattle.recording.specs.Recording.{ended, change, carried, cleared};
-ghost use Rattle.recording.specs.Marks.{byte_of};
 ghost use Rattle.recording.specs.Lent.{held, SameMemory};
 ghost use Rattle.recording.specs.Inner.{Fits, picked_by};
 ghost use Rattle.recording.specs.Runs.{begins, run_length};
@@ -13,7 +12,6 @@ ghost use Rattle.redraw.specs.Runs.{Decides};
 ghost use Rattle.redraw.specs.Inner.{begun, Begun, Holds};
 
 use recording::clear::set_all;
-use recording::marks::Mark;
 use recording::read::check_words;
 use recording::{Answer, Reason, Recording};
 
@@ -45,11 +43,11 @@ pub fn begin(recording: &Recording, allowed: bool, work: &mut [u32]) -> Answer
 }
 
 // Refusals 8 and 9 and the commit of what the workspace holds; the part of it that was needed is cleared.
-pub fn finish(recording: &mut Recording, work: &mut [u32], mark: Mark) -> Answer
+pub fn finish(recording: &mut Recording, work: &mut [u32], mark: u8) -> Answer
     requires { Fits (held recording.old) × (needed (length recording.old.samples.now) ≤ length work.old) }
     ensures memory { SameMemory recording.old recording.new }
     ensures rule { ended result (held recording.new)
-        ≡ carried (held recording.old) (change (byte_of mark) (picked_by work.old (length recording.old.samples.now))) }
+        ≡ carried (held recording.old) (change mark (picked_by work.old (length recording.old.samples.now))) }
     ensures work { work.new ≡ cleared 0 (needed (length recording.old.samples.now)) work.old }
 {
     let n = recording.samples.len();

@@ -165,7 +165,8 @@ impl Kind {
     }
 }
 
-// The number that an ASCII digit stands for; any other byte counts as 0.
+// The number that an ASCII digit stands for; any other byte counts as 0. (`replay` reads digits for itself: what
+// the programs within the gate read is text of their own, of which no library speaks.)
 fn digit(c: u8) -> u8
     ensures { result ≤ 15 }
 {

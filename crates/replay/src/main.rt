@@ -137,10 +137,10 @@ fn agrees(line: &[u8]) -> bool
     answer(leaf, number(&line[2..18])) == number(&line[19..35])
 }
 
-// How many lines with this letter agree.
-fn agreeing(list: &[u8], letter: u8) -> usize {
+// How many lines of this leaf agree.
+fn agreeing(list: &[u8], leaf: Leaf) -> usize {
     list.chunks_exact(LINE)
-        .filter(|line| line[0] == letter && agrees(line))
+        .filter(|line| Leaf::try_from(line[0]) == Ok(leaf) && agrees(line))
         .count()
 }
 
@@ -153,8 +153,8 @@ fn first_that_differs(list: &[u8]) -> usize {
 // Writes how many lines there are, how many of them agree for each leaf, and the first that does not.
 fn print_report<W: Write>(out: &mut W, list: &[u8]) -> io::Result<()> {
     writeln!(out, "lines {}", list.len() / LINE)?;
-    for (letter, _, name) in LEAVES.iter() {
-        writeln!(out, "{name} {}", agreeing(list, *letter))?;
+    for (_, leaf, name) in LEAVES.iter() {
+        writeln!(out, "{name} {}", agreeing(list, *leaf))?;
     }
     writeln!(out, "first line that differs {}", first_that_differs(list))
 }

@@ -11,7 +11,7 @@ use recording::{Answer, Reason};
 use wire::{decode, word_at};
 
 // Whether the bytes are a block of so many settings: a version, a contents table, and a body of one word for
-// each.
+// each. The table is tested first and for itself, since only then a length may be asked for.
 fn is_formed(block: &[u8], count: usize) -> bool
     requires { count ≤ parts }
     ensures { result ≡ formed count block.now }

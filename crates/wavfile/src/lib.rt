@@ -31,7 +31,8 @@ pub const MOST_SAMPLES: usize = 262_144;
 pub const MOST_BYTES: usize = 655_360;
 
 // What the repair of a file in memory gives: how the writing of the repaired one ended, with the bytes of the file
-// that stands there now; how many samples there are, at which rate; and what the scan counted.
+// that stands there now; how many samples there are, at which rate; and what the scan counted. The answer stands
+// beside the figures, since `tells_all`, which the promise cites, tells them also where the writing is refused.
 #[derive(Clone, Copy)]
 struct Repaired {
     written: Answer,

@@ -16,7 +16,8 @@ fn is_alike(marks: &[u8], orders: &[u32], start: usize, i: usize) -> bool
 }
 
 // Where the longest stretch of places from `start` on ends that have its mark and its order: one place after the
-// other is looked at, up to the first that is other.
+// other is looked at, up to the first that is other. (It is no `run_end` of the repairs: the promise cites
+// `stretch_end`, which the report is read by, and no run of a recording.)
 fn stretch_end(marks: &[u8], orders: &[u32], start: usize) -> usize
     requires { (start < length marks.now) × (length orders.now ≡ length marks.now) }
     ensures { result ≡ stretch_end marks.now orders.now start }

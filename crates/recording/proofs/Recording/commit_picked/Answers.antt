@@ -55,7 +55,6 @@ returns-clause-rule c =
     let entry = c.seal.ensures in
     let written = c.write_picked.ensures in
     let count = c.count_picked-m.ensures in
-    rw (← c.byte-byte.ensures)
-    (entered_done (held c.args.self.now) _ _ (λ (none : _). c.if-m-eq0.false (count ∙ none)) _ _ _ _ _ _ _ count c.if-self-at.false
+    entered_done (held c.args.self.now) _ _ (λ (none : _). c.if-m-eq0.false (count ∙ none)) _ _ _ _ _ _ _ count c.if-self-at.false
     written.0 written.1 c.save_picked.ensures c.recount.ensures entry.0 entry.1
-    ∙ carried_on _ _ _ _ _ c.check_picked.ensures c.in_ok-check_picked.was)
+    ∙ carried_on _ _ _ _ _ c.check_picked.ensures c.in_ok-check_picked.was

@@ -18,6 +18,6 @@ pub returns-clause-rule : goal.returns-clause-rule
 returns-clause-rule c =
     let marks = c.set_all.ensures in
     let entry = c.seal.ensures in
-    rw (← c.byte-byte.ensures) (λ words count.
+    λ words count.
     span_entered _ _ _ _ words count c.if-len-eq0.false _ _ _ _ _ c.if-self-at.false marks c.save_span.ensures
-    c.recount.ensures entry.0 entry.1)
+    c.recount.ensures entry.0 entry.1
