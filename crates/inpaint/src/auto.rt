@@ -163,10 +163,9 @@ fn run_qualifies(n: usize, most: usize, held: usize, word: u32, start: usize, le
 // place, and the inner one follows a run that begins there to its end. A run that reaches the recording's
 // end does not qualify, so that the inner scan has nothing to say of it. Each run is followed once, and what
 // stands before place `from`, where a gap may have been filled, is not looked at.
-pub fn next_run(recording: &Recording, most: usize, held: usize, from: usize) -> Option<Stretch>
-    ensures { result ≡ next_run recording.now.samples.now most held from }
+pub fn next_run(samples: &[u32], most: usize, held: usize, from: usize) -> Option<Stretch>
+    ensures { result ≡ next_run samples.now most held from }
 {
-    let samples = &*recording.samples;
     let n = samples.len();
     let mut found = None;
     // The requirements name this form: a label leaves both scans at once, with the run found.
@@ -189,6 +188,13 @@ pub fn next_run(recording: &Recording, most: usize, held: usize, from: usize) ->
         }
     }
     found
+}
+
+// The same of what a recording holds, which is only read.
+fn next_gap(recording: &Recording, most: usize, held: usize, from: usize) -> Option<Stretch>
+    ensures { result ≡ next_run recording.now.samples.now most held from }
+{
+    next_run(recording.samples, most, held, from)
 }
 
 // Refusals 1, 14, 2, 3 and 4, in this order; accepted, with 0, where none of them applies.
@@ -249,7 +255,7 @@ fn repair_runs(
     let mut at: usize = 0;
     loop {
         // The requirements name this form: let-else takes the answer apart into start and length, or ends the scan.
-        let Some(Stretch { start, len }) = next_run(recording, most, held, at) else {
+        let Some(Stretch { start, len }) = next_gap(recording, most, held, at) else {
             break;
         };
         let filled = inpaint_gap(recording, start, len, PASSES, work);

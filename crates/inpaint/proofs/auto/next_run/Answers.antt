@@ -18,11 +18,11 @@ pub loop-end-preserved : goal.loop-end-preserved
 loop-end-preserved c =
     let followed = c.loop-end.invariant in
     let met = sym c.continues_run.ensures ∙ not-false _ (ap not c.if-not-continues_run.false) in
-    (followed.0, run_more (continues_at c.args.recording.now.samples.now) _ _ _ c.loop-end-test.true met followed.1)
+    (followed.0, run_more (continues_at c.args.samples.now) _ _ _ c.loop-end-test.true met followed.1)
 
 pub search-preserved : goal.search-preserved
 search-preserved c =
-    let test = continues_at c.args.recording.now.samples.now in
+    let test = continues_at c.args.samples.now in
     elim c.if-run_begins.branch [
       | then-run_begins+else-loop-end-test w ↦
           let ends = run_ends test _ _ _ w.loop-end-test.false w.loop-end.invariant.1 in (
@@ -50,5 +50,5 @@ pub returns-then-run_qualifies : goal.returns-then-run_qualifies
 returns-then-run_qualifies c =
     let none = sym c.continues_run.ensures ∙ not-true _ (ap not c.if-not-continues_run.true) in
     search_finds _ _ _ _ _ _ c.search-test.true c.search.invariant.1 _
-    (run_stops (continues_at c.args.recording.now.samples.now) _ _ _ c.loop-end-test.true none c.loop-end.invariant.1) _ _ _
+    (run_stops (continues_at c.args.samples.now) _ _ _ c.loop-end-test.true none c.loop-end.invariant.1) _ _ _
     c.run_begins.ensures c.if-run_begins.true c.run_qualifies.ensures c.if-run_qualifies.true c.kept_of-kept.ensures

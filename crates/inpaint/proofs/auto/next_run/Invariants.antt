@@ -8,10 +8,10 @@ use Rattle.inpaint.proofs.auto.next_run.Given as goal
 
 abbrev pub invariant-loop-end : goal.invariant-loop-end
 invariant-loop-end l =
-    let samples = l.recording.samples.now in
+    let samples = l.samples in
     (l.found ≡ None) × (l.end + more samples l.end ≡ l.start + 1 + more samples (l.start + 1))
 
 abbrev pub invariant-search : goal.invariant-search
 invariant-search l =
-    let samples = l.recording.samples.now in
+    let samples = l.samples in
     (l.found ≡ None) × (searched samples l.most l.held l.from l.start ≡ next_run samples l.most l.held l.from)

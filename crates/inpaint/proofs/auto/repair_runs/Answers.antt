@@ -25,28 +25,28 @@ pub overflow_add-qualified : goal.overflow_add-qualified
 overflow_add-qualified c =
     let gap = c.in-Some.field-0 in
     let run_found : (c.loop-start.at < gap.start + gap.len) × (gap.start + gap.len < length c.loop-start.recording.samples.now) =
-    found_within _ _ _ _ gap.start gap.len (sym c.next_run.ensures ∙ c.in-Some.is) in
+    found_within _ _ _ _ gap.start gap.len (sym c.next_gap.ensures ∙ c.in-Some.is) in
     omega (arith, run_found, c.requires, c.loop-start.invariant.0, c.loop-start.invariant.1)
 
 pub overflow_add-repaired : goal.overflow_add-repaired
 overflow_add-repaired c =
     let gap = c.in-Some.field-0 in
     let run_found : (c.loop-start.at < gap.start + gap.len) × (gap.start + gap.len < length c.loop-start.recording.samples.now) =
-    found_within _ _ _ _ gap.start gap.len (sym c.next_run.ensures ∙ c.in-Some.is) in
+    found_within _ _ _ _ gap.start gap.len (sym c.next_gap.ensures ∙ c.in-Some.is) in
     omega (arith, run_found, c.requires, c.loop-start.invariant.0, c.loop-start.invariant.1, c.loop-start.invariant.2)
 
 pub overflow_add-at : goal.overflow_add-at
 overflow_add-at c =
     let gap = c.in-Some.field-0 in
     let run_found : (c.loop-start.at < gap.start + gap.len) × (gap.start + gap.len < length c.loop-start.recording.samples.now) =
-    found_within _ _ _ _ gap.start gap.len (sym c.next_run.ensures ∙ c.in-Some.is) in
+    found_within _ _ _ _ gap.start gap.len (sym c.next_gap.ensures ∙ c.in-Some.is) in
     omega (arith, run_found, c.requires, c.loop-start.invariant.3)
 
 pub loop-start-smaller : goal.loop-start-smaller
 loop-start-smaller c =
     let gap = c.in-Some.field-0 in
     let run_found : (c.loop-start.at < gap.start + gap.len) × (gap.start + gap.len < length c.loop-start.recording.samples.now) =
-    found_within _ _ _ _ gap.start gap.len (sym c.next_run.ensures ∙ c.in-Some.is) in
+    found_within _ _ _ _ gap.start gap.len (sym c.next_gap.ensures ∙ c.in-Some.is) in
     omega (arith, run_found, c.loop-start.invariant.3)
 
 pub loop-start-preserved : goal.loop-start-preserved
@@ -54,9 +54,9 @@ loop-start-preserved c =
     let gap = c.in-Some.field-0 in
     let i = c.loop-start.invariant in
     let s = held c.loop-start.recording in
-    let found = sym c.next_run.ensures ∙ c.in-Some.is in
+    let found = sym c.next_gap.ensures ∙ c.in-Some.is in
     let run_found : (c.loop-start.at < gap.start + gap.len) × (gap.start + gap.len < length c.loop-start.recording.samples.now) =
-    found_within _ _ _ _ gap.start gap.len (sym c.next_run.ensures ∙ c.in-Some.is) in
+    found_within _ _ _ _ gap.start gap.len (sym c.next_gap.ensures ∙ c.in-Some.is) in
     let rule = c.inpaint_gap-filled.ensures.rule in
     let same = c.inpaint_gap-filled.ensures.memory in
     let answer = answer_of c.inpaint_gap-filled.result in
@@ -89,10 +89,10 @@ loop-start-preserved c =
 
 pub returns-clause-rule : goal.returns-clause-rule
 returns-clause-rule c =
-    let ends = sym c.next_run.ensures ∙ c.in_default.is in
+    let ends = sym c.next_gap.ensures ∙ c.in_default.is in
     sym (scan_stops _ _ _ _ _ ends) ∙ c.loop-start.invariant.5
 
 pub returns-clause-orders : goal.returns-clause-orders
 returns-clause-orders c =
-    let ends = sym c.next_run.ensures ∙ c.in_default.is in
+    let ends = sym c.next_gap.ensures ∙ c.in_default.is in
     orders_none _ _ _ _ _ (held c.loop-start.recording) _ _ c.loop-start.invariant.3 ends c.loop-start.invariant.6
