@@ -155,22 +155,23 @@ fn in_capitals(name: &str) -> String {
     name.char_indices().flat_map(letter).collect::<String>().to_uppercase()
 }
 
-/// The names and numbers that the sources have: each mark is a constant, and each reason's number a line of a match.
+/// The names and numbers that the sources have: each mark is a line of an enum, each reason's number a line of a match.
 fn in_sources() -> BTreeMap<String, u64> {
     let marks = text("crates/recording/src/marks.rt");
-    let marks =
-        marks.lines().filter_map(|line| line.strip_prefix("pub const ")?.trim_end_matches(';').split_once(": u8 = "));
+    let (_, marks) = marks.split_once("pub enum Mark {").expect("the marks are an enum");
+    let (marks, _) = marks.split_once("\n}").expect("the enum ends");
+    let marks = marks.lines().filter_map(|line| line.trim().trim_end_matches(',').split_once(" = "));
     let mut found: BTreeMap<String, u64> =
-        marks.map(|(name, mark)| (format!("CATHAR_MARK_{name}"), number(mark))).collect();
+        marks.map(|(name, mark)| (format!("CATHAR_MARK_{}", in_capitals(name)), number(mark))).collect();
     let numbers = text("crates/recording/src/numbers.rt");
-    let (reasons, _) = numbers.split_once("fn reason_place").expect("the numbers stand before the places");
+    let (reasons, _) = numbers.split_once("fn place").expect("the numbers stand before the places");
     for line in reasons.lines().filter_map(|line| line.trim().strip_prefix("Reason::")) {
         let (name, of) = line.trim_end_matches(',').split_once(" => ").expect("a number for each reason");
         let name = in_capitals(name.trim_end_matches("(_)"));
         found.insert(format!("CATHAR_REFUSED_{name}"), number(of));
     }
-    assert!(numbers.contains("Answer::Done(_) => 0,"), "an acceptance is 0");
-    assert!(text("crates/leaves/src/words.rt").contains("if -65536.0 <= x { x <= 65536.0 }"), "what is in range");
+    assert!(numbers.contains("Ok(_) => 0,"), "an acceptance is 0");
+    assert!(text("crates/leaves/src/words.rt").contains("-65536.0 <= x && x <= 65536.0"), "what is in range");
     found.insert(String::from("CATHAR_ACCEPTED"), 0);
     found.insert(String::from("CATHAR_LOUDEST"), 65_536);
     for (name, of, source) in [

@@ -1,14 +1,13 @@
 -- The workspace of a repair of n samples: what it holds after a store, and what is read from it. Assumes nothing.
 use mathlib.Core.Path.{◌≡◌, refl, sym, ap, ◌∙◌}
 use mathlib.Core.Bool.{Bool, true, false, not}
-use mathlib.Core.List.{List, [], ◌∷◌, ◌++◌}
+use mathlib.Core.List.{List, [], ◌∷◌}
 use Prim.Native.Nat.{ℕ, zero, suc, ◌+◌, ◌≤◌, ◌<◌}
 use native.Mathlib.Omega.{arith}
 use lib.Dec.{eqb}
 use lib.ListN.{length, get_or, set, take, drop, replicate, length-replicate, get_or-map}
 use lib.Seq.{sets, take-set-le, take-set-lt, drop-set-lt, drop-set-add, get_or-take, get_or-drop, drop-drop}
 use lib.Seq.{length-take-le, length-sets}
-use Rattle.std.proofs.lemmas.List.Edits.{sets-eq}
 use Rattle.leaves.proofs.Parts.{take-sets, drop-sets, part_of_sets, part_length}
 use Rattle.recording.specs.Inner.{flags}
 use Rattle.redraw.specs.Whole.{Drawn, drawn, untouched, needed}
@@ -97,30 +96,16 @@ no_flags : (n : ℕ) → flags (replicate n 0) ≡ replicate n false
 no_flags zero = refl
 no_flags (suc n) = ap (λ (bs : List Bool). false ∷ bs) (no_flags n)
 
-take_none : (l : List ℕ) → take 0 l ≡ []
-take_none [] = refl
-take_none (x ∷ l) = refl
-
--- they are copied to the front, and the flags behind them cleared
-pub laid_out_lem : (samples w copied u : List ℕ) → needed (length samples) ≤ length w → copied ≡ samples
-    → u ≡ sets (copied ++ drop (length samples) w) (length samples) (replicate (length samples) 0) → Holds (length samples) (untouched samples) w u
-laid_out_lem samples w copied u room ec eu = record { holds = held; keeps = kept }
+-- they stand at the front, and the flags behind them are cleared
+pub laid_out_lem : (samples w v u : List ℕ) → needed (length samples) ≤ length w → v ≡ sets w 0 samples
+    → u ≡ sets v (length samples) (replicate (length samples) 0) → Holds (length samples) (untouched samples) w u
+laid_out_lem samples w v u room ev eu = record { holds = held; keeps = kept }
   where
     n : ℕ
     n = length samples
 
     zeros : List ℕ
     zeros = replicate n 0
-
-    v : List ℕ
-    v = copied ++ drop n w
-
-    ev : v ≡ sets w 0 samples
-    ev =
-        let front : sets w 0 samples ≡ take 0 w ++ samples ++ drop (0 + n) w = sets-eq samples w 0 (omega arith) in
-        let place : 0 + n ≡ n = omega arith in
-        ap (λ (l : List ℕ). l ++ drop n w) ec
-        ∙ sym (front ∙ ap (λ (l : List ℕ). l ++ samples ++ drop (0 + n) w) (take_none w) ∙ ap (λ (k : ℕ). samples ++ drop k w) place)
 
     count : length v ≡ length w
     count = ap length ev ∙ length-sets w 0 samples

@@ -15,13 +15,16 @@ use recording::clear::set_all;
 use recording::read::check_words;
 use recording::{Answer, Reason, Recording};
 
-// Lays the samples out in the workspace, with none of them named.
+// Lays the samples out in the workspace, with none of them named. One is stored after the other: the slice's own copy
+// asks the C library for memmove, and include/cathar.h says that it is asked for memset alone.
 fn lay_out(samples: &[u32], work: &mut [u32])
     requires { needed (length samples.now) ≤ length work.old }
     ensures { Holds (length samples.now) (untouched samples.now) work.old work.new }
 {
     let n = samples.len();
-    work[..n].copy_from_slice(samples);
+    for (i, sample) in samples.iter().enumerate() {
+        work[i] = *sample;
+    }
     set_all(work, n, n, 0);
 }
 
