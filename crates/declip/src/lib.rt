@@ -15,7 +15,7 @@ use leaves::order::magnitude;
 use leaves::words::{count_as_f32, f32_of_word, word_of_f32};
 use recording::marks::Mark;
 use recording::{Answer, Recording};
-use redraw::{begin, finish, run_begins, run_end};
+use redraw::{begin_held, finish, run_begins, run_end};
 
 // How far a fill reaches to either side of a run.
 const SHOULDER: usize = 4;
@@ -95,7 +95,7 @@ pub fn declip(recording: &mut Recording, threshold: f32, work: &mut [u32]) -> An
     ensures rule { ended result (held recording.new) ≡ declip_repair threshold (length work.old) (held recording.old) }
     ensures work { work.new ≡ work_after 0 (needed (length recording.old.samples.now)) result work.old }
 {
-    begin(recording, threshold_allowed(threshold), work)?;
+    begin_held(recording, threshold_allowed(threshold), work)?;
     bridge_runs(recording, threshold, work);
     finish(recording, work, Mark::CubicDeclip as u8)
 }

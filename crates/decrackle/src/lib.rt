@@ -20,7 +20,7 @@ use leaves::order::{clamp, larger, magnitude};
 use leaves::words::{count_as_f32, f32_of_word, word_of_f32};
 use recording::marks::Mark;
 use recording::{Answer, Recording};
-use redraw::{begin, finish, run_begins, run_end};
+use redraw::{begin_held, finish, run_begins, run_end};
 
 // A shorter recording has nothing named.
 pub const LEAST_SAMPLES: usize = 8;
@@ -245,7 +245,7 @@ pub fn decrackle(
     ensures rule { ended result (held recording.new) ≡ decrackle_repair start sensitivity (length work.old) (held recording.old) }
     ensures work { work.new ≡ work_after 0 (needed (length recording.old.samples.now)) result work.old }
 {
-    begin(recording, !sensitivity.is_nan(), work)?;
+    begin_held(recording, !sensitivity.is_nan(), work)?;
     draw(recording, sensitivity, start, work);
     finish(recording, work, mark_for(start))
 }

@@ -14,7 +14,7 @@ use leaves::order::{clamp, magnitude};
 use leaves::words::{f32_of_word, word_of_f32};
 use recording::marks::Mark;
 use recording::{Answer, Recording};
-use redraw::{begin, finish};
+use redraw::{begin_held, finish};
 
 // `dequantize_cosparse` needs so many samples, and leaves so many alone at either end.
 const LEAST_SAMPLES: usize = 5;
@@ -120,7 +120,7 @@ pub fn dequantize_cosparse(
         ≡ cosparse_repair bits strength iterations (length work.old) (held recording.old) }
     ensures work { work.new ≡ work_after 0 (needed (length recording.old.samples.now)) result work.old }
 {
-    begin(recording, !strength.is_nan(), work)?;
+    begin_held(recording, !strength.is_nan(), work)?;
     draw(work, recording.samples.len(), bits, strength, iterations);
     finish(recording, work, Mark::Dequantize as u8)
 }

@@ -12,7 +12,7 @@ use super::lattice::{name_inner, reaches, snapshot, step_of, strength_of, target
 use leaves::words::{f32_of_word, word_of_f32};
 use recording::marks::Mark;
 use recording::{Answer, Recording};
-use redraw::{begin, finish};
+use redraw::{begin_held, finish};
 
 // `dequantize` needs so many samples, and leaves so many alone at either end.
 const LEAST_SAMPLES: usize = 3;
@@ -101,7 +101,7 @@ pub fn dequantize(recording: &mut Recording, bits: u32, strength: f32, work: &mu
     ensures rule { ended result (held recording.new) ≡ dequantize_repair bits strength (length work.old) (held recording.old) }
     ensures work { work.new ≡ work_after 0 (needed (length recording.old.samples.now)) result work.old }
 {
-    begin(recording, !strength.is_nan(), work)?;
+    begin_held(recording, !strength.is_nan(), work)?;
     draw(work, recording.samples.len(), bits, strength);
     finish(recording, work, Mark::Dequantize as u8)
 }

@@ -155,8 +155,8 @@ fn run_qualifies(n: usize, most: usize, held: usize, word: u32, start: usize, le
     requires { (1 ≤ len) × (start + len ≤ n) }
     ensures { result ≡ qualifies n most held word start len }
 {
-    let kept = kept_of(word);
-    is_long_enough(held, word, len) && is_gap_allowed(n, most, start + kept, len - kept)
+    is_long_enough(held, word, len)
+        && is_gap_allowed(n, most, start + kept_of(word), len - kept_of(word))
 }
 
 // The gap of the first run from place `from` on that meets every condition: the outer scan looks at each

@@ -2,8 +2,8 @@
 // their blocks are recounted.
 ghost use Rattle.std.specs.Prelude.{ℕ, ◌+◌, ◌*◌, ◌≤◌, ◌<◌, ◌≡◌, List, [], ◌∷◌, length};
 ghost use Rattle.std.proofs.lemmas.List.Edits.{sets};
-ghost use Rattle.recording.specs.Recording.{ended, most_samples, places, put, each, saved, three_words, entered, ranged, change, span, carried};
-ghost use Rattle.recording.specs.Lent.{held, SameMemory};
+ghost use Rattle.recording.specs.Recording.{state, ended, most_samples, places, put, each, saved, three_words, entered, ranged, change, span, carried};
+ghost use Rattle.recording.specs.Lent.{held, SameMemory, lent_reading, left_reading};
 ghost use Rattle.recording.specs.Inner.{Fits, consecutive, filled, picked_by};
 
 use super::clear::set_all;
@@ -53,9 +53,42 @@ fn save_span(
     }
 }
 
+// Refusal 9 for a repair that names the len samples from `start` on, and else all of its commit but the
+// new words: they are the caller's to write, whatever they are. The samples are only read. (Inlined at each of its two
+// calls, as it was before: else the programs, which never read their journal, have to keep it in memory.)
+#[inline(always)]
+pub fn enter_span(
+    samples: &[u32],
+    marks: &mut [u8],
+    counts: &mut [u16],
+    journal: &mut [u32],
+    used: &mut usize,
+    start: usize,
+    len: usize,
+    mark: u8,
+) -> Answer
+    requires { Fits (state samples.now marks.now counts.now journal.now used.now) × (start + len ≤ length samples.now) }
+    ensures { (words : List ℕ) → length words ≡ len
+        → ended result (filled result start words (left_reading samples marks counts journal used))
+        ≡ entered (lent_reading samples marks counts journal used) mark (span start words) }
+{
+    if len == 0 {
+        return Ok(0);
+    }
+    let at = *used;
+    if journal.len() - at < 3 * len + 2 {
+        return Err(Reason::Room);
+    }
+    save_span(samples, marks, journal, at, start, len);
+    set_all(marks, start, len, mark);
+    recount(marks, counts, journal, at, len);
+    seal(journal, used, len, mark);
+    Ok(len)
+}
+
 impl Recording<'_> {
-    // Refusal 9 for a repair that names the len samples from `start` on, and else all of its commit but the
-    // new words: they are the caller's to write, whatever they are.
+    // The same of a recording that is held as one.
+    #[inline(always)]
     pub fn enter_span(&mut self, start: usize, len: usize, mark: u8) -> Answer
         requires { Fits (held self.old) × (start + len ≤ length self.old.samples.now) }
         ensures memory { SameMemory self.old self.new }
@@ -63,23 +96,12 @@ impl Recording<'_> {
         ensures rule { (words : List ℕ) → length words ≡ len
             → ended result (filled result start words (held self.new)) ≡ entered (held self.old) mark (span start words) }
     {
-        if len == 0 {
-            return Ok(0);
-        }
-        let at = *self.used;
-        if self.journal.len() - at < 3 * len + 2 {
-            return Err(Reason::Room);
-        }
         let samples = &mut *self.samples;
         let marks = &mut *self.marks;
         let counts = &mut *self.counts;
         let journal = &mut *self.journal;
         let used = &mut *self.used;
-        save_span(samples, marks, journal, at, start, len);
-        set_all(marks, start, len, mark);
-        recount(marks, counts, journal, at, len);
-        seal(journal, used, len, mark);
-        Ok(len)
+        enter_span(samples, marks, counts, journal, used, start, len, mark)
     }
 
     // Commits a repair whose named samples and new words stand in a workspace of 2n words (see `picked_by`):

@@ -29,16 +29,36 @@ fn check_counts(samples: &[u32], marks: &[u8], counts: &[u16]) -> Answer
     Ok(0)
 }
 
+// Refusals 1, 14, 2 and 3, in this order; accepted, with 0, where none of them applies. All of it is only read, so
+// that who was lent it to be read can ask, too.
+pub fn check_sizes(
+    samples: &[u32],
+    marks: &[u8],
+    counts: &[u16],
+    journal: &[u32],
+    used: usize,
+) -> Answer
+    ensures { result ≡ fitting (state samples.now marks.now counts.now journal.now used) }
+{
+    check_counts(samples, marks, counts)?;
+    if journal.len() < used {
+        return Err(Reason::Used);
+    }
+    Ok(0)
+}
+
 impl Recording<'_> {
-    // Refusals 1, 14, 2 and 3, in this order; accepted, with 0, where none of them applies.
+    // The same of a recording that is held as one.
     pub fn check_sizes(&self) -> Answer
         ensures { result ≡ fitting (held self.now) }
     {
-        check_counts(self.samples, self.marks, self.counts)?;
-        if self.journal.len() < *self.used {
-            return Err(Reason::Used);
-        }
-        Ok(0)
+        check_sizes(
+            self.samples,
+            self.marks,
+            self.counts,
+            self.journal,
+            *self.used,
+        )
     }
 }
 

@@ -3,7 +3,7 @@
 #![tactic(auto)]
 
 ghost use Rattle.std.specs.Prelude.{◌≡◌, ℕ, ◌+◌, ◌-◌, ◌*◌, ◌≤◌, ◌<◌, Bool, length};
-ghost use Rattle.recording.specs.Recording.{ended, change, carried, cleared};
+ghost use Rattle.recording.specs.Recording.{state, ended, change, carried, cleared};
 ghost use Rattle.recording.specs.Lent.{held, SameMemory};
 ghost use Rattle.recording.specs.Inner.{Fits, picked_by};
 ghost use Rattle.recording.specs.Runs.{begins, run_length};
@@ -12,6 +12,7 @@ ghost use Rattle.redraw.specs.Runs.{Decides};
 ghost use Rattle.redraw.specs.Inner.{begun, Begun, Holds};
 
 use recording::clear::set_all;
+use recording::open::check_sizes;
 use recording::read::check_words;
 use recording::{Answer, Reason, Recording};
 
@@ -28,21 +29,46 @@ fn lay_out(samples: &[u32], work: &mut [u32])
     set_all(work, n, n, 0);
 }
 
-// Refusals 1, 14, 2 to 4, 6 and 7, in this order; where none applies the workspace holds the samples.
-pub fn begin(recording: &Recording, allowed: bool, work: &mut [u32]) -> Answer
-    ensures { (result ≡ begun allowed (length work.old) (held recording.now))
-        × Begun result recording.now.samples.now work.old work.new }
+// Refusals 1, 14, 2 to 4, 6 and 7, in this order; where none applies the workspace holds the samples. The recording
+// is only read, so that who was lent it to be read can begin, too.
+pub fn begin(
+    samples: &[u32],
+    marks: &[u8],
+    counts: &[u16],
+    journal: &[u32],
+    used: usize,
+    allowed: bool,
+    work: &mut [u32],
+) -> Answer
+    ensures { (result ≡ begun allowed (length work.old) (state samples.now marks.now counts.now journal.now used))
+        × Begun result samples.now work.old work.new }
 {
-    recording.check_sizes()?;
+    check_sizes(samples, marks, counts, journal, used)?;
     if !allowed {
         return Err(Reason::Setting);
     }
-    if work.len() < 2 * recording.samples.len() {
+    if work.len() < 2 * samples.len() {
         return Err(Reason::Workspace);
     }
-    check_words(recording.samples, 0)?;
-    lay_out(recording.samples, work);
+    check_words(samples, 0)?;
+    lay_out(samples, work);
     Ok(0)
+}
+
+// The same of a recording that is held as one.
+pub fn begin_held(recording: &Recording, allowed: bool, work: &mut [u32]) -> Answer
+    ensures { (result ≡ begun allowed (length work.old) (held recording.now))
+        × Begun result recording.now.samples.now work.old work.new }
+{
+    begin(
+        recording.samples,
+        recording.marks,
+        recording.counts,
+        recording.journal,
+        *recording.used,
+        allowed,
+        work,
+    )
 }
 
 // Refusals 8 and 9 and the commit of what the workspace holds; the part of it that was needed is cleared.

@@ -10,28 +10,28 @@ use Rattle.decrackle.specs.Decrackle.{decrackled, mark_for}
 use Rattle.decrackle.proofs.Drawing.{decrackle_is}
 use Rattle.decrackle.proofs.decrackle.Goals as goal
 
-pub returns-in_err-begin : goal.returns-in_err-begin
-returns-in_err-begin c =
+pub returns-in_err-begin_held : goal.returns-in_err-begin_held
+returns-in_err-begin_held c =
     let a = c.args in
     let p = err_from_is_err_and c.from_residual.result c.from_residual.ensures.1 in
-    let same : c.from_residual.result ≡ c.begin.result = rw (p.1, p.2) (sym c.in_err-begin.was) in
-    let ends = whole_refused _ a.work.now (held a.recording.now) _ c.begin.ensures.0 (mark_for a.start) (decrackled a.start a.sensitivity) _
-    (decrackle_is a.start a.sensitivity (length a.work.now) _ (held a.recording.now) _ c.is_nan.ensures.value refl) _ _ _ same c.in_err-begin.was c.begin.ensures.1 in
+    let same : c.from_residual.result ≡ c.begin_held.result = rw (p.1, p.2) (sym c.in_err-begin_held.was) in
+    let ends = whole_refused _ a.work.now (held a.recording.now) _ c.begin_held.ensures.0 (mark_for a.start) (decrackled a.start a.sensitivity) _
+    (decrackle_is a.start a.sensitivity (length a.work.now) _ (held a.recording.now) _ c.is_nan.ensures.value refl) _ _ _ same c.in_err-begin_held.was c.begin_held.ensures.1 in
     record { memory = search rules; rule = ends.0; work = ends.1 }
 
 pub draw-requires : goal.draw-requires
 draw-requires c =
     let s = held c.args.recording.now in
-    (start_room _ _ s _ c.begin.ensures.0 _ _ c.in_ok-begin.was c.begin.auto.work, (start_holds s.samples _ _ _ _ c.in_ok-begin.was c.begin.ensures.1).holds)
+    (start_room _ _ s _ c.begin_held.ensures.0 _ _ c.in_ok-begin_held.was c.begin_held.auto.work, (start_holds s.samples _ _ _ _ c.in_ok-begin_held.was c.begin_held.ensures.1).holds)
 
 pub finish-requires : goal.finish-requires
 finish-requires c =
-    start_finishes _ _ (held c.args.recording.now) _ c.begin.ensures.0 _ _ _ c.in_ok-begin.was c.begin.auto.work c.draw.auto.work
+    start_finishes _ _ (held c.args.recording.now) _ c.begin_held.ensures.0 _ _ _ c.in_ok-begin_held.was c.begin_held.auto.work c.draw.auto.work
 
 pub returns : goal.returns
 returns c =
     let a = c.args in
-    let ends = whole_done _ a.work.now (held a.recording.now) _ c.begin.ensures.0 _ (decrackled a.start a.sensitivity) _
+    let ends = whole_done _ a.work.now (held a.recording.now) _ c.begin_held.ensures.0 _ (decrackled a.start a.sensitivity) _
     (decrackle_is a.start a.sensitivity (length a.work.now) _ (held a.recording.now) _ c.is_nan.ensures.value c.mark_for.ensures) _ _ _ _ _ (held c.finish.new.recording)
-    c.in_ok-begin.was c.begin.ensures.1 c.begin.auto.work c.draw.ensures c.draw.auto.work c.finish.ensures.rule c.finish.ensures.work in
+    c.in_ok-begin_held.was c.begin_held.ensures.1 c.begin_held.auto.work c.draw.ensures c.draw.auto.work c.finish.ensures.rule c.finish.ensures.work in
     record { memory = c.finish.ensures.memory; rule = ends.0; work = ends.1 }

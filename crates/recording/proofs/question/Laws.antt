@@ -1,36 +1,40 @@
--- The span question, line by line: a stretch of marks or of counts, whatever is looked for, the parts of a span, and how the
+-- The span question, line by line: one turn of the loops that look at marks and at counts, whatever they look for, the parts of a span, and how the
 -- question ends. Assumes nothing.
-use mathlib.Core.Path.{◌≡◌, refl, ap}
+use mathlib.Core.Path.{◌≡◌, refl, sym, ap, ◌∙◌}
 use mathlib.Core.Bool.{Bool, true, false, ◌&&◌}
 use mathlib.Core.List.{List}
 use Prim.Native.Nat.{ℕ, zero, suc, ◌+◌, ◌-◌, ◌≤◌, ◌<◌}
 use native.Mathlib.Omega.{arith}
-use lib.ListN.{length, get_or, take, drop}
-use lib.Seq.{drop-cons}
-use lib.Dec.{eqb}
-use Rattle.std.specs.List.{list_all}
+use lib.ListN.{length, get_or}
 use borrow.Author.Tests.{eq-eqb, ne_eqb}
 use Rattle.recording.specs.Counts.{block_of, block_begin, blocks}
 use Rattle.recording.specs.Question.{all_are, marks_say, counts_say, span_measured, span_past, span_verdict}
 use Rattle.recording.specs.declared.Reason.TheVariants.{Gap, Blocks}
 use Rattle.std.specs.Prelude.{Ok, Err}
 
--- ---- A stretch of elements
+-- ---- One turn over a stretch of elements
 
--- the n elements from place i on, taken out, are all this one where each of them is
-taken : (k : ℕ) (l : List ℕ) (i n : ℕ) → i + n ≤ length l → list_all (λ x. eqb x k) (take n (drop i l)) ≡ all_are k l i n
-unfolding all_are
-taken k l i zero h = refl
-taken k l i (suc n) h =
-    let here : i < length l = omega arith in
-    let next : suc i ≡ i + 1 = omega arith in
-    let rest : list_all (λ x. eqb x k) (take n (drop (suc i) l)) ≡ all_are k l (i + 1) n = rw next (taken k l (i + 1) n (omega arith)) in
-    rw (drop-cons l i 0) (ap (λ (b : Bool). eqb (get_or l i 0) k && b) rest)
+module _ (k : ℕ) (l : List ℕ) (start n i : ℕ) (whole : Bool) (rest : all_are k l (start + i) (n - i) ≡ whole) where
+  -- nothing is left to look at
+  pub all_looked : n ≤ i → true ≡ whole
+  unfolding all_are
+  all_looked h = let none : n - i ≡ 0 = omega arith in sym (ap (all_are k l (start + i)) none) ∙ rest
 
--- and so as the code takes them
-pub all_taken : (k : ℕ) (l : List ℕ) (i n : ℕ) → i + n ≤ length l
-    → list_all (λ x. eqb x k) (take (i + n - i) (drop i l)) ≡ all_are k l i n
-all_taken k l i n h = let size : i + n - i ≡ n = omega arith in rw size (taken k l i n h)
+  module _ (more : i < n) where
+    left_more : n - i ≡ suc (n - (i + 1))
+    left_more = omega arith
+
+    -- an element that is another
+    pub one_other : (get_or l (start + i) 0 ≡ k → ⊥) → false ≡ whole
+    unfolding all_are
+    one_other h = rw (ne_eqb _ _ h) at (sym (ap (all_are k l (start + i)) left_more) ∙ rest)
+
+    -- one that is not
+    pub one_same : get_or l (start + i) 0 ≡ k → all_are k l (start + (i + 1)) (n - (i + 1)) ≡ whole
+    unfolding all_are
+    one_same h =
+        let next : start + (i + 1) ≡ start + i + 1 = omega arith in
+        rw next (rw (eq-eqb _ _ h) at (sym (ap (all_are k l (start + i)) left_more) ∙ rest))
 
 -- ---- A span within one block, and over several
 

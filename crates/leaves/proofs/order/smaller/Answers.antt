@@ -1,25 +1,25 @@
 -- `leaves::order::smaller` meets its contract: its two tests are those of `smaller`. Assumes nothing.
 use Rattle.std.proofs.Common.{refl, ◌∙◌, sym}
-use Rattle.leaves.proofs.order.Laws.{both, smaller_tests, below_tells, differs_tells}
+use Rattle.leaves.proofs.order.Laws.{both, smaller_tests, differs_tells}
 use Rattle.leaves.proofs.order.smaller.Goals as goal
 use Rattle.leaves.proofs.order.smaller.Goals.{then-ne, else-ne}
 
-pub returns-then-lt : goal.returns-then-lt
-returns-then-lt g c =
+pub returns-then-is_below : goal.returns-then-is_below
+returns-then-is_below g c =
     let r = g.met.R.Real in
     elim c.if-ne.branch [
       | then-ne w ↦ smaller_tests _ _ (differs_tells _ (r.compared _ _) c.ne.ensures w.if-ne.true) refl
       | else-ne w ↦
           smaller_tests _ _ (differs_tells _ (r.compared _ _) c.ne.ensures w.if-ne.false)
-          (below_tells _ _ (r.ordered _ _) w.lt.ensures (sym w.value-is ∙ c.if-lt.true))
+          (sym w.is_below.ensures ∙ (sym w.value-is ∙ c.if-is_below.true))
     ]
 
-pub returns-else-lt : goal.returns-else-lt
-returns-else-lt g c =
+pub returns-else-is_below : goal.returns-else-is_below
+returns-else-is_below g c =
     let r = g.met.R.Real in
     elim c.if-ne.branch [
-      | then-ne w ↦ both (w.value-is ∙ w.if-ne.true) c.if-lt.false
+      | then-ne w ↦ both (w.value-is ∙ w.if-ne.true) c.if-is_below.false
       | else-ne w ↦
           smaller_tests _ _ (differs_tells _ (r.compared _ _) c.ne.ensures w.if-ne.false)
-          (below_tells _ _ (r.ordered _ _) w.lt.ensures (sym w.value-is ∙ c.if-lt.false))
+          (sym w.is_below.ensures ∙ (sym w.value-is ∙ c.if-is_below.false))
     ]

@@ -1,13 +1,17 @@
--- `recording::question::counts_say` meets its contract: it asks of the stretch taken out what the rule asks element by element. Assumes
--- nothing.
-use Rattle.std.proofs.Common.{rules, tests, ◌∙◌, eqb}
-use Rattle.std.proofs.lemmas.Iterator.Search.{all_from_yields_List}
-use Rattle.std.proofs.lemmas.Iterator.{YieldsList-from_slice}
-use Rattle.recording.proofs.question.Laws.{all_taken}
+-- `recording::question::counts_say` meets its contract: each turn looks at one element. Assumes nothing.
+use Rattle.std.proofs.Common.{refl}
+use native.Mathlib.Nat.{add-zero, sub-zero}
+use Rattle.recording.proofs.question.Laws.{all_looked, one_other, one_same}
 use Rattle.recording.proofs.question.counts_say.Goals as goal
 
+pub loop-i-init : goal.loop-i-init
+loop-i-init c = rw (add-zero, sub-zero) refl
+
+pub returns-then-counts-block-ne0 : goal.returns-then-counts-block-ne0
+returns-then-counts-block-ne0 c = one_other _ _ _ _ _ _ c.loop-i.invariant c.loop-i-test.true c.if-counts-block-ne0.true
+
+pub loop-i-preserved : goal.loop-i-preserved
+loop-i-preserved c = one_same _ _ _ _ _ _ c.loop-i.invariant c.loop-i-test.true c.if-counts-block-ne0.false
+
 pub returns : goal.returns
-returns c =
-    all_from_yields_List (λ x. eqb x 0) _ _ _ c.all.ensures.ran (YieldsList-from_slice _ c.iter.ensures.rest)
-    (λ x b q k. search (rules, tests))
-    ∙ all_taken _ _ _ _ c.requires
+returns c = all_looked _ _ _ _ _ _ c.loop-i.invariant c.loop-i-test.false
