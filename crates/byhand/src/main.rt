@@ -91,18 +91,19 @@ impl<const SAMPLES: usize, const COUNTS: usize, const WORDS: usize> Memory<SAMPL
     }
 }
 
-// Writes a name and words in hexadecimal digits, each with zeros in front up to `width`, as a line.
+// Writes a name, with the blanks before it, and words in hexadecimal digits, each with zeros in front up to `width`,
+// as a line.
 fn print_words<W: Write>(out: &mut W, name: &str, words: &[u32], width: usize) -> io::Result<()> {
-    write!(out, "  {name}")?;
+    write!(out, "{name}")?;
     for word in words {
         write!(out, " {word:0width$x}")?;
     }
     writeln!(out)
 }
 
-// Writes a name and numbers as a line.
+// Writes a name, with the blanks before it, and numbers as a line.
 fn print_numbers<W: Write, T: Display>(out: &mut W, name: &str, numbers: &[T]) -> io::Result<()> {
-    write!(out, "  {name}")?;
+    write!(out, "{name}")?;
     for number in numbers {
         write!(out, " {number}")?;
     }
@@ -124,10 +125,10 @@ fn show<W: Write>(
     recording: &Recording,
 ) -> io::Result<()> {
     print_answer(out, title, answer, *recording.used)?;
-    print_words(out, "samples", recording.samples, 8)?;
-    print_numbers(out, "marks", recording.marks)?;
-    print_numbers(out, "counts", recording.counts)?;
-    print_words(out, "journal", recording.journal, 1)
+    print_words(out, "  samples", recording.samples, 8)?;
+    print_numbers(out, "  marks", recording.marks)?;
+    print_numbers(out, "  counts", recording.counts)?;
+    print_words(out, "  journal", recording.journal, 1)
 }
 
 // Writes how the repair of a gap ended, and the order of its model.
@@ -195,9 +196,10 @@ fn three_gaps<W: Write>(
         orders,
     );
     show(out, title, answer, recording)?;
-    print_words(out, "numbers", &numbers, 1)?;
-    print_numbers(out, "values", &values)?;
-    print_words(out, "orders", orders, 1)
+    print_words(out, "  numbers", &numbers, 1)?;
+    let [first, second, third] = values;
+    writeln!(out, "  values {first} {second} {third}")?;
+    print_words(out, "  orders", orders, 1)
 }
 
 // *Quiet* by a list of three gaps: first with too short a list for the orders; and at last an undo, which
@@ -224,7 +226,7 @@ fn decrackle_and_show<W: Write>(
     let _ = recording.open_as_measured();
     let answer = decrackle(recording, sensitivity, start, &mut work);
     show(out, title, answer, recording)?;
-    print_words(out, "workspace", &work, 1)
+    print_words(out, "  workspace", &work, 1)
 }
 
 // 9 samples of which only place 4 is 1, decrackled at sensitivity 10 from the old start.
@@ -288,39 +290,53 @@ fn open_and_fill(
     inpaint_gap(recording, 1, len, passes, work)
 }
 
-// 4097 samples whose ends are 0 and 4096, with a gap between them.
-fn line<W: Write>(out: &mut W, work: &mut [f64]) -> io::Result<()> {
-    let mut samples = [ONE; 4097];
-    samples[0] = 0;
-    samples[4096] = LAST;
-    let mut memory = Memory::<4097, 17, LONG_JOURNAL>::with(samples);
-    let filled = open_and_fill(&mut memory.recording(), 4095, 3, work);
+// 4097 samples whose ends are 0 and 4096, with a gap between them, and a journal that is lent.
+fn line<W: Write>(out: &mut W, journal: &mut [u32], work: &mut [f64]) -> io::Result<()> {
+    let mut memory = Memory::<4097, 17, 0>::with([ONE; 4097]);
+    memory.samples[0] = 0;
+    memory.samples[4096] = LAST;
+    let mut recording = Recording {
+        journal,
+        ..memory.recording()
+    };
+    let filled = open_and_fill(&mut recording, 4095, 3, work);
     print_gap(out, "gap at 1 of 4095", filled, memory.used)?;
     let own = own_numbers(&memory.samples);
     let by_line = marked(&memory.marks, Mark::GapByLine);
     writeln!(out, "  samples that are their place: {own}")?;
     writeln!(out, "  samples marked 2: {by_line}")?;
-    print_numbers(out, "counts", &memory.counts)
+    print_numbers(out, "  counts", &memory.counts)
 }
 
 // A gap of `len` samples among ones: by which way it was filled.
-fn boundary<W: Write>(out: &mut W, title: &str, work: &mut [f64], len: usize) -> io::Result<()> {
-    let mut memory = Memory::<2052, 9, LONG_JOURNAL>::with([ONE; 2052]);
-    let filled = open_and_fill(&mut memory.recording(), len, 1, work);
+fn boundary<W: Write>(
+    out: &mut W,
+    title: &str,
+    journal: &mut [u32],
+    work: &mut [f64],
+    len: usize,
+) -> io::Result<()> {
+    let mut memory = Memory::<2052, 9, 0>::with([ONE; 2052]);
+    let mut recording = Recording {
+        journal,
+        ..memory.recording()
+    };
+    let filled = open_and_fill(&mut recording, len, 1, work);
     print_gap(out, title, filled, memory.used)?;
     let by_model = marked(&memory.marks, Mark::GapByModel);
     let by_line = marked(&memory.marks, Mark::GapByLine);
     writeln!(out, "  samples marked 1: {by_model}")?;
     writeln!(out, "  samples marked 2: {by_line}")?;
-    print_numbers(out, "counts", &memory.counts)
+    print_numbers(out, "  counts", &memory.counts)
 }
 
-// The long gaps, in a workspace that suffices for each.
+// The long gaps, in a journal and a workspace that suffice for each.
 fn long_gaps<W: Write>(out: &mut W) -> io::Result<()> {
+    let mut journal = [LEFT; LONG_JOURNAL];
     let mut work = [1.5f64; WORKSPACE];
-    line(out, &mut work)?;
-    boundary(out, "gap at 1 of 2048", &mut work, 2048)?;
-    boundary(out, "gap at 1 of 2049", &mut work, 2049)
+    line(out, &mut journal, &mut work)?;
+    boundary(out, "gap at 1 of 2048", &mut journal, &mut work, 2048)?;
+    boundary(out, "gap at 1 of 2049", &mut journal, &mut work, 2049)
 }
 
 // The rows, one after the other.

@@ -129,40 +129,46 @@ impl Kind {
         }
     }
 
-    // What the report calls them.
+    // What the report calls them, with the blank behind it.
     fn name(self) -> &'static str {
         match self {
-            Kind::Gap => "gaps",
-            Kind::Scan => "scans",
-            Kind::Declip => "declips",
-            Kind::Decrackle => "decrackles",
-            Kind::Dequantize => "dequantizes",
-            Kind::Cosparse => "dequantizes by cosparse",
+            Kind::Gap => "gaps ",
+            Kind::Scan => "scans ",
+            Kind::Declip => "declips ",
+            Kind::Decrackle => "decrackles ",
+            Kind::Dequantize => "dequantizes ",
+            Kind::Cosparse => "dequantizes by cosparse ",
         }
     }
 
     // Repairs a recording with a case's three settings.
     fn repair(self, recording: &mut Recording, settings: [u32; 3]) -> Answered {
         let [first, second, third] = settings;
-        let mut doubles = [1.5f64; WORKSPACE];
         let mut words = [7u32; WORKSPACE_WORDS];
-        let mut orders = [0u32; MOST];
         let a = f32_of_word(first);
         let b = f32_of_word(second);
         match self {
-            Kind::Gap => {
-                let (start, len) = (first as usize, second as usize);
-                inpaint_gap(recording, start, len, third, &mut doubles).into()
-            }
-            Kind::Scan => {
-                inpaint_auto(recording, first, b, HELD_RUN, &mut doubles, &mut orders).into()
-            }
+            Kind::Gap => repair_gap(recording, first as usize, second as usize, third),
+            Kind::Scan => scan(recording, first, b),
             Kind::Declip => declip(recording, a, &mut words).into(),
             Kind::Decrackle => decrackle(recording, a, Start::Old, &mut words).into(),
             Kind::Dequantize => dequantize(recording, first, b, &mut words).into(),
             Kind::Cosparse => dequantize_cosparse(recording, first, b, third, &mut words).into(),
         }
     }
+}
+
+// Repairs a gap, with a workspace of its own, which the repairs over the whole recording have no use for.
+fn repair_gap(recording: &mut Recording, start: usize, len: usize, passes: u32) -> Answered {
+    let mut doubles = [1.5f64; WORKSPACE];
+    inpaint_gap(recording, start, len, passes, &mut doubles).into()
+}
+
+// Scans for dropouts likewise.
+fn scan(recording: &mut Recording, rate: u32, millis: f32) -> Answered {
+    let mut doubles = [1.5f64; WORKSPACE];
+    let mut orders = [0u32; MOST];
+    inpaint_auto(recording, rate, millis, HELD_RUN, &mut doubles, &mut orders).into()
 }
 
 // The number that an ASCII digit stands for; any other byte counts as 0. (`replay` reads digits for itself: what
@@ -359,7 +365,7 @@ fn count_cases(list: &[u8], kind: Kind) -> Tally {
 fn report<W: Write>(out: &mut W, list: &[u8], kind: Kind) -> io::Result<()> {
     let name = kind.name();
     let Tally { cases, agreeing } = count_cases(list, kind);
-    writeln!(out, "{name} {cases} agree {agreeing}")
+    writeln!(out, "{name}{cases} agree {agreeing}")
 }
 
 // Writes these lines for every repair.

@@ -44,19 +44,19 @@ enum Leaf {
     Clamp32,
 }
 
-// Each leaf's letter and its name, in the order of the report.
+// Each leaf's letter and its name with the blank behind it, in the order of the report.
 const LEAVES: [(u8, Leaf, &str); 11] = [
-    (b'r', Leaf::Root, "root"),
-    (b'n', Leaf::Narrow, "narrow"),
-    (b'w', Leaf::Round, "round to whole"),
-    (b'i', Leaf::InRange, "in range"),
-    (b'x', Leaf::Widen, "widen"),
-    (b'm', Leaf::Magnitude32, "magnitude32"),
-    (b'd', Leaf::Magnitude64, "magnitude64"),
-    (b'l', Leaf::Larger32, "larger32"),
-    (b'g', Leaf::Larger64, "larger64"),
-    (b's', Leaf::Smaller32, "smaller32"),
-    (b'c', Leaf::Clamp32, "clamp32"),
+    (b'r', Leaf::Root, "root "),
+    (b'n', Leaf::Narrow, "narrow "),
+    (b'w', Leaf::Round, "round to whole "),
+    (b'i', Leaf::InRange, "in range "),
+    (b'x', Leaf::Widen, "widen "),
+    (b'm', Leaf::Magnitude32, "magnitude32 "),
+    (b'd', Leaf::Magnitude64, "magnitude64 "),
+    (b'l', Leaf::Larger32, "larger32 "),
+    (b'g', Leaf::Larger64, "larger64 "),
+    (b's', Leaf::Smaller32, "smaller32 "),
+    (b'c', Leaf::Clamp32, "clamp32 "),
 ];
 
 impl TryFrom<u8> for Leaf {
@@ -154,7 +154,7 @@ fn first_that_differs(list: &[u8]) -> usize {
 fn print_report<W: Write>(out: &mut W, list: &[u8]) -> io::Result<()> {
     writeln!(out, "lines {}", list.len() / LINE)?;
     for (_, leaf, name) in LEAVES.iter() {
-        writeln!(out, "{name} {}", agreeing(list, *leaf))?;
+        writeln!(out, "{name}{}", agreeing(list, *leaf))?;
     }
     writeln!(out, "first line that differs {}", first_that_differs(list))
 }

@@ -62,7 +62,7 @@ fn print_stretches<W: Write>(out: &mut W, marks: &[u8], orders: &[u32]) -> io::R
     Ok(())
 }
 
-// Writes what the scan counted, with the number of the first refusal, or 0.
+// Ends the line before it and writes what the scan counted, with the number of the first refusal, or 0.
 fn print_counts<W: Write>(out: &mut W, scanned: Scanned) -> io::Result<()> {
     let Scanned {
         qualified,
@@ -72,7 +72,7 @@ fn print_counts<W: Write>(out: &mut W, scanned: Scanned) -> io::Result<()> {
     let refused = scanned.refused_number();
     writeln!(
         out,
-        "qualified {qualified} repaired {repaired} refused {refused}"
+        "\nqualified {qualified} repaired {repaired} refused {refused}"
     )
 }
 
@@ -87,7 +87,7 @@ pub fn print_report<W: Write>(
     requires { length orders.now ≡ length marks.now }
 {
     let count = marks.len();
-    writeln!(out, "samples {count} rate {rate}")?;
+    write!(out, "samples {count} rate {rate}")?;
     print_counts(out, scanned)?;
     print_stretches(out, marks, orders)?;
     writeln!(out, "end")

@@ -10,6 +10,11 @@ fn say<W: Write>(to: &mut W, text: &[u8]) {
     let _ = to.write_all(text);
 }
 
+// Says a number in decimal.
+fn say_number<W: Write>(to: &mut W, n: u32) {
+    let _ = write!(to, "{n}");
+}
+
 // Says how the program is called.
 pub fn say_usage<W: Write>(to: &mut W) {
     say(to, b"wav: usage: wav IN OUT\n");
@@ -35,7 +40,9 @@ fn say_text<W: Write>(to: &mut W, error: io::Error) -> io::Result<()> {
 // on which file.
 pub fn say_error<W: Write>(to: &mut W, name: &[u8], error: io::Error) {
     let number = error.raw_os_error().unwrap_or(0).max(0);
-    let _ = write!(to, "wav: error {number}: ");
+    say(to, b"wav: error ");
+    say_number(to, number as u32);
+    say(to, b": ");
     say(to, name);
     say(to, b": ");
     let _ = say_text(to, error);
@@ -51,18 +58,19 @@ pub fn say_too_long<W: Write>(to: &mut W) {
 // What a refusal stands for, as the end of its line; those that no file is turned away by have none.
 fn text_of(why: Reason) -> &'static str {
     match why {
-        Reason::TooMany => ": more than 1,048,576 samples",
-        Reason::Setting => ": a rate above 16,777,216 a second",
-        Reason::Wave => ": not a whole RIFF WAVE file with fmt before data and an even data length",
-        Reason::Coding => ": not mono 16-bit PCM (an extensible header is none either)",
-        Reason::Output => ": more than 262,144 samples, which is what this program takes",
-        _ => "",
+        Reason::TooMany => ": more than 1,048,576 samples\n",
+        Reason::Setting => ": a rate above 16,777,216 a second\n",
+        Reason::Wave =>
+            ": not a whole RIFF WAVE file with fmt before data and an even data length\n",
+        Reason::Coding => ": not mono 16-bit PCM (an extensible header is none either)\n",
+        Reason::Output => ": more than 262,144 samples, which is what this program takes\n",
+        _ => "\n",
     }
 }
 
 // Says with which number a file is refused, and what that stands for.
 pub fn say_refused<W: Write>(to: &mut W, why: Reason) {
-    let number = why.number();
-    let text = text_of(why);
-    let _ = writeln!(to, "wav: refused {number}{text}");
+    say(to, b"wav: refused ");
+    say_number(to, why.number());
+    say(to, text_of(why).as_bytes());
 }
